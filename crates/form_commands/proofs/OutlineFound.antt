@@ -5,7 +5,7 @@ use Rattle.std.specs.List.{find}
 use Rattle.std.specs.Option.{option_or}
 use Rattle.std.proofs.lemmas.Slice.Eq.{bytes_eq-Decides}
 use Rattle.plural_documents.specs.Outlines.{outline, outline_members, with_member}
-use Rattle.plural_documents.specs.declared.Kept.TheVariants as kept
+use Rattle.plural_documents.specs.declared.Portion.TheVariants as kept
 use Rattle.plural_documents.proofs.OutlineLemmas.{found_kept}
 use Rattle.plural_fallback.specs.Chain.{next_by, next_of}
 use Rattle.plural_fallback.specs.LocaleNames.{before_last, is_same, key_of}
@@ -17,8 +17,8 @@ use Rattle.serde_json.specs.Find.{as_object, as_str, get, get_member}
 use Rattle.form_commands.specs.Inner.RulesOutline.{is_inside, is_part, keeps}
 use Rattle.form_commands.specs.Languages.{value_at}
 use Rattle.form_commands.specs.declared.outline.KeptLocales.{KeptLocales}
-use Rattle.form_commands.specs.declared.outline.RulesChoice.{RulesChoice}
-use Rattle.form_commands.specs.declared.outline.RulesChoice.TheVariants.{Document, Keys}
+use Rattle.form_commands.specs.declared.outline.RulesSieve.{RulesSieve}
+use Rattle.form_commands.specs.declared.outline.RulesSieve.TheVariants.{Document, Keys}
 use Rattle.form_commands.proofs.SameNames.{inside_same}
 
 -- ---- What `find` finds
@@ -77,7 +77,7 @@ module _ (locales : KeptLocales) where
         find_in_part (is_same locale) (λ key same. sym (inside_same locales locale key same) ∙ inside) whole,
       ) refl
 
-  all_kept : (found : Option Data) → option_and_then (outline {C = RulesChoice} keeps kept.Whole) found ≡ found
+  all_kept : (found : Option Data) → option_and_then (outline {C = RulesSieve} keeps kept.Whole) found ≡ found
   all_kept None = refl
   all_kept (Some value) = refl
 
@@ -90,7 +90,7 @@ module _ (locales : KeptLocales) where
   value_in_part key inside (Some (string text)) = refl
   value_in_part key inside (Some (array items)) = refl
   value_in_part key inside (Some (object ms)) =
-      found_kept RulesChoice keeps (Keys locales) key ms ∙ rw inside (all_kept (get_member key ms))
+      found_kept RulesSieve keeps (Keys locales) key ms ∙ rw inside (all_kept (get_member key ms))
 
   -- the key that is found for a locale inside is inside
   pub key_inside : (keys : List (List ℕ)) (locale key : List ℕ) → IsInside locale → key_of keys locale ≡ Some key → IsInside key
@@ -111,12 +111,12 @@ some_same : (one other : Data) → Some one ≡ Some other → one ≡ other
 some_same one other same = ap (λ o. unwrap_or o one) same
 
 module _ (part : Part) (locales : KeptLocales) (name : List ℕ) (named : is_part part name ≡ true) where
-  abbrev top : RulesChoice
+  abbrev top : RulesSieve
   top = Document part locales
 
   -- what is kept of a part
   part_kept : (ms : Members) → get_member name (outline_members keeps top ms) ≡ part_of locales (get_member name ms)
-  part_kept ms = found_kept RulesChoice keeps top name ms ∙ rw named refl
+  part_kept ms = found_kept RulesSieve keeps top name ms ∙ rw named refl
 
   part_found : (whole document : Data) → outline keeps (kept.Members top) whole ≡ Some document
       → get name document ≡ part_of locales (get name whole)

@@ -4,7 +4,7 @@ use Rattle.std.specs.Prelude.{is_some, option_and_then}
 use Rattle.plural_documents.specs.Outlines.{GivesOutline, outline}
 use Rattle.plural_documents.specs.declared.JsonTextError.{JsonTextError}
 use Rattle.plural_documents.specs.declared.JsonTextError.TheVariants as fault
-use Rattle.plural_documents.specs.declared.Kept.TheVariants as kept
+use Rattle.plural_documents.specs.declared.Portion.TheVariants as kept
 use Rattle.plural_fallback.specs.Chain.{next_of}
 use Rattle.plural_fallback.specs.FirstKeys.{NoneBefore, locale_at}
 use Rattle.plural_fallback.specs.LocaleNames.{key_of}
@@ -15,14 +15,14 @@ use Rattle.plural_fallback.specs.declared.locales.Part.{Part}
 use Rattle.serde_json.specs.Data.{Data}
 use Rattle.serde_json.specs.View.{view}
 use Rattle.serde_json.specs.declared.Value.{Value}
-use Rattle.form_commands.specs.Inner.RulesOutline.{GivesRulesOutline, Serves, StaysInside, is_inside, keeps}
+use Rattle.form_commands.specs.Inner.RulesOutline.{IsServedBy, Serves, StaysInside, is_inside, keeps}
 use Rattle.form_commands.specs.KeyNotes.{IsNote}
 use Rattle.form_commands.specs.Languages.{HasNoKey, IsFoundAt, IsFoundFor, IsKeyOf, key_after, most_locales, value_at}
 use Rattle.form_commands.specs.declared.error.LanguageError.{LanguageError}
 use Rattle.form_commands.specs.declared.language.Language.{Language}
 use Rattle.form_commands.specs.declared.outline.KeptLocales.{KeptLocales}
 use Rattle.form_commands.specs.declared.outline.KeptLocales.TheVariants.{All}
-use Rattle.form_commands.specs.declared.outline.RulesChoice.TheVariants.{Document}
+use Rattle.form_commands.specs.declared.outline.RulesSieve.TheVariants.{Document}
 use Rattle.form_commands.proofs.OutlineFound.{key_inside, same_key, same_next, same_value}
 
 module _ (part : Part) (locale : List ℕ) (locales : KeptLocales) (whole document : Data)
@@ -129,9 +129,8 @@ pub all_stay : (document : Data) (part : Part) (locale : List ℕ) → StaysInsi
 all_stay document part locale n within current none here = refl
 
 -- so what is kept of a part serves
-pub part_serves : (part : Part) (locale bytes : List ℕ) (r : Result Value JsonTextError) → GivesOutline keeps (Document part All) bytes r
-    → GivesRulesOutline part locale bytes r
-part_serves part locale bytes (Ok value) kept =
-    (kept.0, kept.1, outline_serves part locale All kept.0 (view value) kept.2 (all_stay (view value) part locale))
-part_serves part locale bytes (Err fault.Json) none = none
-part_serves part locale bytes (Err fault.Memory) some = some
+pub outline_is_served : (part : Part) (locale bytes : List ℕ) (locales : KeptLocales) (value : Value)
+    → GivesOutline keeps (Document part locales) bytes (Ok value) → StaysInside locales (view value) part locale
+    → IsServedBy part locale bytes (view value)
+outline_is_served part locale bytes locales value kept stays =
+    (kept.0, kept.1, outline_serves part locale locales kept.0 (view value) kept.2 stays)

@@ -1,14 +1,14 @@
 //! The outline of a document of rules: what is kept of it serves one locale as the whole does.
 
-ghost use Rattle.std.specs.Prelude.{◌≡◌, IsTrue};
-ghost use Rattle.form_commands.specs.Inner.RulesOutline.{GivesRulesOutline, StaysInside, is_inside, is_part};
-ghost use Rattle.plural_fallback.specs.LocaleNames.{is_same, language};
+ghost use Rattle.std.specs.Prelude.{◌≡◌, ◌≤◌, IfOk, IfSome, IsTrue, take, length};
+ghost use Rattle.form_commands.specs.Inner.RulesOutline.{IsServedBy, GivesRulesOutline, StaysInside, is_among, is_inside, is_part, steps_view};
+ghost use Rattle.plural_fallback.specs.LocaleNames.{is_same};
 ghost use Rattle.serde_json.specs.View.{view};
 
-use plural_documents::{Choice, JsonTextError, Kept, json_outline};
-use plural_fallback::{Locales, Part, is_same, language, next_locale};
+use plural_documents::{JsonTextError, JsonTokens, Portion, Scratch, Sieve};
+use plural_fallback::{Locales, Part, is_same, next_locale};
 use serde_json::Value;
-use std::alloc::Global;
+use std::alloc::{AllocError, Global};
 
 // The most bytes of a locale of a chain that is walked in an outline: one that is looked up.
 const MOST_WALKED: usize = 64;
@@ -20,37 +20,46 @@ const MOST_STEPS: usize = 16;
 // The locales whose keys are kept.
 #[derive(Clone, Copy, Debug)]
 pub(crate) enum KeptLocales<'a> {
-    // Those of a language, and of `root`.
-    Of(&'a [u8]),
+    // Those that this locale begins with, and `root`.
+    Fronts(&'a [u8]),
+    // These.
+    These(&'a [&'a [u8]]),
     // All.
     All,
 }
 
 // What is kept of a document of rules.
 #[derive(Clone, Copy, Debug)]
-pub(crate) enum RulesChoice<'a> {
+pub(crate) enum RulesSieve<'a> {
     // Of a document this part and the parents.
     Document(Part, KeptLocales<'a>),
     // Of a part the keys of these locales.
     Keys(KeptLocales<'a>),
+    // Of a document the parents alone.
+    Parents,
 }
 
-impl<'a> Choice for RulesChoice<'a> {
+impl<'a> Sieve for RulesSieve<'a> {
     ghost use Rattle.form_commands.specs.Inner.RulesOutline.{keeps};
 
     ghost keeps = { keeps };
 
-    fn kept(&self, key: &str) -> Kept<RulesChoice<'a>> {
+    fn kept(&self, key: &str) -> Portion<RulesSieve<'a>> {
         match *self {
-            RulesChoice::Document(part, locales) => if is_part(part, key) {
-                Kept::Members(RulesChoice::Keys(locales))
+            RulesSieve::Document(part, locales) => if is_part(part, key) {
+                Portion::Members(RulesSieve::Keys(locales))
             } else {
-                Kept::Nothing
+                Portion::Nothing
             },
-            RulesChoice::Keys(locales) => if is_inside(locales, key.as_bytes()) {
-                Kept::Whole
+            RulesSieve::Keys(locales) => if is_inside(locales, key.as_bytes()) {
+                Portion::Whole
             } else {
-                Kept::Nothing
+                Portion::Nothing
+            },
+            RulesSieve::Parents => if key == "parents" {
+                Portion::Whole
+            } else {
+                Portion::Nothing
             },
         }
     }
@@ -68,28 +77,40 @@ fn is_inside(locales: KeptLocales<'_>, locale: &[u8]) -> bool
     ensures { result ≡ is_inside locales.entry locale.now }
 {
     match locales {
-        KeptLocales::Of(of_language) => {
-            has_language(locale, of_language) || has_language(locale, b"root")
-        }
+        KeptLocales::Fronts(longest) => is_front(locale, longest) || is_same(locale, b"root"),
+        KeptLocales::These(steps) => is_among(locale, steps),
         KeptLocales::All => true,
     }
 }
 
-// Returns whether a locale is of this language. Of a longer locale one byte more is read than the
-// language has.
-fn has_language(locale: &[u8], of_language: &[u8]) -> bool
-    ensures { result ≡ is_same (language locale.now) of_language.now }
+// Returns whether a locale is the same as what another one begins with.
+fn is_front(locale: &[u8], longest: &[u8]) -> bool
+    ensures { result ≡ is_same locale.now (take (length locale.now) longest.now) }
 {
-    if locale.len() > of_language.len() {
-        is_same(language(&locale[..of_language.len() + 1]), of_language)
+    if locale.len() < longest.len() {
+        is_same(locale, &longest[..locale.len()])
     } else {
-        is_same(language(locale), of_language)
+        is_same(locale, longest)
     }
 }
 
-// Returns what is kept of a document for a locale, which serves as the whole does: the keys of its
-// language and of `root`, or all of its part, if the locale is long, or its chain leaves these or has
-// many locales up to its first key. The errors are those of the whole.
+// Returns whether a locale is the same as one of these.
+fn is_among(locale: &[u8], steps: &[&[u8]]) -> bool
+    ensures { result ≡ is_among locale.now (steps_view steps.now) }
+{
+    let mut rest = steps;
+    while let [step, after @ ..] = rest {
+        if is_same(locale, step) {
+            return true;
+        }
+        rest = after;
+    }
+    false
+}
+
+// Returns what is kept of a document for a locale, which serves as the whole does: the keys of the
+// locales that it begins with, or of its chain, or all of its part, if the locale is long, or its
+// chain has many locales. The text is read once. The errors are those of the whole.
 pub(crate) fn rules_outline(
     alloc: Global,
     part: Part,
@@ -98,28 +119,75 @@ pub(crate) fn rules_outline(
 ) -> Result<Value, JsonTextError>
     ensures { GivesRulesOutline part locale.now bytes.now result }
 {
-    if locale.len() > MOST_WALKED {
-        return part_outline(alloc, part, locale, bytes);
+    let mut scratch = Scratch::new(alloc);
+    let text = JsonTokens::read(alloc, bytes, &mut scratch)?;
+    match serving_outline(alloc, part, locale, &text) {
+        Ok(outline) => Ok(outline),
+        Err(_) => Err(JsonTextError::Memory),
     }
-    let own = KeptLocales::Of(language(locale.as_bytes()));
-    let outline = json_outline(alloc, RulesChoice::Document(part, own), bytes)?;
-    if stays_inside(&outline, part, locale, own) {
-        return Ok(outline);
-    }
-    drop(outline);
-    part_outline(alloc, part, locale, bytes)
 }
 
-// Returns all of the part and of the parents.
-fn part_outline(
+// Returns the same of a text that was read.
+fn serving_outline(
     alloc: Global,
     part: Part,
     locale: &str,
-    bytes: &[u8],
-) -> Result<Value, JsonTextError>
-    ensures { GivesRulesOutline part locale.now bytes.now result }
+    text: &JsonTokens<'_>,
+) -> Result<Value, AllocError>
+    ensures { IfOk result (λ document. IsServedBy part locale.now text.now (view document)) }
 {
-    json_outline(alloc, RulesChoice::Document(part, KeptLocales::All), bytes)
+    let fronts = KeptLocales::Fronts(locale.as_bytes());
+    if let Some(outline) = outline_inside(alloc, part, locale, fronts, text)? {
+        return Ok(outline);
+    }
+    let parents = text.outline(alloc, RulesSieve::Parents)?;
+    let mut steps = [locale.as_bytes(); MOST_STEPS];
+    let count = walk(&parents, locale.as_bytes(), &mut steps);
+    let chain = KeptLocales::These(&steps[..count]);
+    if let Some(outline) = outline_inside(alloc, part, locale, chain, text)? {
+        return Ok(outline);
+    }
+    drop(parents);
+    text.outline(alloc, RulesSieve::Document(part, KeptLocales::All))
+}
+
+// Returns what is kept for these locales, if the chain stays among them.
+fn outline_inside(
+    alloc: Global,
+    part: Part,
+    locale: &str,
+    locales: KeptLocales<'_>,
+    text: &JsonTokens<'_>,
+) -> Result<Option<Value>, AllocError>
+    ensures { IfOk result (λ found. IfSome found (λ document. IsServedBy part locale.now text.now (view document))) }
+{
+    let outline = text.outline(alloc, RulesSieve::Document(part, locales))?;
+    if stays_inside(&outline, part, locale, locales) {
+        Ok(Some(outline))
+    } else {
+        Ok(None)
+    }
+}
+
+// Writes the first locales of a chain, and returns how many.
+fn walk<'a>(
+    parents: &'a Value,
+    locale: &'a [u8],
+    steps: &mut [&'a [u8]; MOST_STEPS],
+) -> usize
+    ensures { result ≤ MOST_STEPS }
+{
+    let mut current = locale;
+    let mut count = 0;
+    while count < MOST_STEPS {
+        steps[count] = current;
+        count += 1;
+        let Some(next) = next_locale(parents, current) else {
+            break;
+        };
+        current = next;
+    }
+    count
 }
 
 // Returns whether the chain of a locale stays among these locales, up to its first key. It isn't

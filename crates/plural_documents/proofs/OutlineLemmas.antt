@@ -7,9 +7,9 @@ use Rattle.std.specs.Cmp.Lexicographic.{slice_cmp}
 use Rattle.std.specs.Ordering.{is_eq, match_ordering, ordering_reverse}
 use Rattle.std.specs.Prelude.{⊤, option_and_then}
 use Rattle.plural_documents.specs.Outlines.{outline, outline_members, with_member}
-use Rattle.plural_documents.specs.Inner.OutlineSteps.{kept_below, kept_by, members_by}
-use Rattle.plural_documents.specs.declared.outline.Kept.{Kept}
-use Rattle.plural_documents.specs.declared.outline.Kept.TheVariants as kept
+use Rattle.plural_documents.specs.Inner.OutlineSteps.{members_by, portion_below, put_portion}
+use Rattle.plural_documents.specs.declared.outline.Portion.{Portion}
+use Rattle.plural_documents.specs.declared.outline.Portion.TheVariants as kept
 use Rattle.serde_json.specs.Data.{Data, Items, Num, null, boolean, number, string, array, object, Members, no_members, member, put}
 use Rattle.serde_json.specs.Find.{get_member}
 
@@ -71,20 +71,15 @@ sorted_put key value (member next old ms) sorted =
 
 -- ---- A member is put
 
--- what is kept of a member is put
-abbrev pub put_kept : List ℕ → Option Data → Members → Members
-put_kept key None ms = ms
-put_kept key (Some value) ms = put key value ms
-
 -- what is kept of the first member is put before the others
-put_before : (key : List ℕ) (value : Option Data) (ms : Members) → IsBefore key ms → with_member key value ms ≡ put_kept key value ms
+put_before : (key : List ℕ) (value : Option Data) (ms : Members) → IsBefore key ms → with_member key value ms ≡ put_portion key value ms
 put_before key None ms before = refl
 put_before key (Some value) no_members before = refl
 put_before key (Some value) (member next old ms) before = rw before.0 refl
 
 -- after a member that stays
 passed : (key next : List ℕ) (value old : Option Data) (ms : Members) → order key next ≡ Greater
-    → with_member next old (put_kept key value ms) ≡ put_kept key value (with_member next old ms)
+    → with_member next old (put_portion key value ms) ≡ put_portion key value (with_member next old ms)
 passed key next None old ms is = refl
 passed key next (Some value) None ms is = refl
 passed key next (Some value) (Some old) ms is = rw is refl
@@ -102,7 +97,7 @@ found_after key next (Some value) ms Less other is = rw is refl
 found_after key next (Some value) ms Equal other is = absurd (true≢false other)
 found_after key next (Some value) ms Greater other is = rw is refl
 
-module _ (C : Type 0) (keeps : C → List ℕ → Kept C) where
+module _ (C : Type 0) (keeps : C → List ℕ → Portion C) where
   -- by a choice there is always something that is kept
   pub some_kept : (choice : C) (value : Data) → (read : Data) × (outline keeps (kept.Members choice) value ≡ Some read)
   some_kept choice null = (null, refl)
@@ -113,8 +108,8 @@ module _ (C : Type 0) (keeps : C → List ℕ → Kept C) where
   some_kept choice (object ms) = (object (outline_members keeps choice ms), refl)
 
   -- in place of what was kept of the key before
-  replaced : (key : List ℕ) (kept : Kept C) (value old : Data) (ms : Members)
-      → with_member key (outline keeps kept value) ms ≡ put_kept key (outline keeps kept value) (with_member key (outline keeps kept old) ms)
+  replaced : (key : List ℕ) (kept : Portion C) (value old : Data) (ms : Members)
+      → with_member key (outline keeps kept value) ms ≡ put_portion key (outline keeps kept value) (with_member key (outline keeps kept old) ms)
   replaced key kept.Whole value old ms = rw (itself key) refl
   replaced key kept.Nothing value old ms = refl
   replaced key (kept.Members choice) value old ms =
@@ -125,7 +120,7 @@ module _ (C : Type 0) (keeps : C → List ℕ → Kept C) where
   nothing_kept None = refl
   nothing_kept (Some value) = refl
 
-  found_at : (key : List ℕ) (kept : Kept C) (value : Data) (ms : Members) (found : Option Data)
+  found_at : (key : List ℕ) (kept : Portion C) (value : Data) (ms : Members) (found : Option Data)
       → get_member key ms ≡ option_and_then (outline keeps kept) found
       → get_member key (with_member key (outline keeps kept value) ms) ≡ outline keeps kept value
   found_at key kept.Whole value ms found others = rw (itself key) refl
@@ -142,16 +137,16 @@ module _ (C : Type 0) (keeps : C → List ℕ → Kept C) where
     -- the outline of members that one was put into
     pub outline_put : (key : List ℕ) (value : Data) (ms : Members) → AreSorted ms
         → outline_members keeps choice (put key value ms)
-        ≡ put_kept key (outline keeps (keeps choice key) value) (outline_members keeps choice ms)
+        ≡ put_portion key (outline keeps (keeps choice key) value) (outline_members keeps choice ms)
     outline_put key value no_members sorted = put_before key (outline keeps (keeps choice key) value) no_members tt
     outline_put key value (member next old ms) sorted =
         by (order key next) refl (outline_put key value ms sorted.1)
       where
         by : (o : Ordering) → order key next ≡ o
             → outline_members keeps choice (put key value ms)
-            ≡ put_kept key (outline keeps (keeps choice key) value) (outline_members keeps choice ms)
+            ≡ put_portion key (outline keeps (keeps choice key) value) (outline_members keeps choice ms)
             → outline_members keeps choice (put_in key value next old ms o)
-            ≡ put_kept key (outline keeps (keeps choice key) value) (outline_members keeps choice (member next old ms))
+            ≡ put_portion key (outline keeps (keeps choice key) value) (outline_members keeps choice (member next old ms))
         by Less is further =
             put_before key (outline keeps (keeps choice key) value) (outline_members keeps choice (member next old ms))
             (before_outline key (member next old ms) (is, before_all key next ms is sorted.0))
@@ -180,50 +175,12 @@ module _ (C : Type 0) (keeps : C → List ℕ → Kept C) where
         by Greater is further =
             found_after key next (outline keeps (keeps choice next) value) (outline_members keeps choice ms) Greater refl is ∙ further
 
-  -- ---- With or without a choice
+  -- ---- With or without a sieve
 
-  pub text_kept : (choice : Option C) (text : List ℕ) → outline keeps (kept_by choice) (string text) ≡ Some (string text)
-  text_kept None text = refl
-  text_kept (Some choice) text = refl
-
-  pub truth_kept : (choice : Option C) (truth : Bool) → outline keeps (kept_by choice) (boolean truth) ≡ Some (boolean truth)
-  truth_kept None truth = refl
-  truth_kept (Some choice) truth = refl
-
-  pub null_kept : (choice : Option C) → outline keeps (kept_by choice) null ≡ Some null
-  null_kept None = refl
-  null_kept (Some choice) = refl
-
-  pub number_kept : (choice : Option C) (n : Num) → outline keeps (kept_by choice) (number n) ≡ Some (number n)
-  number_kept None n = refl
-  number_kept (Some choice) n = refl
-
-  pub array_kept : (choice : Option C) (items : Items) → outline keeps (kept_by choice) (array items) ≡ Some (array items)
-  array_kept None items = refl
-  array_kept (Some choice) items = refl
-
-  pub object_kept : (choice : Option C) (ms : Members)
-      → outline keeps (kept_by choice) (object ms) ≡ Some (object (members_by keeps choice ms))
-  object_kept None ms = refl
-  object_kept (Some choice) ms = refl
-
-  pub none_kept : (choice : Option C) → members_by keeps choice no_members ≡ no_members
-  none_kept None = refl
-  none_kept (Some choice) = refl
-
-  members_put : (choice : Option C) (key : List ℕ) (value : Data) (ms : Members) → AreSorted ms
-      → members_by keeps choice (put key value ms) ≡ put_kept key (outline keeps (kept_below keeps choice key) value) (members_by keeps choice ms)
-  members_put None key value ms sorted = refl
-  members_put (Some choice) key value ms sorted = outline_put choice key value ms sorted
-
-  -- a member that is kept is put among those that were found
-  pub kept_put : (choice below : Option C) (key : List ℕ) (value read : Data) (ms found : Members) → AreSorted ms
-      → members_by keeps choice ms ≡ found → kept_below keeps choice key ≡ kept_by below → outline keeps (kept_by below) value ≡ Some read
-      → members_by keeps choice (put key value ms) ≡ put key read found
-  kept_put choice below key value read ms found sorted so_far kept is =
-      members_put choice key value ms sorted ∙ rw (kept, is, so_far) refl
-
-  -- any other changes nothing
-  pub other_put : (choice : Option C) (key : List ℕ) (value : Data) (ms found : Members) → AreSorted ms
-      → members_by keeps choice ms ≡ found → kept_below keeps choice key ≡ kept.Nothing → members_by keeps choice (put key value ms) ≡ found
-  other_put choice key value ms found sorted so_far kept = members_put choice key value ms sorted ∙ rw (kept, so_far) refl
+  -- what is kept of a value is put among what was found
+  pub members_put : (sieve : Option C) (key : List ℕ) (value : Data) (ms found : Members) → AreSorted ms
+      → members_by keeps sieve ms ≡ found
+      → members_by keeps sieve (put key value ms) ≡ put_portion key (outline keeps (portion_below keeps sieve key) value) found
+  members_put None key value ms found sorted so_far = ap (put key value) so_far
+  members_put (Some choice) key value ms found sorted so_far =
+      outline_put choice key value ms sorted ∙ ap (put_portion key (outline keeps (keeps choice key) value)) so_far

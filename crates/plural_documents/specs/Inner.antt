@@ -1,2 +1,5 @@
 -- Not definitions of the subject: steps of private calls.
+pub mod OpenKinds
+pub mod OpenBrackets
+pub mod HeldTokens
 pub mod OutlineSteps

@@ -1,5 +1,5 @@
--- The outline of a JSON value: a choice tells by the key of each member of an object whether all of
--- it is kept, nothing, or what a further choice keeps of it.
+-- The outline of a JSON value: a sieve tells by the key of each member of an object whether all of
+-- it is kept, nothing, or what a further sieve keeps of it.
 --     outline keeps kept value      what is kept of a value, if anything
 --     GivesOutline keeps choice bytes result      the outline of the value that bytes write, if
 --         they are a JSON text
@@ -7,8 +7,8 @@ use Rattle.std.specs.Prelude.{◌≡◌, ℕ, ◌<◌, List, length, Option, Som
 use Rattle.plural_documents.specs.Inputs.{json_of}
 use Rattle.plural_documents.specs.declared.json_text.JsonTextError.{JsonTextError}
 use Rattle.plural_documents.specs.declared.json_text.JsonTextError.TheVariants as fault
-use Rattle.plural_documents.specs.declared.outline.Kept.{Kept}
-use Rattle.plural_documents.specs.declared.outline.Kept.TheVariants as kept
+use Rattle.plural_documents.specs.declared.outline.Portion.{Portion}
+use Rattle.plural_documents.specs.declared.outline.Portion.TheVariants as kept
 use Rattle.serde_json.specs.Data.{Data, null, boolean, number, string, array, object, Members, no_members, member}
 use Rattle.serde_json.specs.View.{view}
 use Rattle.serde_json.specs.declared.Value.{Value}
@@ -20,7 +20,7 @@ with_member key (Some value) members = member key value members
 
 abbrev mutual
   -- by a choice of an object what is kept of its members, and of any other value all of it
-  pub outline : {C : Type 0} → (C → List ℕ → Kept C) → Kept C → Data → Option Data
+  pub outline : {C : Type 0} → (C → List ℕ → Portion C) → Portion C → Data → Option Data
   outline keeps kept.Whole value = Some value
   outline keeps kept.Nothing value = None
   outline keeps (kept.Members choice) null = Some null
@@ -30,15 +30,21 @@ abbrev mutual
   outline keeps (kept.Members choice) (array items) = Some (array items)
   outline keeps (kept.Members choice) (object members) = Some (object (outline_members keeps choice members))
 
-  pub outline_members : {C : Type 0} → (C → List ℕ → Kept C) → C → Members → Members
+  pub outline_members : {C : Type 0} → (C → List ℕ → Portion C) → C → Members → Members
   outline_members keeps choice no_members = no_members
   outline_members keeps choice (member key value members) =
       with_member key (outline keeps (keeps choice key) value) (outline_members keeps choice members)
 
 -- the outline of the value that the bytes write; or there is none, or memory ran out, which needs a
 -- byte
-abbrev pub GivesOutline : {C : Type 0} → (C → List ℕ → Kept C) → C → List ℕ → Result Value JsonTextError → Type 0
+abbrev pub GivesOutline : {C : Type 0} → (C → List ℕ → Portion C) → C → List ℕ → Result Value JsonTextError → Type 0
 GivesOutline keeps choice bytes (Ok value) =
     (whole : Data) × (json_of bytes ≡ Some whole) × (outline keeps (kept.Members choice) whole ≡ Some (view value))
 GivesOutline keeps choice bytes (Err fault.Json) = json_of bytes ≡ None
 GivesOutline keeps choice bytes (Err fault.Memory) = 0 < length bytes
+
+-- the bytes are a text of one value; or there is none, or memory ran out, which needs a byte
+abbrev pub GivesJsonTokens : List ℕ → Result (List ℕ) JsonTextError → Type 0
+GivesJsonTokens bytes (Ok text) = (text ≡ bytes) × ((whole : Data) × (json_of bytes ≡ Some whole))
+GivesJsonTokens bytes (Err fault.Json) = json_of bytes ≡ None
+GivesJsonTokens bytes (Err fault.Memory) = 0 < length bytes

@@ -5,15 +5,22 @@
 mod first_lines;
 mod found;
 mod input;
+mod json_number;
 mod json_text;
+mod json_tokens;
+mod nesting;
 mod outline;
 mod output;
 mod printed_key;
+mod token_place;
+mod tokens_left;
 
 pub use first_lines::{MOST_TOLD, add_rest, push_lines};
 pub use found::{Found, MemberCheck, add_members, sum};
 pub use input::{InputError, read_input};
+pub use json::Scratch;
 pub use json_text::{JsonTextError, json_value};
-pub use outline::{Choice, Kept, json_outline};
+pub use json_tokens::JsonTokens;
+pub use outline::{Portion, Sieve, json_outline};
 pub use output::{OutputError, write_output};
 pub use printed_key::{key_text, name_text};

@@ -1,298 +1,191 @@
-//! The outline of the JSON value that bytes write: what is kept of it, read in one pass.
+//! The outline of a JSON value: what is kept of it.
 
-ghost use Rattle.std.specs.Prelude.{◌≡◌, ◌<◌, Err, IfOk, None, OnOk, Some, false, length, option_map, true};
-ghost use Rattle.plural_documents.specs.Inner.OutlineSteps.{AreReadAs, IsKept, IsNoValue, IsPassed, IsReadAs, kept_below, items_read, members_read};
+ghost use Rattle.std.specs.Prelude.{◌≡◌, ◌∷◌, ◌≤◌, IfOk, Ok, OnOk, length};
+ghost use Rattle.json.specs.Reads.{token_of};
+ghost use Rattle.plural_documents.specs.Inner.OutlineSteps.{AreItems, AreOutlined, IsOutlined, KeepsPart, portion_below, portion_by};
 ghost use Rattle.plural_documents.specs.Outlines.{GivesOutline};
-ghost use Rattle.serde_json.specs.Read.{number_from, number_of};
-ghost use Rattle.serde_json.specs.View.{items_view, members_view, number_view, view};
+ghost use Rattle.serde_json.specs.View.{items_view, members_view, view};
 
+use crate::json_number::json_number;
 use crate::json_text::JsonTextError;
-use fast_float::Numeral;
-use json::{Invalid, Reader, Scratch, Token};
-use serde_json::{Map, Number, Value};
-use std::alloc::{AllocError, AllocFailed, Global};
+use crate::json_tokens::JsonTokens;
+use crate::tokens_left::TokensLeft;
+use json::{Scratch, Token};
+use serde_json::{Map, Value};
+use std::alloc::{AllocError, Global};
 
-// How deep arrays and objects nest at most, as in what `serde_json` reads.
-const MOST_NESTED: usize = 127;
-
-/// What is kept of a value.
+/// How much is kept of a value.
 #[derive(Clone, Copy, Debug)]
-pub enum Kept<C> {
+pub enum Portion<S> {
     /// All of it.
     Whole,
     /// Nothing.
     Nothing,
-    /// Of an object what this choice keeps of its members; of any other value all of it.
-    Members(C),
+    /// Of an object what this sieve keeps of its members; of any other value all of it.
+    Members(S),
 }
 
-/// A choice among the members of an object, by their keys.
-pub trait Choice: Copy {
+/// A sieve for the members of an object, which goes by their keys.
+pub trait Sieve: Copy {
     ghost use Rattle.std.specs.Prelude.{List, ℕ};
-    ghost use Rattle.plural_documents.specs.declared.outline.Kept.{Kept as KeptBy};
+    ghost use Rattle.plural_documents.specs.declared.outline.Portion.{Portion as PortionOf};
 
-    // What is kept of the member with a key.
-    ghost keeps: { Self → List ℕ → KeptBy Self };
+    // How much is kept of the member with a key.
+    ghost keeps: { Self → List ℕ → PortionOf Self };
 
-    /// Returns what is kept of the member with this key. It allocates nothing.
-    fn kept(&self, key: &str) -> Kept<Self>
+    /// Returns how much is kept of the member with this key. It allocates nothing.
+    fn kept(&self, key: &str) -> Portion<Self>
         ensures { result ≡ keeps self.now key.now };
 }
 
-// Why there is no value.
-#[derive(Clone, Copy, Debug)]
-enum Stop {
-    // The text is no JSON.
-    Json,
-    // Out of memory.
-    Memory,
-}
-
-impl From<Invalid> for Stop {
-    ghost use Rattle.plural_documents.specs.declared.outline.Stop.TheVariants.{Json};
-    ghost use Rattle.std.specs.Prelude.{◌≡◌};
-
-    ghost from_gives = { λ _ stop. stop ≡ Json };
-
-    fn from(_invalid: Invalid) -> Stop {
-        Stop::Json
-    }
-}
-
-impl From<AllocError> for Stop {
-    ghost use Rattle.plural_documents.specs.declared.outline.Stop.TheVariants.{Memory};
-    ghost use Rattle.std.specs.Prelude.{◌≡◌};
-
-    ghost from_gives = { λ _ stop. stop ≡ Memory };
-
-    fn from(_refused: AllocError) -> Stop {
-        Stop::Memory
-    }
-}
-
-impl<T: Drop> From<AllocFailed<T>> for Stop {
-    ghost use Rattle.plural_documents.specs.declared.outline.Stop.TheVariants.{Memory};
-    ghost use Rattle.std.specs.Prelude.{◌≡◌};
-
-    ghost from_gives = { λ _ stop. stop ≡ Memory };
-
-    fn from(_refused: AllocFailed<T>) -> Stop {
-        Stop::Memory
-    }
-}
-
-/// Returns the outline of the JSON value that the bytes write: what the choice keeps of what
+/// Returns the outline of the JSON value that the bytes write: what the sieve keeps of what
 /// [`json_value`](crate::json_value) returns, with the same errors. All of the text is read, and
 /// only what is kept is built. It allocates.
-pub fn json_outline<C: Choice>(
+pub fn json_outline<S: Sieve>(
     alloc: Global,
-    choice: C,
+    sieve: S,
     bytes: &[u8],
 ) -> Result<Value, JsonTextError>
-    ensures { GivesOutline C.keeps choice bytes.now result }
+    ensures { GivesOutline S.keeps sieve bytes.now result }
 {
-    let Ok(text) = simdutf8::basic::from_utf8(bytes) else {
-        return Err(JsonTextError::Json);
-    };
     let mut scratch = Scratch::new(alloc);
-    let Ok(mut reader) = Reader::new(text, &mut scratch) else {
-        return Err(JsonTextError::Memory);
-    };
-    match read(alloc, &mut reader, Some(choice), MOST_NESTED) {
-        Ok(value) => if reader.next().is_none() {
-            Ok(value)
-        } else {
-            Err(JsonTextError::Json)
-        },
-        Err(Stop::Json) => Err(JsonTextError::Json),
-        Err(Stop::Memory) => Err(JsonTextError::Memory),
+    let text = JsonTokens::read(alloc, bytes, &mut scratch)?;
+    match text.outline(alloc, sieve) {
+        Ok(value) => Ok(value),
+        Err(_) => Err(JsonTextError::Memory),
     }
 }
 
-// Reads a value: what the choice keeps of it, or all of it.
-#[cycle(read)]
-#[inline(always)]
-fn read<C: Choice>(
+impl<'a> JsonTokens<'a> {
+    /// Returns the outline of the value that the text writes. It allocates.
+    pub fn outline<S: Sieve>(&self, alloc: Global, sieve: S) -> Result<Value, AllocError>
+        ensures { IfOk result (λ value. GivesOutline S.keeps sieve self.now (Ok value)) }
+    {
+        let mut left = TokensLeft::of(self.tokens.as_slice());
+        match left.next() {
+            Some(first) => outlined(alloc, first, &mut left, Some(sieve)),
+            None => Ok(Value::Null),
+        }
+    }
+}
+
+// Returns the outline of the value that begins with this token, and goes past it. Without a sieve it
+// is kept whole.
+#[cycle(build)]
+fn outlined<S: Sieve>(
     alloc: Global,
-    reader: &mut Reader<'_>,
-    choice: Option<C>,
-    depth: usize,
-) -> Result<Value, Stop>
-    ensures read { IfOk result (λ value. IsReadAs C.keeps choice depth reader.old (view value) reader.new) }
-    ensures refused { result ≡ Err Stop.Json → IsNoValue depth reader.old }
-    ensures memory { result ≡ Err Stop.Memory → 0 < length reader.old }
-    ensures shorter { OnOk result (length reader.new < length reader.old) }
+    first: Token<'_>,
+    left: &mut TokensLeft<'_, '_>,
+    sieve: Option<S>,
+) -> Result<Value, AllocError>
+    ensures outlined { IfOk result (λ value. IsOutlined S.keeps sieve (token_of first.entry ∷ left.old) (view value) left.new) }
+    ensures shorter { OnOk result (length left.new ≤ length left.old) }
 {
-    let Some(token) = reader.next() else {
-        return Err(Stop::Json);
-    };
-    match token {
+    match first {
+        Token::BeginObject => Ok(Value::Object(outlined_members(alloc, left, sieve)?)),
+        Token::BeginArray => Ok(Value::Array(whole_items::<S>(alloc, left)?)),
         Token::String(text) => Ok(Value::String(String::from_str(alloc, text)?)),
-        Token::Number(text) => match number(text) {
+        Token::Number(text) => match json_number(text) {
             Some(number) => Ok(Value::Number(number)),
-            None => Err(Stop::Json),
+            None => Ok(Value::Null),
         },
         Token::Bool(truth) => Ok(Value::Bool(truth)),
-        Token::Null => Ok(Value::Null),
-        Token::BeginArray => {
-            if depth == 0 {
-                return Err(Stop::Json);
-            }
-            Ok(Value::Array(read_items::<C>(alloc, reader, depth - 1)?))
+        Token::Null | Token::Key(_) | Token::EndObject | Token::EndArray | Token::Bad => {
+            Ok(Value::Null)
         }
-        Token::BeginObject => {
-            if depth == 0 {
-                return Err(Stop::Json);
-            }
-            Ok(Value::Object(read_members(alloc, reader, choice, depth - 1)?))
-        }
-        Token::EndObject | Token::EndArray | Token::Key(_) | Token::Bad => Err(Stop::Json),
     }
 }
 
-// Reads all items of an array.
-#[cycle(read)]
-fn read_items<C: Choice>(
+// Returns the items of an array, and goes past it.
+#[cycle(build)]
+fn whole_items<S: Sieve>(
     alloc: Global,
-    reader: &mut Reader<'_>,
-    depth: usize,
-) -> Result<Vec<Value>, Stop>
-    ensures read { IfOk result (λ items. items_read depth reader.old ≡ Some (items_view items.items, reader.new)) }
-    ensures refused { result ≡ Err Stop.Json → items_read depth reader.old ≡ None }
-    ensures shorter { OnOk result (length reader.new < length reader.old) }
+    left: &mut TokensLeft<'_, '_>,
+) -> Result<Vec<Value>, AllocError>
+    ensures items { IfOk result (λ items. AreItems left.old (items_view items.items) left.new) }
+    ensures shorter { OnOk result (length left.new ≤ length left.old) }
 {
     let mut items = Vec::new(alloc);
-    'items: while !reader.take_end_array() {
-        items.push(read::<C>(alloc, reader, None, depth)?)?;
+    while let Some(first) = left.next() {
+        if let Token::EndArray = first {
+            break;
+        }
+        items.push(outlined::<S>(alloc, first, left, None)?)?;
     }
     Ok(items)
 }
 
-// Reads the members of an object: those that the choice keeps, or all.
-#[cycle(read)]
-fn read_members<C: Choice>(
+// Returns what is kept of the members of an object, and goes past it.
+#[cycle(build)]
+fn outlined_members<S: Sieve>(
     alloc: Global,
-    reader: &mut Reader<'_>,
-    choice: Option<C>,
-    depth: usize,
-) -> Result<Map<String, Value>, Stop>
-    ensures read { IfOk result (λ members. AreReadAs C.keeps choice depth reader.old (members_view members.entries) reader.new) }
-    ensures refused { result ≡ Err Stop.Json → members_read depth reader.old ≡ None }
-    ensures shorter { OnOk result (length reader.new < length reader.old) }
+    left: &mut TokensLeft<'_, '_>,
+    sieve: Option<S>,
+) -> Result<Map<String, Value>, AllocError>
+    ensures members { IfOk result (λ members. AreOutlined S.keeps sieve left.old (members_view members.entries) left.new) }
+    ensures shorter { OnOk result (length left.new ≤ length left.old) }
 {
     let mut members = Map::new(alloc);
-    'members: while let Some(key) = reader.next_key()? {
-        let below = match kept_below(choice, key) {
-            Kept::Nothing => {
-                pass(reader, depth)?;
-                continue;
-            }
-            Kept::Whole => None,
-            Kept::Members(inner) => Some(inner),
+    while let Some(first) = left.next() {
+        let Token::Key(key) = first else {
+            break;
         };
-        keep(alloc, reader, below, depth, key, &mut members)?;
+        keep_member(alloc, key, left, sieve, &mut members)?;
     }
     Ok(members)
 }
 
-// Reads the value of a member, and puts what the choice keeps of it among the others.
-#[cycle(read)]
-fn keep<C: Choice>(
+// Goes past the value of a key, and adds what is kept of it.
+#[cycle(build)]
+fn keep_member<S: Sieve>(
     alloc: Global,
-    reader: &mut Reader<'_>,
-    choice: Option<C>,
-    depth: usize,
     key: &str,
+    left: &mut TokensLeft<'_, '_>,
+    sieve: Option<S>,
     members: &mut Map<String, Value>,
-) -> Result<(), Stop>
-    ensures kept { OnOk result (IsKept C.keeps choice depth key.now reader.old reader.new
-        (members_view members.old.entries) (members_view members.new.entries)) }
-    ensures refused { result ≡ Err Stop.Json → IsNoValue depth reader.old }
-    ensures shorter { OnOk result (length reader.new < length reader.old) }
+) -> Result<(), AllocError>
+    ensures keeps { OnOk result (KeepsPart S.keeps (portion_below S.keeps sieve key.now) key.now left.old
+        (members_view members.old.entries) (members_view members.new.entries) left.new) }
+    ensures shorter { OnOk result (length left.new ≤ length left.old) }
 {
-    let name = String::from_str(alloc, key)?;
-    let value = read(alloc, reader, choice, depth)?;
-    members.insert(name, value)?;
+    let Some(first) = left.next() else {
+        return Ok(());
+    };
+    match portion_below(sieve, key) {
+        Portion::Nothing => {
+            left.pass_value(first);
+            Ok(())
+        }
+        Portion::Whole => put_outlined::<S>(alloc, key, first, left, None, members),
+        Portion::Members(inner) => put_outlined(alloc, key, first, left, Some(inner), members),
+    }
+}
+
+// Adds the outline of the value that begins with this token, and goes past it.
+#[cycle(build)]
+fn put_outlined<S: Sieve>(
+    alloc: Global,
+    key: &str,
+    first: Token<'_>,
+    left: &mut TokensLeft<'_, '_>,
+    sieve: Option<S>,
+    members: &mut Map<String, Value>,
+) -> Result<(), AllocError>
+    ensures puts { OnOk result (KeepsPart S.keeps (portion_by sieve) key.now (token_of first.entry ∷ left.old)
+        (members_view members.old.entries) (members_view members.new.entries) left.new) }
+    ensures shorter { OnOk result (length left.new ≤ length left.old) }
+{
+    let value = outlined(alloc, first, left, sieve)?;
+    members.insert(String::from_str(alloc, key)?, value)?;
     Ok(())
 }
 
-// Returns what is kept of the member with a key: without a choice all of it.
-fn kept_below<C: Choice>(choice: Option<C>, key: &str) -> Kept<C>
-    ensures { result ≡ kept_below C.keeps choice key.now }
+// Returns how much is kept of the member with a key; without a sieve, all.
+fn portion_below<S: Sieve>(sieve: Option<S>, key: &str) -> Portion<S>
+    ensures { result ≡ portion_below S.keeps sieve key.now }
 {
-    match choice {
-        Some(choice) => choice.kept(key),
-        None => Kept::Whole,
-    }
-}
-
-// Passes a value of which nothing is kept.
-fn pass(reader: &mut Reader<'_>, depth: usize) -> Result<(), Stop>
-    ensures passed { OnOk result (IsPassed depth reader.old reader.new) }
-    ensures refused { result ≡ Err Stop.Json → IsNoValue depth reader.old }
-    ensures shorter { OnOk result (length reader.new < length reader.old) }
-{
-    let Some(token) = reader.next() else {
-        return Err(Stop::Json);
-    };
-    match token {
-        Token::String(_) => Ok(()),
-        Token::Number(text) => match number(text) {
-            Some(_) => Ok(()),
-            None => Err(Stop::Json),
-        },
-        Token::Bool(_) => Ok(()),
-        Token::Null => Ok(()),
-        Token::BeginArray => {
-            if depth == 0 {
-                return Err(Stop::Json);
-            }
-            'items: while !reader.take_end_array() {
-                pass(reader, depth - 1)?;
-            }
-            Ok(())
-        }
-        Token::BeginObject => {
-            if depth == 0 {
-                return Err(Stop::Json);
-            }
-            'members: while let Some(_) = reader.next_key()? {
-                pass(reader, depth - 1)?;
-            }
-            Ok(())
-        }
-        Token::EndObject | Token::EndArray | Token::Key(_) | Token::Bad => Err(Stop::Json),
-    }
-}
-
-// Returns the number that a text writes. One that is too large for a float is none.
-fn number(text: &str) -> Option<Number>
-    ensures { option_map number_view result ≡ number_of text.now }
-{
-    let bytes = text.as_bytes();
-    if text.starts_with('-') {
-        below_zero(&Numeral::scan(&bytes[1..]))
-    } else {
-        from_zero(&Numeral::scan(bytes))
-    }
-}
-
-// The same of a numeral without a sign: an integer below 2^64, or a float.
-fn from_zero(numeral: &Numeral<'_>) -> Option<Number>
-    ensures { option_map number_view result ≡ number_from false numeral.now }
-{
-    match numeral.to_u64() {
-        Some(integer) => Some(Number::from(integer)),
-        None => Number::from_f64(numeral.to_float::<f64>(false)),
-    }
-}
-
-// The same of the numeral behind a minus.
-fn below_zero(numeral: &Numeral<'_>) -> Option<Number>
-    ensures { option_map number_view result ≡ number_from true numeral.now }
-{
-    match numeral.to_i64(true) {
-        Some(integer) if integer < 0 => Some(Number::from(integer)),
-        _ => Number::from_f64(numeral.to_float::<f64>(true)),
+    match sieve {
+        Some(sieve) => sieve.kept(key),
+        None => Portion::Whole,
     }
 }

@@ -1,14 +1,16 @@
 -- Not a definition of the subject: what is kept of a document of rules for one locale, and when it
 -- serves as the whole does.
-use Rattle.std.specs.Prelude.{◌≡◌, ℕ, ◌<◌, List, codes, Bool, true, ◌||◌, bytes_eq, length, Some, None, Result, Ok, Err, if◌then◌else◌}
+use Rattle.std.specs.Prelude.{◌≡◌, ℕ, ◌<◌, List, codes, Bool, true, ◌||◌, bytes_eq, length, map, take, Some, None, Result, Ok, Err, if◌then◌else◌}
+use Rattle.std.specs.Borrow.{Bor}
+use Rattle.std.specs.List.{list_any}
 use Rattle.plural_documents.specs.Inputs.{json_of}
 use Rattle.plural_documents.specs.declared.JsonTextError.{JsonTextError}
 use Rattle.plural_documents.specs.declared.JsonTextError.TheVariants as fault
-use Rattle.plural_documents.specs.declared.Kept.{Kept}
-use Rattle.plural_documents.specs.declared.Kept.TheVariants as kept
+use Rattle.plural_documents.specs.declared.Portion.{Portion}
+use Rattle.plural_documents.specs.declared.Portion.TheVariants as kept
 use Rattle.plural_fallback.specs.Chain.{next_of}
 use Rattle.plural_fallback.specs.FirstKeys.{NoneBefore, locale_at}
-use Rattle.plural_fallback.specs.LocaleNames.{is_same, language}
+use Rattle.plural_fallback.specs.LocaleNames.{is_same}
 use Rattle.plural_fallback.specs.LocalesJson.{parent_in, part_name}
 use Rattle.plural_fallback.specs.declared.locales.Part.{Part}
 use Rattle.serde_json.specs.Data.{Data}
@@ -19,24 +21,34 @@ use Rattle.form_commands.specs.Languages.{IsFoundFor, key_after, most_locales}
 use Rattle.form_commands.specs.declared.error.LanguageError.{LanguageError}
 use Rattle.form_commands.specs.declared.language.Language.{Language}
 use Rattle.form_commands.specs.declared.outline.KeptLocales.{KeptLocales}
-use Rattle.form_commands.specs.declared.outline.KeptLocales.TheVariants.{All, Of}
-use Rattle.form_commands.specs.declared.outline.RulesChoice.{RulesChoice}
-use Rattle.form_commands.specs.declared.outline.RulesChoice.TheVariants.{Document, Keys}
+use Rattle.form_commands.specs.declared.outline.KeptLocales.TheVariants.{All, Fronts, These}
+use Rattle.form_commands.specs.declared.outline.RulesSieve.{RulesSieve}
+use Rattle.form_commands.specs.declared.outline.RulesSieve.TheVariants.{Document, Keys, Parents}
 
 -- ---- What is kept
 
+-- the locales of a list
+abbrev pub steps_view : List (Bor (List ℕ)) → List (List ℕ)
+steps_view steps = map (λ step. step.now) steps
+
+-- a locale is the same as one of these
+abbrev pub is_among : List ℕ → List (List ℕ) → Bool
+is_among locale steps = list_any (λ step. is_same locale step) steps
+
 -- a locale is among the kept ones
 abbrev pub is_inside : KeptLocales → List ℕ → Bool
-is_inside (Of of_language) locale = is_same (language locale) of_language.now || is_same (language locale) (codes "root")
+is_inside (Fronts longest) locale = is_same locale (take (length locale) longest.now) || is_same locale (codes "root")
+is_inside (These steps) locale = is_among locale (steps_view steps.now)
 is_inside All locale = true
 
 -- a key of a document is that of the part or of the parents
 abbrev pub is_part : Part → List ℕ → Bool
 is_part part key = bytes_eq key (part_name part) || bytes_eq key (codes "parents")
 
-abbrev pub keeps : RulesChoice → List ℕ → Kept RulesChoice
+abbrev pub keeps : RulesSieve → List ℕ → Portion RulesSieve
 keeps (Document part locales) key = if is_part part key then kept.Members (Keys locales) else kept.Nothing
 keeps (Keys locales) key = if is_inside locales key then kept.Whole else kept.Nothing
+keeps Parents key = if bytes_eq key (codes "parents") then kept.Whole else kept.Nothing
 
 -- ---- When it serves
 

@@ -1,0 +1,165 @@
+-- The value of a text, by its tokens.
+use Rattle.std.proofs.Common.{◌≡◌, ℕ, ◌-◌, ◌<◌, ◌≤◌, List, [], ◌∷◌, ◌++◌, length, Bool, true, false, ◌&&◌, Option, Some, None, Result, Ok, Err, refl, sym, ap, subst, ◌∙◌, true≢false, arith}
+use Rattle.std.specs.Prelude.{IfOk, if◌then◌else◌, is_some, option_and_then, option_map, unwrap_or}
+use Rattle.std.specs.List.{list_all}
+use Rattle.std.proofs.lemmas.List.Folds.{list_all-append}
+use Rattle.json.specs.Json as json
+use Rattle.json.specs.Json.{Json, null, boolean, number, string, array, object, no_items, item, no_members, member, if_last, value}
+use Rattle.json.specs.Lex.{tokens}
+use Rattle.json.specs.Token.{Token}
+use Rattle.json.specs.Tree.{depth, items_tokens, json_tokens, members_tokens}
+use Rattle.json.proofs.Nesting.{value-depth}
+use Rattle.json.proofs.Unique.Spelling.{value-json_tokens_back}
+use Rattle.plural_documents.specs.Inner.HeldTokens.{AreNoTokens, AreTokens, fits}
+use Rattle.plural_documents.specs.Inner.OpenBrackets.{Comes, most_open}
+use Rattle.plural_documents.proofs.TokenValues.{value_back}
+use Rattle.json.proofs.OnLiterals.{json_on_literals}
+use Rattle.plural_documents.specs.Inner.OutlineSteps.{IsOutlined}
+use Rattle.plural_documents.specs.Inputs.{json_of}
+use Rattle.plural_documents.specs.Outlines.{GivesJsonTokens, GivesOutline}
+use Rattle.plural_documents.specs.declared.json_text.JsonTextError.{JsonTextError}
+use Rattle.plural_documents.specs.declared.json_text.JsonTextError.TheVariants as fault
+use Rattle.plural_documents.specs.declared.outline.Portion.{Portion}
+use Rattle.plural_documents.proofs.JsonTextLemmas.{value_refused, value_there}
+use Rattle.std.specs.Str.{IsUtf8, is_utf8}
+use Rattle.std.specs.declared.alloc.AllocError.{AllocError}
+use Rattle.serde_json.specs.View.{view}
+use Rattle.serde_json.specs.declared.value.Value.{Value}
+use Rattle.serde_json.proofs.OnLiterals.{serde_json_on_literals}
+use Rattle.serde_json.specs.Data.{Data, Members, put}
+use Rattle.serde_json.specs.Data as tree
+use Rattle.serde_json.specs.Read.{max_depth, number_of, of_items, of_json, of_members, read}
+
+-- ---- Numbers that fit
+
+some_map : {A B : Type 0} (f : A → B) (o : Option A) → is_some (option_map f o) ≡ is_some o
+some_map f None = refl
+some_map f (Some x) = refl
+
+with_true : (b : Bool) → b ≡ b && true
+with_true true = refl
+with_true false = refl
+
+-- of two, where the second doesn't depend on the first
+both_held : {A B : Type 0} (o : Option A) (next : A → Option B) (b c : Bool) → is_some o ≡ b → ((x : A) → is_some (next x) ≡ c)
+    → is_some (option_and_then next o) ≡ b && c
+both_held None next b c first second = rw (← first) refl
+both_held (Some x) next b c first second = rw (← first) (second x)
+
+mutual
+  pub fits_value : (j : Json) → is_some (of_json j) ≡ list_all fits (json_tokens j)
+  fits_value null = refl
+  fits_value (boolean b) = refl
+  fits_value (number s) = some_map tree.number (number_of s) ∙ with_true (is_some (number_of s))
+  fits_value (string s) = refl
+  fits_value (array js) = some_map tree.array (of_items js) ∙ fits_items js
+  fits_value (object ms) = some_map tree.object (of_members ms tree.no_members) ∙ fits_members ms tree.no_members
+
+  fits_items : (js : json.Items) → is_some (of_items js) ≡ list_all fits (items_tokens js)
+  fits_items no_items = refl
+  fits_items (item j js) =
+      both_held (of_json j) (λ d. option_map (tree.item d) (of_items js)) (list_all fits (json_tokens j)) (list_all fits (items_tokens js))
+      (fits_value j) (λ d. some_map (tree.item d) (of_items js) ∙ fits_items js)
+      ∙ sym (list_all-append fits (json_tokens j) (items_tokens js))
+
+  fits_members : (ms : json.Members) (found : Members) → is_some (of_members ms found) ≡ list_all fits (members_tokens ms)
+  fits_members no_members found = refl
+  fits_members (member k j ms) found =
+      both_held (of_json j) (λ d. of_members ms (put k d found)) (list_all fits (json_tokens j)) (list_all fits (members_tokens ms))
+      (fits_value j) (λ d. fits_members ms (put k d found))
+      ∙ sym (list_all-append fits (json_tokens j) (members_tokens ms))
+
+-- ---- The value of a text
+
+pub none_left : (ts : List Token) → ts ++ [] ≡ ts
+none_left [] = refl
+none_left (t ∷ ts) = ap (λ us. t ∷ us) (none_left ts)
+
+held : {A : Type 0} (o : Option A) → is_some o ≡ true → (x : A) × (o ≡ Some x)
+held None some = absurd (true≢false (sym some))
+held (Some x) some = (x, refl)
+
+not_held : {A : Type 0} (o : Option A) → is_some o ≡ false → o ≡ None
+not_held None some = refl
+not_held (Some x) some = absurd (true≢false some)
+
+abbrev document : List ℕ → Option Json
+document text = option_and_then (λ p. if_last p.0 p.1) (value max_depth (tokens text))
+
+-- the tokens of a value
+pub there : (text : List ℕ) (ts : List Token) → AreTokens (tokens text) ts
+    → (j : Json) × (whole : Data) × (ts ≡ json_tokens j) × (of_json j ≡ Some whole) × (read text ≡ Some whole)
+there text ts (same, (j, after, is, nests, done), fit) =
+    let spelled : ts ≡ json_tokens j = is ∙ ap (λ us. json_tokens j ++ us) done ∙ none_left (json_tokens j) in
+    let found = held (of_json j) (fits_value j ∙ ap (list_all fits) (sym spelled) ∙ fit) in
+    let here : tokens text ≡ json_tokens j ++ [] = sym same ∙ spelled ∙ sym (none_left (json_tokens j)) in
+    (j, found.0, spelled, found.1,
+    ap (λ us. option_and_then of_json (option_and_then (λ p. if_last p.0 p.1) (value max_depth us))) here
+    ∙ ap (λ o. option_and_then of_json (option_and_then (λ p. if_last p.0 p.1) o)) (value_back j max_depth [] nests) ∙ found.1)
+
+-- the tokens of none
+pub not_there : (text : List ℕ) → AreNoTokens (tokens text) → read text ≡ None
+not_there text none = by (value max_depth (tokens text)) refl
+  where
+    by : (o : Option (Json × List Token)) → value max_depth (tokens text) ≡ o
+        → option_and_then of_json (option_and_then (λ p. if_last p.0 p.1) o) ≡ None
+    by None is = refl
+    by (Some (j, t ∷ ts)) is = refl
+    by (Some (j, [])) is = not_held (of_json j) (small (list_all fits (tokens text)) refl)
+      where
+        spelled : tokens text ≡ json_tokens j ++ []
+        spelled = value-json_tokens_back max_depth (tokens text) [] j is
+
+        comes : Comes most_open [] true [] (tokens text)
+        comes = (j, [], spelled, value-depth max_depth (tokens text) [] j is, refl)
+
+        small : (b : Bool) → list_all fits (tokens text) ≡ b → is_some (of_json j) ≡ false
+        small true fit = absurd (none comes fit)
+        small false fit = fits_value j ∙ ap (list_all fits) (sym (spelled ∙ none_left (json_tokens j))) ∙ fit
+
+nothing_read : read [] ≡ None
+unfolding serde_json_on_literals
+nothing_read = refl
+
+-- a text that is read has a byte
+pub some_text : (text : List ℕ) (whole : Data) → read text ≡ Some whole → 0 < length text
+some_text [] whole is = let never : Some whole ≡ None = sym is ∙ nothing_read in absurd (cc)
+some_text (byte ∷ bytes) whole is = omega arith
+
+no_tokens : tokens [] ≡ []
+unfolding json_on_literals
+no_tokens = refl
+
+some_byte : (bytes : List ℕ) → 0 < length (tokens bytes) → 0 < length bytes
+some_byte [] some = subst (λ (ts : List Token). 0 < length ts) no_tokens some
+some_byte (byte ∷ bytes) some = omega arith
+
+-- why there are no tokens
+pub fault_given : (bytes : List ℕ) (cause : JsonTextError) → (cause ≡ fault.Json → AreNoTokens (tokens bytes))
+    → (cause ≡ fault.Memory → 0 < length (tokens bytes)) → GivesJsonTokens bytes (Err cause)
+fault_given bytes fault.Json none some = value_refused bytes (λ text. not_there bytes (none refl))
+fault_given bytes fault.Memory none some = some_byte bytes (some refl)
+
+none_of_nothing : json_of [] ≡ None
+none_of_nothing = by (is_utf8 [])
+  where
+    by : (b : Bool) → if b then read [] else None ≡ None
+    by true = nothing_read
+    by false = refl
+
+-- bytes that have a value aren't empty
+pub some_bytes : (bytes : List ℕ) (whole : Data) → json_of bytes ≡ Some whole → 0 < length bytes
+some_bytes [] whole is = let never : Some whole ≡ None = sym is ∙ none_of_nothing in absurd (cc)
+some_bytes (byte ∷ bytes) whole is = omega arith
+
+-- ---- An outline
+
+-- what is kept of the first tokens is kept of the value
+pub outline_given : {S : Type 0} (keeps : S → List ℕ → Portion S) (sieve : S) (text : List ℕ) (ts new : List Token) (r : Result Value AllocError)
+    → AreTokens (tokens text) ts → IsUtf8 text → IfOk r (λ value. IsOutlined keeps (Some sieve) ts (view value) new)
+    → IfOk r (λ value. GivesOutline keeps sieve text (Ok value))
+outline_given keeps sieve text ts new (Ok value) are utf8 outlined =
+    let found = there text ts are in
+    let kept = outlined found.0 [] found.1 (found.2 ∙ sym (none_left (json_tokens found.0))) found.3 in
+    (found.1, value_there text found.1 utf8 found.4, kept.1)
+outline_given keeps sieve text ts new (Err error) are utf8 outlined = outlined

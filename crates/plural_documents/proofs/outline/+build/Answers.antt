@@ -1,0 +1,121 @@
+use Rattle.std.proofs.Common.{◌⊎◌, inl, inr, ◌≡◌, ℕ, suc, ◌≤◌, ◌∷◌, List, [], length, ◌++◌, refl, sym, ap, subst, ◌∙◌, arith, rules}
+use Rattle.json.specs.Reads.{token_of}
+use Rattle.json.specs.Token.{Token}
+use Rattle.json.specs.declared.token.Token.{Token as Held}
+use Rattle.json.specs.declared.token.Token.TheVariants as held
+use Rattle.std.specs.Borrow.{Bor}
+use Rattle.plural_documents.specs.Inner.OutlineSteps.{IsOutlined}
+use Rattle.plural_documents.proofs.OpenLemmas.{no_items_left, no_value}
+use Rattle.plural_documents.proofs.OutlinedLemmas.{array_outlined, boolean_outlined, no_number, none_outlined, null_outlined, number_outlined, object_outlined, part_passed, part_put, string_outlined, view_bool, view_null, view_number, view_string}
+use Rattle.plural_documents.proofs.outline.+build.Goals as goal
+use Rattle.serde_json.specs.Data.{null, put}
+use Rattle.serde_json.specs.View.{members_view, view}
+use Rattle.serde_json.proofs.Views.{members_view-insert_entry, view-Array, view-Object}
+use Rattle.plural_documents.proofs.WalkLemmas.{MembersGoOn, item_added, items_ended, member_added, members_ended, members_not_cut, no_end, no_key}
+use Rattle.plural_documents.proofs.ItemLemmas.{items_after, with_no_more}
+use Rattle.plural_documents.proofs.outline.+build.Goals.{outlined_members-in-Some+in_default-first, outlined_members-in_default, whole_items-in-Some+in-EndArray, whole_items-in_default}
+
+one_shorter : (n m k most : ℕ) → n ≤ m → k ≡ suc m → k ≤ most → n ≤ most
+one_shorter n m k most less more within = omega arith
+
+pub keep_member-returns-in_default-clause-keeps : goal.keep_member-returns-in_default-clause-keeps
+keep_member-returns-in_default-clause-keeps g n c value rest whole is read = absurd (no_value value rest (sym c.in_default.ensures.0 ∙ is))
+
+pub keep_member-returns-in-Whole-clause-keeps : goal.keep_member-returns-in-Whole-clause-keeps
+keep_member-returns-in-Whole-clause-keeps g n c =
+    rw (c.in-Some.ensures, sym c.portion_below.ensures ∙ c.in-Whole.is) c.put_outlined.ensures.puts
+
+pub keep_member-returns-in-Members-clause-keeps : goal.keep_member-returns-in-Members-clause-keeps
+keep_member-returns-in-Members-clause-keeps g n c =
+    rw (c.in-Some.ensures, sym c.portion_below.ensures ∙ c.in-Members.is) c.put_outlined-in-Members.ensures.puts
+
+pub outlined-returns-in_ok-outlined_members-in-BeginObject-clause-outlined : goal.outlined-returns-in_ok-outlined_members-in-BeginObject-clause-outlined
+outlined-returns-in_ok-outlined_members-in-BeginObject-clause-outlined g n c =
+    rw (c.in-BeginObject.is, view-Object _)
+    (object_outlined g.S.Sieve.keeps c.args.sieve c.args.left.now c.outlined_members.new.left _ c.in_ok-outlined_members-in-BeginObject.ensures.members)
+
+pub outlined-returns-in_ok-whole_items-in-BeginArray-clause-outlined : goal.outlined-returns-in_ok-whole_items-in-BeginArray-clause-outlined
+outlined-returns-in_ok-whole_items-in-BeginArray-clause-outlined g n c =
+    rw (c.in-BeginArray.is, view-Array _)
+    (array_outlined g.S.Sieve.keeps c.args.sieve c.args.left.now c.whole_items.new.left _ c.in_ok-whole_items-in-BeginArray.ensures.items)
+
+pub outlined-returns-in_ok-from_str-in-String-clause-outlined : goal.outlined-returns-in_ok-from_str-in-String-clause-outlined
+outlined-returns-in_ok-from_str-in-String-clause-outlined g n c =
+    rw (c.in-String.is, view_string _, c.in_ok-from_str-in-String.ensures.ok)
+    (string_outlined g.S.Sieve.keeps c.args.sieve _ c.args.left.now)
+
+pub outlined-returns-in-Some-clause-outlined : goal.outlined-returns-in-Some-clause-outlined
+outlined-returns-in-Some-clause-outlined g n c =
+    rw (c.in-Number.is, view_number _)
+    (number_outlined g.S.Sieve.keeps c.args.sieve _ _ c.args.left.now (sym c.in-Some.ensures))
+
+pub outlined-returns-in-None-clause-outlined : goal.outlined-returns-in-None-clause-outlined
+outlined-returns-in-None-clause-outlined g n c =
+    rw (c.in-Number.is) (no_number g.S.Sieve.keeps c.args.sieve _ _ c.args.left.now (sym c.in-None.ensures))
+
+pub outlined-returns-in-Bool-clause-outlined : goal.outlined-returns-in-Bool-clause-outlined
+outlined-returns-in-Bool-clause-outlined g n c = rw (c.in-Bool.is, view_bool _) (boolean_outlined g.S.Sieve.keeps c.args.sieve _ c.args.left.now)
+
+pub outlined-returns-in-Null-clause-outlined : goal.outlined-returns-in-Null-clause-outlined
+outlined-returns-in-Null-clause-outlined g n c =
+    rw (view_null) (by c.args.first c.in-Null.is)
+  where
+    by : (first : Held) → (first ≡ held.Null) ⊎ (((k : Bor (List ℕ)) × (first ≡ held.Key k)) ⊎ ((first ≡ held.EndObject) ⊎ ((first ≡ held.EndArray) ⊎ (first ≡ held.Bad))))
+        → IsOutlined g.S.Sieve.keeps c.args.sieve (token_of first ∷ c.args.left.now) null c.args.left.now
+    by first (inl is) = rw (is) (null_outlined g.S.Sieve.keeps c.args.sieve c.args.left.now)
+    by first (inr (inl (k, is))) = rw (is) (none_outlined g.S.Sieve.keeps c.args.sieve (Token.key k.now) null c.args.left.now c.args.left.now refl)
+    by first (inr (inr (inl is))) = rw (is) (none_outlined g.S.Sieve.keeps c.args.sieve Token.end_object null c.args.left.now c.args.left.now refl)
+    by first (inr (inr (inr (inl is)))) = rw (is) (none_outlined g.S.Sieve.keeps c.args.sieve Token.end_array null c.args.left.now c.args.left.now refl)
+    by first (inr (inr (inr (inr is)))) = rw (is) (none_outlined g.S.Sieve.keeps c.args.sieve Token.bad null c.args.left.now c.args.left.now refl)
+
+pub outlined_members-loop-first-preserved : goal.outlined_members-loop-first-preserved
+outlined_members-loop-first-preserved g n c = (
+    (λ members rest whole is read. member_added g.S.Sieve.keeps c.args.sieve _ _ c.keep_member.new.left rest whole _ _
+        (subst (λ (ts : List Token). MembersGoOn g.S.Sieve.keeps c.args.sieve (members_view c.loop-first.members.entries) ts rest whole)
+        (c.in-Some.ensures ∙ ap (λ t. token_of t ∷ c.next.new.self) c.in-Key.is)
+        (c.loop-first.invariant.0 members rest whole is read)) c.in_ok-keep_member.ensures.keeps),
+    one_shorter (length c.keep_member.new.left) (length c.next.new.self) (length c.loop-first.left) (length c.args.left.now)
+        c.in_ok-keep_member.ensures.shorter (ap length c.in-Some.ensures) c.loop-first.invariant.1,
+  )
+
+pub outlined_members-returns-clause-members : goal.outlined_members-returns-clause-members
+outlined_members-returns-clause-members g n c ms rest whole is read =
+    let now = c.loop-first.invariant.0 ms rest whole is read in
+    let found = members_view c.loop-first.members.entries in
+    elim c.match-next.branch [
+      outlined_members-in-Some+in_default-first w ↦
+          members_ended g.S.Sieve.keeps c.args.sieve (token_of w.in-Some.first) c.next.new.self rest whole found
+          (no_key w.in-Some.first w.in_default-first.not-Key)
+          (subst (λ (ts : List Token). MembersGoOn g.S.Sieve.keeps c.args.sieve found ts rest whole) w.in-Some.ensures now)
+      | outlined_members-in_default w ↦
+          absurd (members_not_cut g.S.Sieve.keeps c.args.sieve rest whole found
+          (subst (λ (ts : List Token). MembersGoOn g.S.Sieve.keeps c.args.sieve found ts rest whole) w.in_default.ensures.0 now))
+    ]
+
+pub put_outlined-returns-clause-puts : goal.put_outlined-returns-clause-puts
+put_outlined-returns-clause-puts g n c =
+    part_put g.S.Sieve.keeps c.args.sieve c.args.key.now _ c.outlined.new.left _ _ _ c.in_ok-value.ensures.outlined
+    (ap members_view c.in_ok-insert.ensures.entries ∙ members_view-insert_entry c.args.members.now.entries c.in_ok-from_str.field-0 c.in_ok-value.value
+    ∙ ap (λ key. put key (view c.in_ok-value.value) (members_view c.args.members.now.entries)) c.in_ok-from_str.ensures.ok)
+
+pub whole_items-loop-first-preserved : goal.whole_items-loop-first-preserved
+whole_items-loop-first-preserved g n c = (
+    (λ items rest whole is read.
+        let now = c.loop-first.invariant.0 items rest whole is read in
+        rw (c.in_ok-push.ensures.items)
+        (item_added g.S.Sieve.keeps c.loop-first.items.items _ now.0 _ c.next.new.self rest c.outlined.new.left now.1 whole
+        (sym c.in-Some.ensures ∙ now.2) (no_end c.in-Some.first c.in_default-first.not-EndArray) now.3 now.4 c.in_ok-outlined.ensures.outlined)),
+    one_shorter (length c.outlined.new.left) (length c.next.new.self) (length c.loop-first.left) (length c.args.left.now)
+        c.in_ok-outlined.ensures.shorter (ap length c.in-Some.ensures) c.loop-first.invariant.1,
+  )
+
+pub whole_items-returns-clause-items : goal.whole_items-returns-clause-items
+whole_items-returns-clause-items g n c items rest whole is read =
+    let now = c.loop-first.invariant.0 items rest whole is read in
+    elim c.match-next.branch [
+      whole_items-in-Some+in-EndArray w ↦
+          let last = items_ended now.0 c.next.new.self rest now.1
+              (sym (w.in-Some.ensures ∙ ap (λ t. token_of t ∷ c.next.new.self) w.in-EndArray.is) ∙ now.2) now.3 in
+          (last.0, now.4 ∙ ap (items_after c.loop-first.items.items) last.1 ∙ with_no_more c.loop-first.items.items)
+      | whole_items-in_default w ↦ absurd (no_items_left now.0 rest (sym w.in_default.ensures.0 ∙ now.2))
+    ]

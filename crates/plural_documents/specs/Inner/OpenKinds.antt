@@ -1,0 +1,11 @@
+-- Not a definition of the subject: what is open at a place of a JSON text, the innermost first.
+use Rattle.std.specs.Prelude.{ℕ, zero, suc, ◌/◌, ◌%◌, ◌==◌, List, [], ◌∷◌, Bool, Option, Some, None}
+
+-- as many bits, the lowest first: an object is true
+abbrev pub open_of : ℕ → ℕ → List Bool
+open_of zero objects = []
+open_of (suc count) objects = (objects % 2 == 1) ∷ open_of count (objects / 2)
+
+abbrev pub innermost : List Bool → Option Bool
+innermost [] = None
+innermost (first ∷ opened) = Some first

@@ -1,0 +1,118 @@
+//! Which tokens may come at a place of a JSON text.
+
+ghost use Rattle.std.specs.Bool.{MatchBool};
+ghost use Rattle.std.specs.Prelude.{◌≡◌, [], true};
+ghost use Rattle.json.specs.Reads.{token_of};
+ghost use Rattle.json.specs.Token.{key};
+ghost use Rattle.plural_documents.specs.Inner.OpenBrackets.{Goes, GoesByScalar, IsAfter, IsRefused, beginning, ending, goes_on, may_have_value};
+
+use crate::nesting::Nesting;
+use json::Token;
+
+// A place of a text: what is open there, and whether a value has to come, as at the start and after
+// a key.
+#[derive(Drop)]
+pub(crate) struct TokenPlace {
+    open: Nesting,
+    is_due: bool,
+}
+
+impl TokenPlace {
+    // The start of a text.
+    pub(crate) fn start() -> TokenPlace
+        ensures { (result.is_due ≡ true) × (result.open ≡ []) }
+    {
+        TokenPlace {
+            open: Nesting::none(),
+            is_due: true,
+        }
+    }
+
+    // Returns whether a value has ended, and nothing is open.
+    pub(crate) fn is_end(&self) -> bool
+        ensures { MatchBool result (IsAfter self.now []) (IsAfter self.now [] → ⊥) }
+    {
+        !self.is_due && self.open.innermost().is_none()
+    }
+
+    // Goes on behind a token. It may not come here if this is false.
+    pub(crate) fn pass(&mut self, token: Token<'_>) -> bool
+        ensures { MatchBool result (Goes self.old (token_of token.entry) self.new) (IsRefused self.old (token_of token.entry)) }
+    {
+        match token {
+            Token::BeginObject => self.begin(true),
+            Token::BeginArray => self.begin(false),
+            Token::EndObject => self.end(true),
+            Token::EndArray => self.end(false),
+            Token::Key(name) => self.pass_key(name),
+            Token::String(_) | Token::Number(_) | Token::Bool(_) | Token::Null => {
+                self.pass_scalar()
+            }
+            Token::Bad => false,
+        }
+    }
+
+    // Returns whether it goes on in an object, if this is true, or in an array.
+    fn goes_on(&self, is_object: bool) -> bool
+        ensures { result ≡ goes_on is_object self.now.is_due self.now.open }
+    {
+        if self.is_due {
+            return false;
+        }
+        match self.open.innermost() {
+            Some(first) => first == is_object,
+            None => false,
+        }
+    }
+
+    // Returns whether a value may come.
+    fn may_have_value(&self) -> bool
+        ensures { result ≡ may_have_value self.now.is_due self.now.open }
+    {
+        self.is_due || self.goes_on(false)
+    }
+
+    // Goes on in an object or an array.
+    fn begin(&mut self, is_object: bool) -> bool
+        ensures { MatchBool result (Goes self.old (beginning is_object) self.new) (IsRefused self.old (beginning is_object)) }
+    {
+        if !self.may_have_value() {
+            return false;
+        }
+        self.is_due = false;
+        self.open.open(is_object)
+    }
+
+    // Goes on behind an object or an array.
+    fn end(&mut self, is_object: bool) -> bool
+        ensures { MatchBool result (Goes self.old (ending is_object) self.new) (IsRefused self.old (ending is_object)) }
+    {
+        if !self.goes_on(is_object) {
+            return false;
+        }
+        self.open.close();
+        true
+    }
+
+    // Goes on behind a key.
+    fn pass_key(&mut self, name: &str) -> bool
+        ensures { MatchBool result (Goes self.old (key name.now) self.new) (IsRefused self.old (key name.now)) }
+    {
+        if !self.goes_on(true) {
+            return false;
+        }
+        self.is_due = true;
+        true
+    }
+
+    // Goes on behind a value that is no object and no array.
+    fn pass_scalar(&mut self) -> bool
+        ensures { GoesByScalar result self.old self.new }
+    {
+        if !self.may_have_value() {
+            return false;
+        }
+        self.is_due = false;
+        true
+    }
+}
