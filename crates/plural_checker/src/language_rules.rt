@@ -34,16 +34,16 @@ impl<'data> Model for LanguageRules<'data> {
 
 impl<'data> LanguageRules<'data> {
     // Returns the rules with this data.
-    pub(crate) fn of(data: PluralRulesData<'data>) -> Result<LanguageRules<'data>, AllocError>
-        ensures { IfOk result (λ language. language ≡ rules_of data.entry) }
+    pub(crate) fn of(five: PluralRulesData<'data>) -> Result<LanguageRules<'data>, AllocError>
+        ensures { IfOk result (λ language. language ≡ rules_of five.entry) }
     {
-        let many_ranges = if range_count(&data) > FEW_RANGES {
-            Some(data.try_clone()?)
+        let many_ranges = if range_count(&five) > FEW_RANGES {
+            Some(five.try_clone()?)
         } else {
             None
         };
         Ok(LanguageRules {
-            rules: PluralRules::from_data(data),
+            rules: PluralRules::from_data(five),
             many_ranges,
         })
     }
