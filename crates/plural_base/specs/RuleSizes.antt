@@ -13,6 +13,6 @@ rule_size (Some relations) = length relations + range_count relations
 abbrev pub rules_size : FiveRules → ℕ
 rules_size rules = rule_size rules.zero + rule_size rules.one + rule_size rules.two + rule_size rules.few + rule_size rules.many
 
--- they are at most 128
+-- they are at most 64
 abbrev pub HaveFewRanges : FiveRules → Type 0
-HaveFewRanges rules = rules_size rules ≤ 128
+HaveFewRanges rules = rules_size rules ≤ 64

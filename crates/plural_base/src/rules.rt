@@ -169,7 +169,7 @@ impl<'data> PluralRules<'data> {
         Categories::of(&self.data)
     }
 
-    /// Returns whether the rules have few ranges, at most 128 with their relations in all five, so
+    /// Returns whether the rules have few ranges, at most 64 with their relations in all five, so
     /// that [`PreparedRules::from_rules`] costs less than some hundred calls of
     /// [`PluralRules::category_for`]. Those of a language of CLDR 41 have at most 35. No relation
     /// is read behind the one that makes them too many.

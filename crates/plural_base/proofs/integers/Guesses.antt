@@ -151,26 +151,45 @@ guesses told o rules =
 
 -- ---- Entries as they are written, rule by rule
 
--- A class that is wanted gets the category of a rule that is surely true, and stays wanted if it can't
--- be. What is written afterwards is told of it if it is wanted, and nothing is if it isn't.
+-- what is written for a class by a rule
+abbrev pub written : Bool → Bool → Bool → PluralCategory → Option PluralCategory → Option PluralCategory
+written wanted sure maybe category entry = if wanted && sure then Some category else (if wanted && maybe then None else entry)
+
+-- A class that is wanted gets the category of a rule that is surely true, and nothing if it may be;
+-- it stays wanted if it can't be. What is written afterwards is told of it if it is wanted.
 by_step : (wanted sure maybe : Bool) (category : PluralCategory) (entry last others : Option PluralCategory)
     → (sure ≡ true → maybe ≡ true)
-    → (((wanted && not maybe) ≡ true → (if wanted && sure then Some category else entry) ≡ None)
-    → last ≡ (if wanted && not maybe then others else (if wanted && sure then Some category else entry)))
-    → (wanted ≡ true → entry ≡ None) → last ≡ (if wanted then told_step sure maybe category others else entry)
-by_step true true true category entry last others f after none = after (λ h. absurd (cc h))
-by_step true true false category entry last others f after none = absurd (cc (f refl))
-by_step true false true category entry last others f after none = after (λ h. absurd (cc h)) ∙ none refl
-by_step true false false category entry last others f after none = after (λ h. none refl)
-by_step false sure maybe category entry last others f after none = after (λ h. absurd (cc h))
+    → (((wanted && not maybe) ≡ true → written wanted sure maybe category entry ≡ Some Other)
+    → last ≡ (if wanted && not maybe then others else written wanted sure maybe category entry))
+    → (wanted ≡ true → entry ≡ Some Other) → last ≡ (if wanted then told_step sure maybe category others else entry)
+by_step true true true category entry last others f after other = after (λ h. absurd (cc h))
+by_step true true false category entry last others f after other = absurd (cc (f refl))
+by_step true false true category entry last others f after other = after (λ h. absurd (cc h))
+by_step true false false category entry last others f after other = after (λ h. other refl)
+by_step false sure maybe category entry last others f after other = after (λ h. absurd (cc h))
 
 pub one_more_rule : (wanted left sure maybe : Bool) (category : PluralCategory) (entry next last others : Option PluralCategory)
     → (sure ≡ true → maybe ≡ true)
-    → left ≡ (wanted && not maybe) → next ≡ (if wanted && sure then Some category else entry)
-    → ((left ≡ true → next ≡ None) → last ≡ (if left then others else next))
-    → (wanted ≡ true → entry ≡ None) → last ≡ (if wanted then told_step sure maybe category others else entry)
+    → left ≡ (wanted && not maybe) → next ≡ written wanted sure maybe category entry
+    → ((left ≡ true → next ≡ Some Other) → last ≡ (if left then others else next))
+    → (wanted ≡ true → entry ≡ Some Other) → last ≡ (if wanted then told_step sure maybe category others else entry)
 one_more_rule wanted left sure maybe category entry next last others f left_is next_is after =
-    let P : Bool → Type 0 = λ l. (l ≡ true → next ≡ None) → last ≡ (if l then others else next) in
+    let P : Bool → Type 0 = λ l. (l ≡ true → next ≡ Some Other) → last ≡ (if l then others else next) in
     let Q : Option PluralCategory → Type 0 = λ n.
-    ((wanted && not maybe) ≡ true → n ≡ None) → last ≡ (if wanted && not maybe then others else n) in
+    ((wanted && not maybe) ≡ true → n ≡ Some Other) → last ≡ (if wanted && not maybe then others else n) in
     by_step wanted sure maybe category entry last others f (subst Q next_is (subst P left_is after))
+
+-- what is still wanted after the last rule is other
+pub last_rule : (left : Bool) (entry : Option PluralCategory) → (left ≡ true → entry ≡ Some Other) → entry ≡ (if left then Some Other else entry)
+last_rule true entry other = other refl
+last_rule false entry other = refl
+
+-- a category where it is surely true, and nothing where that isn't told
+pub written_by : (wanted sure maybe : Bool) (category : PluralCategory) (entry : Option PluralCategory) → (sure ≡ true → maybe ≡ true)
+    → (if wanted && not (sure || not maybe) then None else (if wanted && sure then Some category else entry))
+    ≡ written wanted sure maybe category entry
+written_by false sure maybe category entry f = refl
+written_by true true true category entry f = refl
+written_by true true false category entry f = absurd (cc (f refl))
+written_by true false true category entry f = refl
+written_by true false false category entry f = refl

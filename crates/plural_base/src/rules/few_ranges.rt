@@ -11,7 +11,7 @@ use crate::rules::data::PluralRulesData;
 use plural_runtime::Rule;
 
 // Up to this many relations and ranges rules have few.
-const FEW_RANGES: usize = 128;
+const FEW_RANGES: usize = 64;
 
 // Whether rules have few ranges. It reads no relation after that which makes them too many.
 pub(crate) fn has_few_ranges(rules: &PluralRulesData<'_>) -> bool
@@ -22,7 +22,7 @@ pub(crate) fn has_few_ranges(rules: &PluralRulesData<'_>) -> bool
 
 // How many relations and ranges rules may have more to have few.
 fn left_of_few(rules: &PluralRulesData<'_>) -> Option<usize>
-    ensures { IsLeft (rules_size (rules_of rules.now)) 128 result }
+    ensures { IsLeft (rules_size (rules_of rules.now)) 64 result }
 {
     let mut left = FEW_RANGES;
     for_five!(rules, |rule| left = left_after(rule, left)?);

@@ -164,19 +164,25 @@ fn asked(rules: &PluralRules<'_>, number: u64) -> PluralCategory
 fn low_categories(rules: &PluralRules<'_>) -> [PluralCategory; 128]
     ensures { AreLowEntries rules.now result }
 {
-    // Rules of many ranges are asked for each number: they read no more than it needs.
-    let wanted = if has_few_ranges(&rules.data) {
-        u128::MAX
-    } else {
-        0
-    };
-    let mut told = [None; 128];
-    tell_categories(&rules.data, LowNumbers, wanted, &mut told);
+    let told = told_low(&rules.data);
     let mut low = [PluralCategory::Other; 128];
     for k in 0..128usize {
         low[k] = low_category(rules, told[k], k as u64);
     }
     low
+}
+
+// The categories of these numbers as far as they are told. Rules of many ranges are asked for each
+// number: they read no more than it needs.
+fn told_low(rules: &PluralRulesData<'_>) -> [Option<PluralCategory>; 128]
+    ensures { (n : ℕ) → n < 128 → IsTold (category_of_whole (rules_of rules.now) n) (slice_index_or result n None) }
+{
+    if !has_few_ranges(rules) {
+        return [None; 128];
+    }
+    let mut told = [Some(PluralCategory::Other); 128];
+    tell_categories(rules, LowNumbers, u128::MAX, &mut told);
+    told
 }
 
 // The category of a number: the one that is told of it, else by the rules themselves.
@@ -199,7 +205,7 @@ fn low_category(
 fn cycle_categories(rules: &PluralRulesData<'_>, bound: u64) -> [Option<PluralCategory>; 100]
     ensures { AreAllTold (rules_of rules.now) bound result }
 {
-    let mut cycle = [None; 100];
+    let mut cycle = [Some(PluralCategory::Other); 100];
     tell_categories(rules, ResidueClasses { bound }, ALL_RESIDUES, &mut cycle);
     cycle
 }
@@ -209,7 +215,7 @@ fn cycle_categories(rules: &PluralRulesData<'_>, bound: u64) -> [Option<PluralCa
 fn fraction_categories(rules: &PluralRulesData<'_>) -> [Option<PluralCategory>; 2]
     ensures { AreAllFractionsTold (rules_of rules.now) (slice_index_or result 0 None) (slice_index_or result 1 None) }
 {
-    let mut fractions = [None; 2];
+    let mut fractions = [Some(PluralCategory::Other); 2];
     tell_categories(rules, FractionClasses, ALL_FRACTIONS, &mut fractions);
     fractions
 }

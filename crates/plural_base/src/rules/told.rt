@@ -3,6 +3,7 @@
 ghost use Rattle.std.specs.Prelude.{◌≡◌, ◌<◌, ◌&&◌, ℕ, Bool, false, true, not, if◌then◌else◌, length, slice_index_or, None, Some};
 ghost use Rattle.plural_operands.specs.Operands.{Operands};
 ghost use Rattle.plural_runtime.specs.Inner.RuleViews.{lent_relation};
+ghost use Rattle.plural_base.specs.declared.category.PluralCategory.{PluralCategory as Category};
 ghost use Rattle.plural_base.specs.FiveRules.{passes, rules_of};
 ghost use Rattle.plural_base.specs.Inner.Masks.{has_bit, IsToldAt};
 ghost use Rattle.plural_base.specs.Inner.WholeNumbers.{earlier_after, group_after, told_category};
@@ -42,28 +43,28 @@ struct Walk {
 }
 
 // Writes the category that five rules give all numbers of a class, at the place of each wanted class
-// where it is told, in entries that have none. A rule is read for those classes alone of which each
-// rule before it is told to be false.
+// where it is told, and nothing where it isn't, in entries of other. A rule is read for those
+// classes alone of which each rule before it is told to be false.
 pub(crate) fn tell_categories<C: NumberClasses>(
     rules: &PluralRulesData<'_>,
     classes: C,
     wanted: u128,
     entries: &mut [Option<PluralCategory>],
 )
-    requires { (class : ℕ) → slice_index_or entries.old class None ≡ None }
+    requires { (class : ℕ) → class < length entries.old → slice_index_or entries.old class None ≡ Some Category.Other }
     ensures { (class : ℕ) (o : Operands) → class < 128 → class < length entries.old → C.has classes class o
         → slice_index_or entries.new class None
-        ≡ (if has_bit wanted class then told_category (C.is_told classes class) o (rules_of rules.now) else None) }
+        ≡ (if has_bit wanted class then told_category (C.is_told classes class) o (rules_of rules.now) else Some Category.Other) }
 {
     let mut wanted = wanted;
     for_five!(rules, |rule, category| {
         wanted = tell(rule, category, classes, wanted, entries);
     });
-    write_at(entries, wanted, PluralCategory::Other);
 }
 
-// Writes a category at the places of the wanted classes of which its rule is told to be true. Returns
-// those of which it is told to be false. No rule is read for no class.
+// Writes a category for the wanted classes of which its rule is told to be true, and nothing for
+// those of which it isn't told. Returns those of which it is told to be false. No rule is read for
+// no class.
 fn tell<C: NumberClasses>(
     rule: &Option<Rule<'_>>,
     category: PluralCategory,
@@ -74,7 +75,8 @@ fn tell<C: NumberClasses>(
     ensures written { (class : ℕ) (o : Operands) → class < 128 → class < length entries.old → C.has classes class o
         → slice_index_or entries.new class None
         ≡ (if has_bit wanted class && passes (rule_or false (C.is_told classes class) o) rule.now then Some category
-        else slice_index_or entries.old class None) }
+        else (if has_bit wanted class && passes (rule_or true (C.is_told classes class) o) rule.now then None
+        else slice_index_or entries.old class None)) }
     ensures left { (class : ℕ) (o : Operands) → class < 128 → C.has classes class o → has_bit result class
         ≡ (has_bit wanted class && not (passes (rule_or true (C.is_told classes class) o) rule.now)) }
 {
@@ -85,7 +87,8 @@ fn tell<C: NumberClasses>(
         return 0;
     }
     let told = told_relations(rule, classes, wanted);
-    write_at(entries, wanted & told.yes, category);
+    write_at(entries, wanted & told.yes, Some(category));
+    write_at(entries, wanted & !(told.yes | told.no), None);
     wanted & told.no
 }
 
@@ -147,10 +150,10 @@ fn and_relation<C: NumberClasses>(
     both(group, classes.told_relation(relation))
 }
 
-// Writes a category at each place of a mask that the table has.
-fn write_at(entries: &mut [Option<PluralCategory>], places: u128, category: PluralCategory)
+// Writes an entry at each place of a mask that the table has.
+fn write_at(entries: &mut [Option<PluralCategory>], places: u128, entry: Option<PluralCategory>)
     ensures { (place : ℕ) → place < 128 → place < length entries.old → slice_index_or entries.new place None
-        ≡ (if has_bit places place then Some category else slice_index_or entries.old place None) }
+        ≡ (if has_bit places place then entry else slice_index_or entries.old place None) }
 {
     let mut left = places;
     while left != 0 {
@@ -158,7 +161,7 @@ fn write_at(entries: &mut [Option<PluralCategory>], places: u128, category: Plur
         if place as usize >= entries.len() {
             return;
         }
-        entries[place as usize] = Some(category);
+        entries[place as usize] = entry;
         left &= !(1 << place);
     }
 }

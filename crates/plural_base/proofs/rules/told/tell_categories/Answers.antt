@@ -4,7 +4,7 @@ use Rattle.plural_base.specs.declared.category.PluralCategory.TheVariants.{Zero,
 use Rattle.plural_base.specs.FiveRules.{rules_of}
 use Rattle.plural_base.specs.Inner.Masks.{has_bit}
 use Rattle.plural_base.specs.Inner.WholeNumbers.{told_category}
-use Rattle.plural_base.proofs.integers.Guesses.{one_more_rule, ordered_rule}
+use Rattle.plural_base.proofs.integers.Guesses.{last_rule, one_more_rule, ordered_rule}
 use Rattle.plural_base.proofs.rules.told.tell_categories.Goals as goal
 
 pub returns : goal.returns
@@ -16,10 +16,9 @@ returns g c = λ class o h within has.
     let second : class < length c.tell-wanted-2.new.entries = omega (arith, first, c.tell-wanted-2.auto.entries) in
     let third : class < length c.tell-wanted-3.new.entries = omega (arith, second, c.tell-wanted-3.auto.entries) in
     let fourth : class < length c.tell-wanted-4.new.entries = omega (arith, third, c.tell-wanted-4.auto.entries) in
-    let fifth : class < length c.tell-wanted-5.new.entries = omega (arith, fourth, c.tell-wanted-5.auto.entries) in
     let many = one_more_rule _ _ _ _ Many _ _ _ _ (ordered_rule told o rules.many)
     (c.tell-wanted-5.ensures.left class o h has) (c.tell-wanted-5.ensures.written class o h fourth has)
-    (λ none. c.write_at.ensures class h fifth) in
+    (last_rule _ _) in
     let few = one_more_rule _ _ _ _ Few _ _ _ _ (ordered_rule told o rules.few)
     (c.tell-wanted-4.ensures.left class o h has) (c.tell-wanted-4.ensures.written class o h third has) many in
     let two = one_more_rule _ _ _ _ Two _ _ _ _ (ordered_rule told o rules.two)
@@ -27,5 +26,5 @@ returns g c = λ class o h within has.
     let one = one_more_rule _ _ _ _ One _ _ _ _ (ordered_rule told o rules.one)
     (c.tell-wanted-2.ensures.left class o h has) (c.tell-wanted-2.ensures.written class o h first has) two in
     one_more_rule _ _ _ _ Zero _ _ _ _ (ordered_rule told o rules.zero)
-    (c.tell-wanted.ensures.left class o h has) (c.tell-wanted.ensures.written class o h within has) one (λ is. c.requires class)
-    ∙ ap (λ entry. if has_bit c.args.wanted class then told_category told o rules else entry) (c.requires class)
+    (c.tell-wanted.ensures.left class o h has) (c.tell-wanted.ensures.written class o h within has) one (λ is. c.requires class within)
+    ∙ ap (λ entry. if has_bit c.args.wanted class then told_category told o rules else entry) (c.requires class within)

@@ -1,6 +1,5 @@
 use Rattle.std.proofs.Common.{◌^◌, ◌<◌, ◌∙◌, length, ap, arith, rules}
 use Rattle.std.specs.Int.{w128, trailing_zeros}
-use Rattle.std.specs.Prelude.{Some}
 use Rattle.plural_base.specs.Inner.Masks.{has_bit}
 use Rattle.plural_base.proofs.integers.Bits.{first_of_mask, has-none, smaller}
 use Rattle.plural_base.proofs.integers.Writes.{one_more}
@@ -30,7 +29,7 @@ loop-left-preserved c =
     let fits : left < 2 ^ 128 = search rules in
     let first = first_of_mask left above fits in
     let inside : trailing_zeros w128 left < length c.loop-left.entries = omega (arith, c.if-place-entries.false) in
-    one_more c.args.entries.now c.loop-left.entries c.args.places left (Some c.args.category) (trailing_zeros w128 left) first.0 inside
+    one_more c.args.entries.now c.loop-left.entries c.args.places left c.args.entry (trailing_zeros w128 left) first.0 inside
     first.1 c.loop-left.invariant
 
 pub returns : goal.returns
