@@ -48,6 +48,7 @@ pub(crate) struct Seen<'s, 'p> {
 }
 
 // The first branch of a keyword.
+#[inline(always)]
 fn branch_of_keyword<'s, 'p>(word: &[u8], depth: usize, parts: &'s [Part<'p>]) -> Seen<'s, 'p>
     ensures branch { any_parts result.branch ≡ branch_of_keyword word.now (branches_of depth (parts_view parts.now)) }
     ensures left { behind_end depth (parts_view result.left.now) ≡ behind_end depth (parts_view parts.now) }
