@@ -1,9 +1,8 @@
 -- An outline of a document of rules serves as the whole does, where the chain stays inside.
 use Rattle.std.proofs.Common.{◌≡◌, ℕ, zero, suc, ◌<◌, ◌≤◌, List, true, Option, Some, None, Result, Ok, Err, inl, inr, refl, sym, ap, ◌∙◌, arith}
-use Rattle.std.specs.Prelude.{is_some, option_and_then}
+use Rattle.std.specs.Prelude.{IfOk, is_some, option_and_then}
+use Rattle.std.specs.declared.alloc.AllocError.{AllocError}
 use Rattle.plural_documents.specs.Outlines.{GivesOutline, outline}
-use Rattle.plural_documents.specs.declared.JsonTextError.{JsonTextError}
-use Rattle.plural_documents.specs.declared.JsonTextError.TheVariants as fault
 use Rattle.plural_documents.specs.declared.Portion.TheVariants as kept
 use Rattle.plural_fallback.specs.Chain.{next_of}
 use Rattle.plural_fallback.specs.FirstKeys.{NoneBefore, locale_at}
@@ -134,3 +133,8 @@ pub outline_is_served : (part : Part) (locale bytes : List ℕ) (locales : KeptL
     → IsServedBy part locale bytes (view value)
 outline_is_served part locale bytes locales value kept stays =
     (kept.0, kept.1, outline_serves part locale locales kept.0 (view value) kept.2 stays)
+
+pub all_served : (part : Part) (locale bytes : List ℕ) (r : Result Value AllocError)
+    → IfOk r (λ value. GivesOutline keeps (Document part All) bytes (Ok value)) → IfOk r (λ value. IsServedBy part locale bytes (view value))
+all_served part locale bytes (Ok value) kept = outline_is_served part locale bytes All value kept (all_stay (view value) part locale)
+all_served part locale bytes (Err error) kept = kept

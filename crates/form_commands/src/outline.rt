@@ -141,10 +141,7 @@ fn serving_outline(
         return Ok(outline);
     }
     let parents = text.outline(alloc, RulesSieve::Parents)?;
-    let mut steps = [locale.as_bytes(); MOST_STEPS];
-    let count = walk(&parents, locale.as_bytes(), &mut steps);
-    let chain = KeptLocales::These(&steps[..count]);
-    if let Some(outline) = outline_inside(alloc, part, locale, chain, text)? {
+    if let Some(outline) = outline_of_chain(alloc, part, locale, &parents, text)? {
         return Ok(outline);
     }
     drop(parents);
@@ -169,13 +166,29 @@ fn outline_inside(
     }
 }
 
+// Returns what is kept for the first locales of the chain, if it stays among them.
+fn outline_of_chain<'a>(
+    alloc: Global,
+    part: Part,
+    locale: &'a str,
+    parents: &'a Value,
+    text: &JsonTokens<'_>,
+) -> Result<Option<Value>, AllocError>
+    ensures { IfOk result (λ found. IfSome found (λ document. IsServedBy part locale.now text.now (view document))) }
+{
+    let mut steps = [locale.as_bytes(); MOST_STEPS];
+    let count = walk(parents, locale.as_bytes(), &mut steps);
+    let chain = KeptLocales::These(&steps[..count]);
+    outline_inside(alloc, part, locale, chain, text)
+}
+
 // Writes the first locales of a chain, and returns how many.
 fn walk<'a>(
     parents: &'a Value,
     locale: &'a [u8],
     steps: &mut [&'a [u8]; MOST_STEPS],
 ) -> usize
-    ensures { result ≤ MOST_STEPS }
+    ensures { result ≤ length steps.new }
 {
     let mut current = locale;
     let mut count = 0;

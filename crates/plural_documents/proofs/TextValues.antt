@@ -25,7 +25,6 @@ use Rattle.std.specs.Str.{IsUtf8, is_utf8}
 use Rattle.std.specs.declared.alloc.AllocError.{AllocError}
 use Rattle.serde_json.specs.View.{view}
 use Rattle.serde_json.specs.declared.value.Value.{Value}
-use Rattle.serde_json.proofs.OnLiterals.{serde_json_on_literals}
 use Rattle.serde_json.specs.Data.{Data, Members, put}
 use Rattle.serde_json.specs.Data as tree
 use Rattle.serde_json.specs.Read.{max_depth, number_of, of_items, of_json, of_members, read}
@@ -117,15 +116,6 @@ not_there text none = by (value max_depth (tokens text)) refl
         small true fit = absurd (none comes fit)
         small false fit = fits_value j ∙ ap (list_all fits) (sym (spelled ∙ none_left (json_tokens j))) ∙ fit
 
-nothing_read : read [] ≡ None
-unfolding serde_json_on_literals
-nothing_read = refl
-
--- a text that is read has a byte
-pub some_text : (text : List ℕ) (whole : Data) → read text ≡ Some whole → 0 < length text
-some_text [] whole is = let never : Some whole ≡ None = sym is ∙ nothing_read in absurd (cc)
-some_text (byte ∷ bytes) whole is = omega arith
-
 no_tokens : tokens [] ≡ []
 unfolding json_on_literals
 no_tokens = refl
@@ -139,18 +129,6 @@ pub fault_given : (bytes : List ℕ) (cause : JsonTextError) → (cause ≡ faul
     → (cause ≡ fault.Memory → 0 < length (tokens bytes)) → GivesJsonTokens bytes (Err cause)
 fault_given bytes fault.Json none some = value_refused bytes (λ text. not_there bytes (none refl))
 fault_given bytes fault.Memory none some = some_byte bytes (some refl)
-
-none_of_nothing : json_of [] ≡ None
-none_of_nothing = by (is_utf8 [])
-  where
-    by : (b : Bool) → if b then read [] else None ≡ None
-    by true = nothing_read
-    by false = refl
-
--- bytes that have a value aren't empty
-pub some_bytes : (bytes : List ℕ) (whole : Data) → json_of bytes ≡ Some whole → 0 < length bytes
-some_bytes [] whole is = let never : Some whole ≡ None = sym is ∙ none_of_nothing in absurd (cc)
-some_bytes (byte ∷ bytes) whole is = omega arith
 
 -- ---- An outline
 

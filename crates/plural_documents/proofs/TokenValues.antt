@@ -13,25 +13,25 @@ more_by_one m n less = omega arith
 below_one : (m n : ℕ) → m ≤ n → m < suc n
 below_one m n less = omega arith
 
-begins_no_end : (j : Json) (ts : List Token) → after_end_array (json_tokens j ++ ts) ≡ None
+begins_no_end : (v : Json) (ts : List Token) → after_end_array (json_tokens v ++ ts) ≡ None
 begins_no_end null ts = refl
 begins_no_end (boolean b) ts = refl
 begins_no_end (number s) ts = refl
 begins_no_end (string s) ts = refl
-begins_no_end (array js) ts = refl
-begins_no_end (object ms) ts = refl
+begins_no_end (array vs) ts = refl
+begins_no_end (object pairs) ts = refl
 
 more_than : (one two : List Token) → length two ≤ length (one ++ two)
 more_than [] two = omega arith
 more_than (t ∷ one) two = more_by_one (length two) (length (one ++ two)) (more_than one two)
 
-has_token : (j : Json) (ts : List Token) → length ts < length (json_tokens j ++ ts)
+has_token : (v : Json) (ts : List Token) → length ts < length (json_tokens v ++ ts)
 has_token null ts = omega arith
 has_token (boolean b) ts = omega arith
 has_token (number s) ts = omega arith
 has_token (string s) ts = omega arith
-has_token (array js) ts = below_one (length ts) (length (items_tokens js ++ ts)) (more_than (items_tokens js) ts)
-has_token (object ms) ts = below_one (length ts) (length (members_tokens ms ++ ts)) (more_than (members_tokens ms) ts)
+has_token (array vs) ts = below_one (length ts) (length (items_tokens vs ++ ts)) (more_than (items_tokens vs) ts)
+has_token (object pairs) ts = below_one (length ts) (length (members_tokens pairs ++ ts)) (more_than (members_tokens pairs) ts)
 
 some_room : (m k n : ℕ) → m < k → k ≤ n → 0 < n
 some_room m k n less room = omega arith
@@ -49,42 +49,42 @@ both : (one two n : ℕ) → max one two ≤ n → (one ≤ n) × (two ≤ n)
 both one two n is = (grind arith, grind arith)
 
 mutual
-  pub value_back : (j : Json) (d : ℕ) (rest : List Token) → depth j ≤ d → value d (json_tokens j ++ rest) ≡ Some (j, rest)
-  value_back null d rest nests = value_is d (Token.null ∷ rest)
-  value_back (boolean b) d rest nests = value_is d (Token.boolean b ∷ rest)
-  value_back (number s) d rest nests = value_is d (Token.number s ∷ rest)
-  value_back (string s) d rest nests = value_is d (Token.string s ∷ rest)
-  value_back (array js) d rest nests =
-      value-begin_array d (items_tokens js ++ rest) (omega arith)
-      ∙ ap (parse_map array) (items_back js (d - 1) (length (items_tokens js ++ rest)) rest (omega arith) (omega arith))
-  value_back (object ms) d rest nests =
-      value-begin_object d (members_tokens ms ++ rest) (omega arith)
-      ∙ ap (parse_map object) (members_back ms (d - 1) (length (members_tokens ms ++ rest)) rest (omega arith) (omega arith))
+  pub value_back : (v : Json) (most : ℕ) (rest : List Token) → depth v ≤ most → value most (json_tokens v ++ rest) ≡ Some (v, rest)
+  value_back null most rest nests = value_is most (Token.null ∷ rest)
+  value_back (boolean b) most rest nests = value_is most (Token.boolean b ∷ rest)
+  value_back (number s) most rest nests = value_is most (Token.number s ∷ rest)
+  value_back (string s) most rest nests = value_is most (Token.string s ∷ rest)
+  value_back (array vs) most rest nests =
+      value-begin_array most (items_tokens vs ++ rest) (omega arith)
+      ∙ ap (parse_map array) (items_back vs (most - 1) (length (items_tokens vs ++ rest)) rest (omega arith) (omega arith))
+  value_back (object pairs) most rest nests =
+      value-begin_object most (members_tokens pairs ++ rest) (omega arith)
+      ∙ ap (parse_map object) (members_back pairs (most - 1) (length (members_tokens pairs ++ rest)) rest (omega arith) (omega arith))
 
-  items_back : (js : Items) (d n : ℕ) (rest : List Token) → items_depth js ≤ d → length (items_tokens js ++ rest) ≤ n
-      → items (value d) n (items_tokens js ++ rest) ≡ Some (js, rest)
-  items_back no_items d n rest nests room = items_end (value d) n (Token.end_array ∷ rest) rest room refl
-  items_back (item j js) d n rest nests room =
-      let deep = both (depth j) (items_depth js) d nests in
-      let others = items_tokens js ++ rest in
-      let same = joined (json_tokens j) (items_tokens js) rest in
-      let longer = has_token j others in
+  items_back : (vs : Items) (most n : ℕ) (rest : List Token) → items_depth vs ≤ most → length (items_tokens vs ++ rest) ≤ n
+      → items (value most) n (items_tokens vs ++ rest) ≡ Some (vs, rest)
+  items_back no_items most n rest nests room = items_end (value most) n (Token.end_array ∷ rest) rest room refl
+  items_back (item v vs) most n rest nests room =
+      let deep = both (depth v) (items_depth vs) most nests in
+      let others = items_tokens vs ++ rest in
+      let same = joined (json_tokens v) (items_tokens vs) rest in
+      let longer = has_token v others in
       let fits = subst (λ (k : ℕ). k ≤ n) (ap length same) room in
-      ap (items (value d) n) same
-      ∙ items_more (value d) n (json_tokens j ++ others) others j (some_room (length others) (length (json_tokens j ++ others)) n longer fits)
-      (begins_no_end j others) (value_back j d others deep.0)
-      ∙ ap (parse_map (item j)) (items_back js d (n - 1) rest deep.1 (room_left (length others) (length (json_tokens j ++ others)) n longer fits))
+      ap (items (value most) n) same
+      ∙ items_more (value most) n (json_tokens v ++ others) others v (some_room (length others) (length (json_tokens v ++ others)) n longer fits)
+      (begins_no_end v others) (value_back v most others deep.0)
+      ∙ ap (parse_map (item v)) (items_back vs most (n - 1) rest deep.1 (room_left (length others) (length (json_tokens v ++ others)) n longer fits))
 
-  members_back : (ms : Members) (d n : ℕ) (rest : List Token) → members_depth ms ≤ d → length (members_tokens ms ++ rest) ≤ n
-      → members (value d) n (members_tokens ms ++ rest) ≡ Some (ms, rest)
-  members_back no_members d n rest nests room = members_end (value d) n (Token.end_object ∷ rest) rest room refl
-  members_back (member k j ms) d n rest nests room =
-      let deep = both (depth j) (members_depth ms) d nests in
-      let others = members_tokens ms ++ rest in
-      let same = joined (json_tokens j) (members_tokens ms) rest in
-      let longer = has_token j others in
+  members_back : (pairs : Members) (most n : ℕ) (rest : List Token) → members_depth pairs ≤ most → length (members_tokens pairs ++ rest) ≤ n
+      → members (value most) n (members_tokens pairs ++ rest) ≡ Some (pairs, rest)
+  members_back no_members most n rest nests room = members_end (value most) n (Token.end_object ∷ rest) rest room refl
+  members_back (member k v pairs) most n rest nests room =
+      let deep = both (depth v) (members_depth pairs) most nests in
+      let others = members_tokens pairs ++ rest in
+      let same = joined (json_tokens v) (members_tokens pairs) rest in
+      let longer = has_token v others in
       let fits = subst (λ (k : ℕ). suc k ≤ n) (ap length same) room in
-      ap (λ ts. members (value d) n (Token.key k ∷ ts)) same
-      ∙ members_more (value d) n k (Token.key k ∷ (json_tokens j ++ others)) (json_tokens j ++ others) others j
-      (some_left (length (json_tokens j ++ others)) n fits) refl (value_back j d others deep.0)
-      ∙ ap (parse_map (member k j)) (members_back ms d (n - 1) rest deep.1 (left_over (length others) (length (json_tokens j ++ others)) n longer fits))
+      ap (λ ts. members (value most) n (Token.key k ∷ ts)) same
+      ∙ members_more (value most) n k (Token.key k ∷ (json_tokens v ++ others)) (json_tokens v ++ others) others v
+      (some_left (length (json_tokens v ++ others)) n fits) refl (value_back v most others deep.0)
+      ∙ ap (parse_map (member k v)) (members_back pairs most (n - 1) rest deep.1 (left_over (length others) (length (json_tokens v ++ others)) n longer fits))

@@ -82,9 +82,6 @@ fn outlined<S: Sieve>(
     ensures shorter { OnOk result (length left.new ≤ length left.old) }
 {
     match first {
-        Token::BeginObject => Ok(Value::Object(outlined_members(alloc, left, sieve)?)),
-        Token::BeginArray => Ok(Value::Array(whole_items::<S>(alloc, left)?)),
-        Token::String(text) => Ok(Value::String(String::from_str(alloc, text)?)),
         Token::Number(text) => match json_number(text) {
             Some(number) => Ok(Value::Number(number)),
             None => Ok(Value::Null),
@@ -93,6 +90,9 @@ fn outlined<S: Sieve>(
         Token::Null | Token::Key(_) | Token::EndObject | Token::EndArray | Token::Bad => {
             Ok(Value::Null)
         }
+        Token::String(words) => Ok(Value::String(String::from_str(alloc, words)?)),
+        Token::BeginArray => Ok(Value::Array(whole_items::<S>(alloc, left)?)),
+        Token::BeginObject => Ok(Value::Object(outlined_members(alloc, left, sieve)?)),
     }
 }
 

@@ -45,7 +45,7 @@ impl TokenPlace {
             Token::EndObject => self.end(true),
             Token::EndArray => self.end(false),
             Token::Key(name) => self.pass_key(name),
-            Token::String(_) | Token::Number(_) | Token::Bool(_) | Token::Null => {
+            Token::Null | Token::Bool(_) | Token::Number(_) | Token::String(_) => {
                 self.pass_scalar()
             }
             Token::Bad => false,

@@ -1,24 +1,26 @@
 //! Outlines of documents, beside their values.
 
 use crate::tests::assertion::holds;
-use plural_documents::{Choice, JsonTextError, Kept, json_outline, json_value};
+use plural_documents::{
+    JsonTextError, JsonTokens, Portion, Scratch, Sieve, json_outline, json_value,
+};
 use std::test::Fail;
 
 // The members with this key alone.
 #[derive(Clone, Copy)]
 struct Only<'a>(&'a str);
 
-impl<'a> Choice for Only<'a> {
+impl<'a> Sieve for Only<'a> {
     ghost use Rattle.std.specs.Prelude.{bytes_eq, if◌then◌else◌};
-    ghost use Rattle.plural_documents.specs.declared.Kept.TheVariants as kept;
+    ghost use Rattle.plural_documents.specs.declared.Portion.TheVariants as kept;
 
     ghost keeps = { λ only key. if bytes_eq key only.0.now then kept.Whole else kept.Nothing };
 
-    fn kept(&self, key: &str) -> Kept<Only<'a>> {
+    fn kept(&self, key: &str) -> Portion<Only<'a>> {
         if key == self.0 {
-            Kept::Whole
+            Portion::Whole
         } else {
-            Kept::Nothing
+            Portion::Nothing
         }
     }
 }
@@ -64,6 +66,37 @@ fn outlines_keep_members_by_their_keys(rt: HostRuntime) -> Result<(), Fail> {
         ("{\"b\": -9223372036854775809}", Some("{}")),
         ("{\"b\": 1e308}", Some("{}")),
         ("{\"b\": [-0, 1.5e3, {\"a\": [2]}, \"\"]}", Some("{}")),
+        // Integers end where 64 bits do, and above that there are floats.
+        ("{\"a\": [-0, 999999999999999999, 9223372036854775808]}", Some("{\"a\":[-0.0,999999999999999999,9223372036854775808]}")),
+        ("{\"a\": -9223372036854775808}", Some("{\"a\":-9223372036854775808}")),
+        ("{\"a\": 18446744073709551615}", Some("{\"a\":18446744073709551615}")),
+        // Brackets of two kinds in each other, and a value of each kind after another.
+        ("{\"a\": [{\"b\": [[], {}]}], \"b\": [{\"a\": []}, [{}]]}", Some("{\"a\":[{\"b\":[[],{}]}]}")),
+        ("{\"b\": {\"c\": {\"d\": [1]}}, \"a\": 2, \"c\": [], \"d\": {}}", Some("{\"a\":2}")),
+        // A key that isn't kept after one that is, and the other way about.
+        ("{\"a\": 1, \"b\": 2, \"a\": {\"b\": 3}, \"b\": 4}", Some("{\"a\":{\"b\":3}}")),
+        // Tokens that may not come: of the other kind, without a key, with one in an array, and after a
+        // key none.
+        ("[}", None),
+        ("{]", None),
+        ("{\"b\": [}]}", None),
+        ("{\"b\": {]}}", None),
+        ("{\"b\": {\"c\": []]}}", None),
+        ("{\"b\": [{}}]}", None),
+        ("{1}", None),
+        ("{\"b\": {null}}", None),
+        ("{\"b\": {[]}}", None),
+        ("[\"b\": 1]", None),
+        ("{\"b\": [\"c\": 1]}", None),
+        ("{\"b\":}", None),
+        ("{\"b\": {\"c\":}}", None),
+        ("{\"b\": \"c\": 1}", None),
+        ("]", None),
+        ("}", None),
+        ("[", None),
+        ("\"b\": 1", None),
+        ("1 2", None),
+        ("[] []", None),
         // Faults: in what is kept, in what is passed, and after the value.
         ("{\"a\": 1e999}", None),
         ("{\"b\": -1e999}", None),
@@ -109,6 +142,27 @@ fn values_nest_as_deep_as_serde_json_reads_them(rt: HostRuntime) -> Result<(), F
                 holds!(rt; outline.is_ok() == is_told, at depth);
             }
         }
+    }
+    Ok(())
+}
+
+#[test]
+fn a_text_is_read_once_for_any_outlines(rt: HostRuntime) -> Result<(), Fail> {
+    let text = "{\"a\": [1, \"\\u00e9\"], \"b\": {\"a\": 2.5}, \"c\": null}";
+    let mut scratch = Scratch::new(rt.alloc());
+    let Ok(tokens) = JsonTokens::read(rt.alloc(), text.as_bytes(), &mut scratch) else {
+        holds!(rt; false, text);
+        return Ok(());
+    };
+    for (key, want) in [
+        ("b", "{\"b\":{\"a\":2.5}}"),
+        ("a", "{\"a\":[1,\"é\"]}"),
+        ("d", "{}"),
+        ("b", "{\"b\":{\"a\":2.5}}"),
+    ] {
+        let outline = tokens.outline(rt.alloc(), Only(key))?;
+        let printed = outline.to_string(rt.alloc())?;
+        holds!(rt; printed.as_str() == want, key);
     }
     Ok(())
 }

@@ -1,4 +1,4 @@
-use Rattle.plural_documents.proofs.TextValues.{some_bytes}
+use Rattle.plural_documents.proofs.JsonTextLemmas.{some_bytes}
 use Rattle.plural_documents.proofs.outline.json_outline.Goals as goal
 
 pub returns : goal.returns

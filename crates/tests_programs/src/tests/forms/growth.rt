@@ -3,7 +3,8 @@
 use crate::tests::assertion::holds;
 use crate::tests::awaits::awaiting;
 use crate::tests::forms::asked::{
-    Asked, BESIDE_A_NUMBER, LINES, NOTE_OF_ANOTHER_LANGUAGE, OF_ANOTHER_LANGUAGE, RULES, answer,
+    Asked, BESIDE_A_NUMBER, LINES, NOTE_OF_ANOTHER_LANGUAGE, OF_A_LONG_CHAIN, OF_ANOTHER_LANGUAGE,
+    RULES, answer,
 };
 use form_commands::FormsError;
 use std::alloc::Global;
@@ -77,11 +78,18 @@ fn growth_beside_a_number(rt: HostRuntime) {
     hold_again(&rt, rt.alloc(), BESIDE_A_NUMBER, &asked)
 }
 
+// The questions with their notes where the rules are of another language.
+const OF_FRENCH: [(Asked, &str); 2] = [
+    (Asked::Lines, NOTE_OF_ANOTHER_LANGUAGE),
+    (Asked::Gettext, NOTE_OF_ANOTHER_LANGUAGE),
+];
+
 #[test]
 fn growth_where_a_second_outline_serves(rt: HostRuntime) {
-    let asked = [
-        (Asked::Lines, NOTE_OF_ANOTHER_LANGUAGE),
-        (Asked::Gettext, NOTE_OF_ANOTHER_LANGUAGE),
-    ];
-    hold_again(&rt, rt.alloc(), OF_ANOTHER_LANGUAGE, &asked)
+    hold_again(&rt, rt.alloc(), OF_ANOTHER_LANGUAGE, &OF_FRENCH)
+}
+
+#[test]
+fn growth_where_all_of_the_part_serves(rt: HostRuntime) {
+    hold_again(&rt, rt.alloc(), OF_A_LONG_CHAIN, &OF_FRENCH)
 }
