@@ -1,6 +1,6 @@
 //! Looks for the two least whole numbers of each category from 2 on.
 
-ghost use Rattle.std.specs.Prelude.{IsFalse, IsTrue};
+ghost use Rattle.std.specs.Prelude.{◌≤◌, IsFalse, IsTrue};
 ghost use Rattle.icu_plurals.specs.CategoryTables.{IsTableOf};
 ghost use Rattle.message_report.specs.Inner.SeenNumbers.{AreSeenBelow, AreFound, TellsEach};
 
@@ -52,25 +52,40 @@ fn see_by_tables(tables: &PreparedRules<'_>, categories: CategorySet, seen: &mut
     requires { AreSeenBelow tables.now ASKED seen.old }
     ensures { AreFound tables.now categories seen.new }
 {
-    if see_each(tables, categories, seen) {
+    if see_each(tables, ASKED, TWICE_TOLD, categories, seen) {
         return;
     }
     let bytes = tables.to_table();
     let Some(told) = CategoryTable::from_bytes(&bytes) else {
         return;
     };
-    if !tells_each(&told) {
+    if tells_each(&told) {
+        return;
+    }
+    if tells_one(&told) {
         see_untold(tables.rules(), &told, categories, seen);
+    } else {
+        see_each(tables, TWICE_TOLD, WHOLE_LIMIT, categories, seen);
     }
 }
 
-// Sees each of the next numbers, until each category has two. Returns whether each has.
-fn see_each(tables: &PreparedRules<'_>, categories: CategorySet, seen: &mut SeenNumbers) -> bool
-    requires { AreSeenBelow tables.now ASKED seen.old }
+// Sees each number from a start and before an end, until each category has two. Returns whether each
+// has.
+fn see_each(
+    tables: &PreparedRules<'_>,
+    start: u16,
+    end: u16,
+    categories: CategorySet,
+    seen: &mut SeenNumbers,
+) -> bool
+    requires seen { AreSeenBelow tables.now start seen.old }
+    requires from { 2 ≤ start }
+    requires order { start ≤ end }
+    requires end { end ≤ WHOLE_LIMIT }
     ensures found { IsTrue result → AreFound tables.now categories seen.new }
-    ensures seen { IsFalse result → AreSeenBelow tables.now TWICE_TOLD seen.new }
+    ensures seen { IsFalse result → AreSeenBelow tables.now end seen.new }
 {
-    for number in ASKED..TWICE_TOLD {
+    for number in start..end {
         let category = tables.category_for_integer(u64::from(number));
         if seen.add(category, number) && seen.have_two(categories) {
             return true;
@@ -89,6 +104,17 @@ fn tells_each(told: &CategoryTable<'_>) -> bool
         }
     }
     true
+}
+
+// Returns whether a table tells one of these numbers. If it tells none, it is no help to look there
+// before the rules are asked; what is told later is told by the tables, too.
+fn tells_one(told: &CategoryTable<'_>) -> bool {
+    for number in TOLD..TWICE_TOLD - 100 {
+        if told.category_for_integer(u64::from(number)).is_some() {
+            return true;
+        }
+    }
+    false
 }
 
 // Sees those of the last numbers that the table of the rules doesn't tell, until each category has
