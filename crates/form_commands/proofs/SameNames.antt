@@ -1,5 +1,5 @@
 -- Locales that are the same are inside of the same ones.
-use Rattle.std.proofs.Common.{◌≡◌, ℕ, List, [], ◌∷◌, true, length, take, map, nat_eq, refl, sym, ap, ◌∙◌}
+use Rattle.std.proofs.Common.{◌≡◌, ℕ, ◌<◌, List, [], ◌∷◌, Bool, true, false, length, take, take_all, map, nat_eq, refl, sym, ap, ◌∙◌, arith}
 use Rattle.std.specs.Prelude.{bytes_eq, codes}
 use Rattle.std.specs.Cmp.Derive.Mapped.{pointwise-map}
 use Rattle.std.proofs.lemmas.List.{length-map}
@@ -24,9 +24,26 @@ same_folds one other same = (bytes_eq-Decides (folds one) (folds other)).0 (sym 
 same_as : (one other third : List ℕ) → folds one ≡ folds other → is_same one third ≡ is_same other third
 same_as one other third same = same_is one third ∙ ap (λ f. bytes_eq f (folds third)) same ∙ sym (same_is other third)
 
+not_longer : (n m : ℕ) → m < n → n ≡ m → ⊥
+not_longer n m longer same = omega arith
+
 -- as long
 same_length : (one other : List ℕ) → folds one ≡ folds other → length one ≡ length other
 same_length one other same = sym (length-map one folded) ∙ ap length same ∙ length-map other folded
+
+-- locales of other lengths differ
+pub other_length : (one other : List ℕ) → (length one ≡ length other → ⊥) → is_same one other ≡ false
+other_length one other differs = by (is_same one other) refl
+  where
+    by : (same : Bool) → is_same one other ≡ same → same ≡ false
+    by true same = absurd (differs (same_length one other (same_folds one other same)))
+    by false same = refl
+
+-- so does one that is longer than the other is
+pub longer_differs : (locale longest : List ℕ) → length longest < length locale → is_same locale (take (length locale) longest) ≡ false
+longer_differs locale longest longer =
+    rw (take_all (length locale) longest (omega (arith, longer)))
+    (other_length locale longest (λ same. not_longer (length locale) (length longest) longer same))
 
 among_same : (one other : List ℕ) → folds one ≡ folds other → (steps : List (List ℕ)) → is_among one steps ≡ is_among other steps
 among_same one other same [] = refl

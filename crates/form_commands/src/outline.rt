@@ -1,6 +1,6 @@
 //! The outline of a document of rules: what is kept of it serves one locale as the whole does.
 
-ghost use Rattle.std.specs.Prelude.{◌≡◌, ◌≤◌, IfOk, IfSome, IsTrue, take, length};
+ghost use Rattle.std.specs.Prelude.{◌≡◌, ◌≤◌, IfOk, IfSome, IsTrue, codes, take, length};
 ghost use Rattle.form_commands.specs.Inner.RulesOutline.{IsServedBy, GivesRulesOutline, StaysInside, is_among, is_inside, is_part, steps_view};
 ghost use Rattle.plural_fallback.specs.LocaleNames.{is_same};
 ghost use Rattle.serde_json.specs.View.{view};
@@ -73,25 +73,37 @@ fn is_part(part: Part, key: &str) -> bool
 }
 
 // Returns whether a locale is among the kept ones.
+#[inline(always)]
 fn is_inside(locales: KeptLocales<'_>, locale: &[u8]) -> bool
     ensures { result ≡ is_inside locales.entry locale.now }
 {
     match locales {
-        KeptLocales::Fronts(longest) => is_front(locale, longest) || is_same(locale, b"root"),
+        KeptLocales::Fronts(longest) => is_front(locale, longest) || is_root(locale),
         KeptLocales::These(steps) => is_among(locale, steps),
         KeptLocales::All => true,
     }
 }
 
 // Returns whether a locale is the same as what another one begins with.
+#[inline(always)]
 fn is_front(locale: &[u8], longest: &[u8]) -> bool
     ensures { result ≡ is_same locale.now (take (length locale.now) longest.now) }
 {
-    if locale.len() < longest.len() {
-        is_same(locale, &longest[..locale.len()])
-    } else {
-        is_same(locale, longest)
+    if locale.len() > longest.len() {
+        return false;
     }
+    is_same(locale, &longest[..locale.len()])
+}
+
+// Returns whether a locale is `root`.
+#[inline(always)]
+fn is_root(locale: &[u8]) -> bool
+    ensures { result ≡ is_same locale.now (codes "root") }
+{
+    if locale.len() != 4 {
+        return false;
+    }
+    is_same(locale, b"root")
 }
 
 // Returns whether a locale is the same as one of these.
