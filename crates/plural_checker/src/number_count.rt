@@ -8,11 +8,12 @@ use icu_plurals::provider::rules::reference::ast::{
 // A longer text doesn't count.
 const MOST_BYTES: usize = 16;
 
-// A number as it is written: what its digits write without the point, and how many are behind it.
+// What was read of a number: what its digits write without the point, and if there is a point, how
+// many are behind it.
 #[derive(Clone, Copy)]
 struct PlainNumber {
     digits: u64,
-    places: usize,
+    places: Option<u64>,
 }
 
 // Returns how many numbers the samples have. No text is counted that writes no number, that has an
@@ -56,33 +57,41 @@ fn count_between(first: PlainNumber, last: PlainNumber) -> Option<u64> {
 
 // Returns the number of a sample's text, or `None` if it doesn't count.
 fn plain_number(sample: &DecimalValue) -> Option<PlainNumber> {
-    let text = sample.0.as_str();
-    if text.len() > MOST_BYTES {
+    let text = sample.0.as_str().as_bytes();
+    let first = text.first()?;
+    if text.len() > MOST_BYTES || !first.is_ascii_digit() {
         return None;
     }
-    let (whole, fraction) = match text.split_once('.') {
-        Some((whole, fraction)) if !fraction.is_empty() => (whole, fraction),
-        _ => (text, ""),
+    let mut number = PlainNumber {
+        digits: 0,
+        places: None,
     };
-    if whole.is_empty() {
-        return None;
+    for byte in text {
+        number = with_byte(number, *byte)?;
     }
-    Some(PlainNumber {
-        digits: with_digits(with_digits(0, whole)?, fraction)?,
-        places: fraction.len(),
-    })
-}
-
-// Returns what digits behind those of a number write with these, or `None` at another byte.
-fn with_digits(number: u64, text: &str) -> Option<u64> {
-    let mut number = number;
-    for byte in text.as_bytes() {
-        if !byte.is_ascii_digit() {
-            return None;
-        }
-        number = number
-            .saturating_mul(10)
-            .saturating_add(u64::from(*byte & 15));
+    if number.places == Some(0) {
+        return None;
     }
     Some(number)
+}
+
+// Returns a number with a byte more, or `None` if that is no digit and no first point.
+fn with_byte(number: PlainNumber, byte: u8) -> Option<PlainNumber> {
+    match byte {
+        b'0'..=b'9' => Some(PlainNumber {
+            digits: number
+                .digits
+                .saturating_mul(10)
+                .saturating_add(u64::from(byte - b'0')),
+            places: match number.places {
+                Some(places) => Some(places.saturating_add(1)),
+                None => None,
+            },
+        }),
+        b'.' if number.places.is_none() => Some(PlainNumber {
+            digits: number.digits,
+            places: Some(0),
+        }),
+        _ => None,
+    }
 }
