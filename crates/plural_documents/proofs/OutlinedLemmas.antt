@@ -1,6 +1,6 @@
 -- What is kept of a value, by its tokens.
-use Rattle.std.proofs.Common.{◌≡◌, ℕ, List, [], ◌∷◌, ◌++◌, Bool, true, false, true≢false, Option, Some, None, String, Global, string_bytes, refl, rules, sym, ap, ◌∙◌}
-use Rattle.std.specs.Prelude.{option_map, unwrap_or}
+use Rattle.std.proofs.Common.{◌≡◌, ℕ, List, [], ◌∷◌, ◌++◌, Bool, true, false, true≢false, Option, Some, None, Result, Ok, Err, String, Global, string_bytes, refl, rules, sym, ap, ◌∙◌}
+use Rattle.std.specs.Prelude.{OnOk, option_map, unwrap_or}
 use Rattle.json.specs.Json as json
 use Rattle.json.specs.Token.{Token}
 use Rattle.json.specs.Tree.{items_tokens, json_tokens, members_tokens}
@@ -22,6 +22,11 @@ held_map f (Some a) b is = (a, refl, sym (ap (λ o. unwrap_or o b) is))
 
 pub some_is : {A : Type 0} (a b : A) → Some a ≡ Some b → a ≡ b
 some_is a b is = ap (λ o. unwrap_or o a) is
+
+-- what follows at a success
+pub on_success : {A E P Q : Type 0} (r : Result A E) → (P → Q) → OnOk r P → OnOk r Q
+on_success (Ok a) next is = next is
+on_success (Err e) next is = is
 
 -- a value may begin with the token
 abbrev pub begins : Token → Bool

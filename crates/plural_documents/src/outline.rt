@@ -4,6 +4,7 @@ ghost use Rattle.std.specs.Prelude.{◌≡◌, ◌∷◌, ◌≤◌, IfOk, Ok, O
 ghost use Rattle.json.specs.Reads.{token_of};
 ghost use Rattle.plural_documents.specs.Inner.OutlineSteps.{AreItems, AreOutlined, IsOutlined, KeepsPart, portion_below, portion_by};
 ghost use Rattle.plural_documents.specs.Outlines.{GivesOutline};
+ghost use Rattle.serde_json.specs.Data.{put};
 ghost use Rattle.serde_json.specs.View.{items_view, members_view, view};
 
 use crate::json_number::json_number;
@@ -176,6 +177,20 @@ fn put_outlined<S: Sieve>(
     ensures shorter { OnOk result (length left.new ≤ length left.old) }
 {
     let value = outlined(alloc, first, left, sieve)?;
+    put_value(alloc, key, value, members)
+}
+
+// Adds a value under its key, in place of one that stands there. It isn't inlined, since its frame
+// would be on the stack at each level.
+#[inline(never)]
+fn put_value(
+    alloc: Global,
+    key: &str,
+    value: Value,
+    members: &mut Map<String, Value>,
+) -> Result<(), AllocError>
+    ensures { OnOk result (members_view members.new.entries ≡ put key.now (view value) (members_view members.old.entries)) }
+{
     members.insert(String::from_str(alloc, key)?, value)?;
     Ok(())
 }

@@ -6,11 +6,11 @@ use Rattle.json.specs.declared.token.Token.TheVariants as held
 use Rattle.std.specs.Borrow.{Bor}
 use Rattle.plural_documents.specs.Inner.OutlineSteps.{IsOutlined}
 use Rattle.plural_documents.proofs.OpenLemmas.{no_items_left, no_value}
-use Rattle.plural_documents.proofs.OutlinedLemmas.{array_outlined, boolean_outlined, no_number, none_outlined, null_outlined, number_outlined, object_outlined, part_passed, part_put, string_outlined, view_bool, view_null, view_number, view_string}
+use Rattle.plural_documents.proofs.OutlinedLemmas.{array_outlined, boolean_outlined, no_number, none_outlined, null_outlined, number_outlined, object_outlined, on_success, part_passed, part_put, string_outlined, view_bool, view_null, view_number, view_string}
 use Rattle.plural_documents.proofs.outline.+build.Goals as goal
-use Rattle.serde_json.specs.Data.{null, put}
+use Rattle.serde_json.specs.Data.{null}
 use Rattle.serde_json.specs.View.{members_view, view}
-use Rattle.serde_json.proofs.Views.{members_view-insert_entry, view-Array, view-Object}
+use Rattle.serde_json.proofs.Views.{view-Array, view-Object}
 use Rattle.plural_documents.proofs.WalkLemmas.{MembersGoOn, item_added, items_ended, member_added, members_ended, members_not_cut, no_end, no_key}
 use Rattle.plural_documents.proofs.ItemLemmas.{items_after, with_no_more}
 use Rattle.plural_documents.proofs.outline.+build.Goals.{outlined_members-in-Some+in_default-first, outlined_members-in_default, whole_items-in-Some+in-EndArray, whole_items-in_default}
@@ -94,9 +94,10 @@ outlined_members-returns-clause-members g n c ms rest whole is read =
 
 pub put_outlined-returns-clause-puts : goal.put_outlined-returns-clause-puts
 put_outlined-returns-clause-puts g n c =
-    part_put g.S.Sieve.keeps c.args.sieve c.args.key.now _ c.outlined.new.left _ _ _ c.in_ok-value.ensures.outlined
-    (ap members_view c.in_ok-insert.ensures.entries ∙ members_view-insert_entry c.args.members.now.entries c.in_ok-from_str.field-0 c.in_ok-value.value
-    ∙ ap (λ key. put key (view c.in_ok-value.value) (members_view c.args.members.now.entries)) c.in_ok-from_str.ensures.ok)
+    on_success c.put_value.result
+    (part_put g.S.Sieve.keeps c.args.sieve c.args.key.now (token_of c.args.first ∷ c.args.left.now) c.outlined.new.left (view c.in_ok-value.value)
+    (members_view c.args.members.now.entries) (members_view c.put_value.new.members.entries) c.in_ok-value.ensures.outlined)
+    c.put_value.ensures
 
 pub whole_items-loop-first-preserved : goal.whole_items-loop-first-preserved
 whole_items-loop-first-preserved g n c = (
