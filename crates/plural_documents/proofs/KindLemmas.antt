@@ -1,7 +1,6 @@
 -- What is open, as bits.
 use Rattle.std.proofs.Common.{◌≡◌, ℕ, zero, suc, ◌+◌, ◌*◌, ◌/◌, ◌^◌, ◌<◌, ◌≤◌, ◌∷◌, Bool, true, false, cond, length, lit≤, refl, ap, subst, arith}
 use mir.Val.{bool_byte}
-use Rattle.std.specs.Prelude.{◌==◌}
 use Rattle.std.proofs.Math.Pow.{pow_mono}
 use Rattle.std.proofs.lemmas.Nat.{div-mul-add, mod-mul-add}
 use Rattle.plural_documents.specs.Inner.OpenKinds.{open_of}

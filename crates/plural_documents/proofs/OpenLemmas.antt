@@ -1,5 +1,5 @@
 -- Which tokens come at a place of a JSON text.
-use Rattle.std.proofs.Common.{◌≡◌, ℕ, zero, suc, ◌-◌, ◌<◌, ◌≤◌, List, [], ◌∷◌, ◌++◌, length, Bool, true, false, refl, sym, ap, subst, ◌∙◌, arith}
+use Rattle.std.proofs.Common.{◌≡◌, ℕ, suc, ◌-◌, ◌<◌, ◌≤◌, List, [], ◌∷◌, ◌++◌, length, Bool, true, false, refl, sym, ap, subst, ◌∙◌, arith}
 use Rattle.std.specs.Prelude.{max}
 use Rattle.json.specs.Json.{Json, null, boolean, number, string, array, object, Items, no_items, item, Members, no_members, member}
 use Rattle.json.specs.Token.{Token}
@@ -148,9 +148,13 @@ module _ (most : ℕ) (rest : List Token) where
 
   -- a value, and the items after it
   item_first : (opened : List Bool) (ts : List Token) → Comes most rest true (false ∷ opened) ts → Comes most rest false (false ∷ opened) ts
-  item_first opened ts (j, after, is, nests, (js, last, are, all_nest, done)) =
-      (item j js, last, is ∙ ap (λ us. json_tokens j ++ us) are ∙ sym (joined (json_tokens j) (items_tokens js) last),
-      either (depth j) (items_depth js) (most - suc (length opened)) nests all_nest, done)
+  item_first opened ts (j, after, is, nests, (js, last, are, all_nest, done)) = (
+    item j js,
+    last,
+    is ∙ ap (λ us. json_tokens j ++ us) are ∙ sym (joined (json_tokens j) (items_tokens js) last),
+    either (depth j) (items_depth js) (most - suc (length opened)) nests all_nest,
+    done,
+  )
 
   value_first : (opened : List Bool) (t : Token) (ts : List Token) → Follows true opened t ts → Comes most rest true opened (t ∷ ts)
   value_first opened Token.begin_object ts (in_most, (ms, after, is, nests, done)) =
@@ -168,10 +172,13 @@ module _ (most : ℕ) (rest : List Token) where
 
   key_first : (opened : List Bool) (k : List ℕ) (ts : List Token) → Comes most rest true (true ∷ opened) ts
       → Comes most rest false (true ∷ opened) (Token.key k ∷ ts)
-  key_first opened k ts (j, after, is, nests, (ms, last, are, all_nest, done)) =
-      (member k j ms, last,
-      ap (λ us. Token.key k ∷ us) (is ∙ ap (λ us. json_tokens j ++ us) are ∙ sym (joined (json_tokens j) (members_tokens ms) last)),
-      either (depth j) (members_depth ms) (most - suc (length opened)) nests all_nest, done)
+  key_first opened k ts (j, after, is, nests, (ms, last, are, all_nest, done)) = (
+    member k j ms,
+    last,
+    ap (λ us. Token.key k ∷ us) (is ∙ ap (λ us. json_tokens j ++ us) are ∙ sym (joined (json_tokens j) (members_tokens ms) last)),
+    either (depth j) (members_depth ms) (most - suc (length opened)) nests all_nest,
+    done,
+  )
 
   in_array_first : (opened : List Bool) (t : Token) (ts : List Token) → Follows true (false ∷ opened) t ts
       → Comes most rest false (false ∷ opened) (t ∷ ts)

@@ -1,5 +1,5 @@
 -- Outlines: of an object that a member was put into, and what is found in them.
-use Rattle.std.proofs.Common.{◌≡◌, ℕ, Bool, List, Option, Some, None, Ordering, Less, Equal, Greater, nat_cmp, false, true≢false, refl, sym, ap, ◌∙◌}
+use Rattle.std.proofs.Common.{◌≡◌, ℕ, List, Option, Some, None, Ordering, Less, Equal, Greater, nat_cmp, false, true≢false, refl, sym, ap, ◌∙◌}
 use Rattle.std.proofs.lemmas.Cmp.{nat_list_cmp_total, tied_itself}
 use Rattle.std.proofs.lemmas.Map.Text.{is_eq-slice_cmp}
 use Rattle.std.proofs.lemmas.Slice.Eq.{bytes_eq-Decides}
@@ -10,7 +10,7 @@ use Rattle.plural_documents.specs.Outlines.{outline, outline_members, with_membe
 use Rattle.plural_documents.specs.Inner.OutlineSteps.{members_by, portion_below, put_portion}
 use Rattle.plural_documents.specs.declared.outline.Portion.{Portion}
 use Rattle.plural_documents.specs.declared.outline.Portion.TheVariants as kept
-use Rattle.serde_json.specs.Data.{Data, Items, Num, null, boolean, number, string, array, object, Members, no_members, member, put}
+use Rattle.serde_json.specs.Data.{Data, null, boolean, number, string, array, object, Members, no_members, member, put}
 use Rattle.serde_json.specs.Find.{get_member}
 
 -- ---- Members in the order of their keys

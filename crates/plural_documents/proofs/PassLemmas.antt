@@ -1,9 +1,9 @@
 -- How a value ends, by the count of what is open.
-use Rattle.std.proofs.Common.{◌≡◌, ℕ, zero, suc, ◌-◌, ◌<◌, ◌≤◌, List, [], ◌∷◌, ◌++◌, length, Bool, true, false, refl, sym, ap, subst, ◌∙◌, true≢false, arith}
+use Rattle.std.proofs.Common.{◌≡◌, ℕ, suc, ◌-◌, ◌<◌, ◌≤◌, List, [], ◌∷◌, ◌++◌, length, Bool, true, false, refl, sym, ap, subst, ◌∙◌, true≢false, arith}
 use Rattle.json.specs.Json.{Json}
 use Rattle.json.specs.Token.{Token}
 use Rattle.json.specs.Tree.{depth, json_tokens}
-use Rattle.plural_documents.specs.Inner.OpenBrackets.{Comes, Completes}
+use Rattle.plural_documents.specs.Inner.OpenBrackets.{Comes}
 use Rattle.plural_documents.specs.Inner.OutlineSteps.{opened_after}
 use Rattle.plural_documents.proofs.OpenLemmas.{follows, not_end}
 

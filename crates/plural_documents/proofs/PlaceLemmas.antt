@@ -1,5 +1,5 @@
 -- How a place of a JSON text goes on.
-use Rattle.std.proofs.Common.{◌≡◌, ℕ, ◌<◌, ◌≤◌, List, [], ◌∷◌, length, Bool, true, false, refl, true≢false, arith}
+use Rattle.std.proofs.Common.{◌≡◌, ℕ, ◌<◌, ◌≤◌, List, [], ◌∷◌, length, Bool, true, false, true≢false, arith}
 use Rattle.std.specs.Prelude.{drop}
 use Rattle.json.specs.Token.{Token}
 use Rattle.plural_documents.specs.Inner.OpenBrackets.{Comes, Completes, beginning, ending, goes_on, is_scalar, may_have_value}
@@ -50,17 +50,20 @@ module _ (most : ℕ) where
   -- what may begin follows as a value does
   pub begins : (k is_due : Bool) (opened : List Bool) (ts : List Token) → may_have_value is_due opened ≡ true → length opened < most
       → Same (Next is_due opened (beginning k ∷ ts)) (Next false (k ∷ opened) ts)
-  begins k true opened ts may in_most =
-      (λ is. (begun k opened ts in_most).0 (follows most [] true opened (beginning k) ts is),
-      λ is. leads most [] true opened (beginning k) ts ((begun k opened ts in_most).1 is))
+  begins k true opened ts may in_most = (
+    λ is. (begun k opened ts in_most).0 (follows most [] true opened (beginning k) ts is),
+    λ is. leads most [] true opened (beginning k) ts ((begun k opened ts in_most).1 is),
+  )
   begins k false [] ts may in_most = absurd (true≢false (cc))
   begins k false (true ∷ opened) ts may in_most = absurd (true≢false (cc))
-  begins true false (false ∷ opened) ts may in_most =
-      (λ is. (follows most [] false (false ∷ opened) Token.begin_object ts is).1,
-      λ is. leads most [] false (false ∷ opened) Token.begin_object ts (in_most, is))
-  begins false false (false ∷ opened) ts may in_most =
-      (λ is. (follows most [] false (false ∷ opened) Token.begin_array ts is).1,
-      λ is. leads most [] false (false ∷ opened) Token.begin_array ts (in_most, is))
+  begins true false (false ∷ opened) ts may in_most = (
+    λ is. (follows most [] false (false ∷ opened) Token.begin_object ts is).1,
+    λ is. leads most [] false (false ∷ opened) Token.begin_object ts (in_most, is),
+  )
+  begins false false (false ∷ opened) ts may in_most = (
+    λ is. (follows most [] false (false ∷ opened) Token.begin_array ts is).1,
+    λ is. leads most [] false (false ∷ opened) Token.begin_array ts (in_most, is),
+  )
 
   not_both : (n m : ℕ) → n < m → m ≤ n → ⊥
   not_both n m less more = omega arith

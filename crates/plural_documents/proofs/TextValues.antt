@@ -1,13 +1,13 @@
 -- The value of a text, by its tokens.
-use Rattle.std.proofs.Common.{◌≡◌, ℕ, ◌-◌, ◌<◌, ◌≤◌, List, [], ◌∷◌, ◌++◌, length, Bool, true, false, ◌&&◌, Option, Some, None, Result, Ok, Err, refl, sym, ap, subst, ◌∙◌, true≢false, arith}
-use Rattle.std.specs.Prelude.{IfOk, if◌then◌else◌, is_some, option_and_then, option_map, unwrap_or}
+use Rattle.std.proofs.Common.{◌≡◌, ℕ, ◌<◌, List, [], ◌∷◌, ◌++◌, length, Bool, true, false, ◌&&◌, Option, Some, None, Result, Ok, Err, refl, sym, ap, subst, ◌∙◌, true≢false, arith}
+use Rattle.std.specs.Prelude.{IfOk, is_some, option_and_then, option_map}
 use Rattle.std.specs.List.{list_all}
 use Rattle.std.proofs.lemmas.List.Folds.{list_all-append}
 use Rattle.json.specs.Json as json
 use Rattle.json.specs.Json.{Json, null, boolean, number, string, array, object, no_items, item, no_members, member, if_last, value}
 use Rattle.json.specs.Lex.{tokens}
 use Rattle.json.specs.Token.{Token}
-use Rattle.json.specs.Tree.{depth, items_tokens, json_tokens, members_tokens}
+use Rattle.json.specs.Tree.{items_tokens, json_tokens, members_tokens}
 use Rattle.json.proofs.Nesting.{value-depth}
 use Rattle.json.proofs.Unique.Spelling.{value-json_tokens_back}
 use Rattle.plural_documents.specs.Inner.HeldTokens.{AreNoTokens, AreTokens, fits}
@@ -15,13 +15,12 @@ use Rattle.plural_documents.specs.Inner.OpenBrackets.{Comes, most_open}
 use Rattle.plural_documents.proofs.TokenValues.{value_back}
 use Rattle.json.proofs.OnLiterals.{json_on_literals}
 use Rattle.plural_documents.specs.Inner.OutlineSteps.{IsOutlined}
-use Rattle.plural_documents.specs.Inputs.{json_of}
 use Rattle.plural_documents.specs.Outlines.{GivesJsonTokens, GivesOutline}
 use Rattle.plural_documents.specs.declared.json_text.JsonTextError.{JsonTextError}
 use Rattle.plural_documents.specs.declared.json_text.JsonTextError.TheVariants as fault
 use Rattle.plural_documents.specs.declared.outline.Portion.{Portion}
 use Rattle.plural_documents.proofs.JsonTextLemmas.{value_refused, value_there}
-use Rattle.std.specs.Str.{IsUtf8, is_utf8}
+use Rattle.std.specs.Str.{IsUtf8}
 use Rattle.std.specs.declared.alloc.AllocError.{AllocError}
 use Rattle.serde_json.specs.View.{view}
 use Rattle.serde_json.specs.declared.value.Value.{Value}
@@ -91,10 +90,14 @@ pub there : (text : List ℕ) (ts : List Token) → AreTokens (tokens text) ts
 there text ts (same, (j, after, is, nests, done), fit) =
     let spelled : ts ≡ json_tokens j = is ∙ ap (λ us. json_tokens j ++ us) done ∙ none_left (json_tokens j) in
     let found = held (of_json j) (fits_value j ∙ ap (list_all fits) (sym spelled) ∙ fit) in
-    let here : tokens text ≡ json_tokens j ++ [] = sym same ∙ spelled ∙ sym (none_left (json_tokens j)) in
-    (j, found.0, spelled, found.1,
-    ap (λ us. option_and_then of_json (option_and_then (λ p. if_last p.0 p.1) (value max_depth us))) here
-    ∙ ap (λ o. option_and_then of_json (option_and_then (λ p. if_last p.0 p.1) o)) (value_back j max_depth [] nests) ∙ found.1)
+    let here : tokens text ≡ json_tokens j ++ [] = sym same ∙ spelled ∙ sym (none_left (json_tokens j)) in (
+      j,
+      found.0,
+      spelled,
+      found.1,
+      ap (λ us. option_and_then of_json (option_and_then (λ p. if_last p.0 p.1) (value max_depth us))) here
+          ∙ ap (λ o. option_and_then of_json (option_and_then (λ p. if_last p.0 p.1) o)) (value_back j max_depth [] nests) ∙ found.1,
+    )
 
 -- the tokens of none
 pub not_there : (text : List ℕ) → AreNoTokens (tokens text) → read text ≡ None

@@ -1,6 +1,6 @@
 -- The steps through the items of an array and the members of an object.
-use Rattle.std.proofs.Common.{◌≡◌, ℕ, List, [], ◌∷◌, ◌++◌, Option, Some, None, refl, sym, ap, subst, ◌∙◌}
-use Rattle.std.specs.Prelude.{option_and_then, option_map, unwrap_or}
+use Rattle.std.proofs.Common.{◌≡◌, ℕ, List, [], ◌∷◌, ◌++◌, Option, Some, None, refl, sym, ap, ◌∙◌}
+use Rattle.std.specs.Prelude.{option_and_then, option_map}
 use Rattle.json.specs.Json as json
 use Rattle.std.specs.Borrow.{Bor}
 use Rattle.json.specs.Reads.{token_of}
@@ -8,16 +8,15 @@ use Rattle.json.specs.Token.{Token}
 use Rattle.json.specs.declared.token.Token.{Token as Held}
 use Rattle.json.specs.declared.token.Token.TheVariants as held
 use Rattle.json.specs.Tree.{items_tokens, json_tokens, members_tokens}
-use Rattle.plural_documents.specs.Inner.OutlineSteps.{IsOutlined, KeepsPart, members_by, portion_below, put_portion}
-use Rattle.plural_documents.specs.Outlines.{outline}
+use Rattle.plural_documents.specs.Inner.OutlineSteps.{IsOutlined, KeepsPart, members_by, portion_below}
 use Rattle.plural_documents.specs.declared.outline.Portion.{Portion}
-use Rattle.plural_documents.proofs.ItemLemmas.{after_one_more, items_after, with_no_more}
-use Rattle.plural_documents.proofs.OpenLemmas.{joined, no_items_left, no_members_left, rest_of}
+use Rattle.plural_documents.proofs.ItemLemmas.{after_one_more, items_after}
+use Rattle.plural_documents.proofs.OpenLemmas.{joined, no_members_left, rest_of}
 use Rattle.plural_documents.proofs.OutlinedLemmas.{held_map, some_is}
 use Rattle.plural_documents.proofs.OutlineLemmas.{AreSorted, members_put, sorted_put}
-use Rattle.serde_json.specs.Data.{Data, Items, no_items, item, Members, no_members, put}
+use Rattle.serde_json.specs.Data.{Items, no_items, item, Members, put}
 use Rattle.serde_json.specs.Read.{of_items, of_json, of_members}
-use Rattle.serde_json.specs.View.{items_view, members_view, view}
+use Rattle.serde_json.specs.View.{view}
 use Rattle.serde_json.specs.declared.value.Value.{Value}
 
 held_then : {A B : Type 0} (o : Option A) (next : A → Option B) (b : B) → option_and_then next o ≡ Some b → (a : A) × (o ≡ Some a) × (next a ≡ Some b)
@@ -84,10 +83,14 @@ module _ {S : Type 0} (keeps : S → List ℕ → Portion S) where
   item_added values value (json.item j js) t ts rest new more whole is other read so_far outlined =
       let first = held_then (of_json j) (λ d. option_map (item d) (of_items js)) more read in
       let after = held_map (item first.0) (of_items js) more first.2 in
-      let kept = outlined j (items_tokens js ++ rest) first.0 (is ∙ joined (json_tokens j) (items_tokens js) rest) first.1 in
-      (js, after.0, kept.0, after.1,
-      so_far ∙ ap (items_after values) (after.2 ∙ ap (λ d. item d after.0) (some_is first.0 (view value) kept.1))
-      ∙ sym (after_one_more values value after.0))
+      let kept = outlined j (items_tokens js ++ rest) first.0 (is ∙ joined (json_tokens j) (items_tokens js) rest) first.1 in (
+        js,
+        after.0,
+        kept.0,
+        after.1,
+        so_far ∙ ap (items_after values) (after.2 ∙ ap (λ d. item d after.0) (some_is first.0 (view value) kept.1))
+            ∙ sym (after_one_more values value after.0),
+      )
 
   -- ---- Members
 
@@ -105,9 +108,14 @@ module _ {S : Type 0} (keeps : S → List ℕ → Portion S) where
     member_added k ts new rest whole found after (json.member l j ms, before, is, read, sorted, so_far) keeps_it =
         let same : k ≡ l = cc in
         let first = held_then (of_json j) (λ d. of_members ms (put l d before)) whole read in
-        let kept = keeps_it j (members_tokens ms ++ rest) first.0 (ap rest_of is ∙ joined (json_tokens j) (members_tokens ms) rest) first.1 in
-        (ms, put k first.0 before, kept.0, ap (λ m. of_members ms (put m first.0 before)) same ∙ first.2, sorted_put k first.0 before sorted,
-        members_put S keeps sieve k first.0 before found sorted so_far ∙ sym kept.1)
+        let kept = keeps_it j (members_tokens ms ++ rest) first.0 (ap rest_of is ∙ joined (json_tokens j) (members_tokens ms) rest) first.1 in (
+          ms,
+          put k first.0 before,
+          kept.0,
+          ap (λ m. of_members ms (put m first.0 before)) same ∙ first.2,
+          sorted_put k first.0 before sorted,
+          members_put S keeps sieve k first.0 before found sorted so_far ∙ sym kept.1,
+        )
 
     -- a token that is no key
     abbrev pub IsNoKey : Token → Type 0

@@ -60,10 +60,7 @@ impl<'a> JsonTokens<'a> {
 }
 
 // Returns the tokens of a value with nothing after it.
-fn read_tokens<'a>(
-    alloc: Global,
-    reader: &mut Reader<'a>,
-) -> Result<Vec<Token<'a>>, JsonTextError>
+fn read_tokens<'a>(alloc: Global, reader: &mut Reader<'a>) -> Result<Vec<Token<'a>>, JsonTextError>
     ensures ok { IfOk result (λ tokens. AreTokens reader.old (map token_of tokens.items)) }
     ensures json { result ≡ Err JsonTextError.Json → AreNoTokens reader.old }
     ensures memory { result ≡ Err JsonTextError.Memory → 0 < length reader.old }

@@ -42,11 +42,7 @@ pub trait Sieve: Copy {
 /// Returns the outline of the JSON value that the bytes write: what the sieve keeps of what
 /// [`json_value`](crate::json_value) returns, with the same errors. All of the text is read, and
 /// only what is kept is built. It allocates.
-pub fn json_outline<S: Sieve>(
-    alloc: Global,
-    sieve: S,
-    bytes: &[u8],
-) -> Result<Value, JsonTextError>
+pub fn json_outline<S: Sieve>(alloc: Global, sieve: S, bytes: &[u8]) -> Result<Value, JsonTextError>
     ensures { GivesOutline S.keeps sieve bytes.now result }
 {
     let mut scratch = Scratch::new(alloc);

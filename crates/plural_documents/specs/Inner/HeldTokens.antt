@@ -1,5 +1,5 @@
 -- Not a definition of the subject: the tokens of a JSON text.
-use Rattle.std.specs.Prelude.{◌≡◌, ℕ, List, Bool, true, is_some, [], Option, None, Some}
+use Rattle.std.specs.Prelude.{◌≡◌, List, Bool, true, is_some, []}
 use Rattle.std.specs.List.{list_all}
 use Rattle.json.specs.Token.{Token}
 use Rattle.plural_documents.specs.Inner.OpenBrackets.{Comes, most_open}

@@ -1,4 +1,4 @@
-use Rattle.std.proofs.Common.{◌⊎◌, inl, inr, ◌≡◌, ℕ, suc, ◌≤◌, ◌∷◌, List, [], length, ◌++◌, refl, sym, ap, subst, ◌∙◌, arith, rules}
+use Rattle.std.proofs.Common.{◌⊎◌, inl, inr, ◌≡◌, ℕ, suc, ◌≤◌, ◌∷◌, List, length, refl, sym, ap, subst, ◌∙◌, arith}
 use Rattle.json.specs.Reads.{token_of}
 use Rattle.json.specs.Token.{Token}
 use Rattle.json.specs.declared.token.Token.{Token as Held}
@@ -6,7 +6,7 @@ use Rattle.json.specs.declared.token.Token.TheVariants as held
 use Rattle.std.specs.Borrow.{Bor}
 use Rattle.plural_documents.specs.Inner.OutlineSteps.{IsOutlined}
 use Rattle.plural_documents.proofs.OpenLemmas.{no_items_left, no_value}
-use Rattle.plural_documents.proofs.OutlinedLemmas.{array_outlined, boolean_outlined, no_number, none_outlined, null_outlined, number_outlined, object_outlined, on_success, part_passed, part_put, string_outlined, view_bool, view_null, view_number, view_string}
+use Rattle.plural_documents.proofs.OutlinedLemmas.{array_outlined, boolean_outlined, no_number, none_outlined, null_outlined, number_outlined, object_outlined, on_success, part_put, string_outlined, view_bool, view_null, view_number, view_string}
 use Rattle.plural_documents.proofs.outline.+build.Goals as goal
 use Rattle.serde_json.specs.Data.{null}
 use Rattle.serde_json.specs.View.{members_view, view}
@@ -70,20 +70,20 @@ outlined-returns-in-Null-clause-outlined g n c =
 
 pub outlined_members-loop-first-preserved : goal.outlined_members-loop-first-preserved
 outlined_members-loop-first-preserved g n c = (
-    (λ members rest whole is read. member_added g.S.Sieve.keeps c.args.sieve _ _ c.keep_member.new.left rest whole _ _
-        (subst (λ (ts : List Token). MembersGoOn g.S.Sieve.keeps c.args.sieve (members_view c.loop-first.members.entries) ts rest whole)
-        (c.in-Some.ensures ∙ ap (λ t. token_of t ∷ c.next.new.self) c.in-Key.is)
-        (c.loop-first.invariant.0 members rest whole is read)) c.in_ok-keep_member.ensures.keeps),
-    one_shorter (length c.keep_member.new.left) (length c.next.new.self) (length c.loop-first.left) (length c.args.left.now)
-        c.in_ok-keep_member.ensures.shorter (ap length c.in-Some.ensures) c.loop-first.invariant.1,
-  )
+  (λ members rest whole is read. member_added g.S.Sieve.keeps c.args.sieve _ _ c.keep_member.new.left rest whole _ _
+      (subst (λ (ts : List Token). MembersGoOn g.S.Sieve.keeps c.args.sieve (members_view c.loop-first.members.entries) ts rest whole)
+      (c.in-Some.ensures ∙ ap (λ t. token_of t ∷ c.next.new.self) c.in-Key.is)
+      (c.loop-first.invariant.0 members rest whole is read)) c.in_ok-keep_member.ensures.keeps),
+  one_shorter (length c.keep_member.new.left) (length c.next.new.self) (length c.loop-first.left) (length c.args.left.now)
+      c.in_ok-keep_member.ensures.shorter (ap length c.in-Some.ensures) c.loop-first.invariant.1,
+)
 
 pub outlined_members-returns-clause-members : goal.outlined_members-returns-clause-members
 outlined_members-returns-clause-members g n c ms rest whole is read =
     let now = c.loop-first.invariant.0 ms rest whole is read in
     let found = members_view c.loop-first.members.entries in
     elim c.match-next.branch [
-      outlined_members-in-Some+in_default-first w ↦
+      | outlined_members-in-Some+in_default-first w ↦
           members_ended g.S.Sieve.keeps c.args.sieve (token_of w.in-Some.first) c.next.new.self rest whole found
           (no_key w.in-Some.first w.in_default-first.not-Key)
           (subst (λ (ts : List Token). MembersGoOn g.S.Sieve.keeps c.args.sieve found ts rest whole) w.in-Some.ensures now)
@@ -101,22 +101,22 @@ put_outlined-returns-clause-puts g n c =
 
 pub whole_items-loop-first-preserved : goal.whole_items-loop-first-preserved
 whole_items-loop-first-preserved g n c = (
-    (λ items rest whole is read.
-        let now = c.loop-first.invariant.0 items rest whole is read in
-        rw (c.in_ok-push.ensures.items)
-        (item_added g.S.Sieve.keeps c.loop-first.items.items _ now.0 _ c.next.new.self rest c.outlined.new.left now.1 whole
-        (sym c.in-Some.ensures ∙ now.2) (no_end c.in-Some.first c.in_default-first.not-EndArray) now.3 now.4 c.in_ok-outlined.ensures.outlined)),
-    one_shorter (length c.outlined.new.left) (length c.next.new.self) (length c.loop-first.left) (length c.args.left.now)
-        c.in_ok-outlined.ensures.shorter (ap length c.in-Some.ensures) c.loop-first.invariant.1,
-  )
+  (λ items rest whole is read.
+      let now = c.loop-first.invariant.0 items rest whole is read in
+      rw (c.in_ok-push.ensures.items)
+      (item_added g.S.Sieve.keeps c.loop-first.items.items _ now.0 _ c.next.new.self rest c.outlined.new.left now.1 whole
+      (sym c.in-Some.ensures ∙ now.2) (no_end c.in-Some.first c.in_default-first.not-EndArray) now.3 now.4 c.in_ok-outlined.ensures.outlined)),
+  one_shorter (length c.outlined.new.left) (length c.next.new.self) (length c.loop-first.left) (length c.args.left.now)
+      c.in_ok-outlined.ensures.shorter (ap length c.in-Some.ensures) c.loop-first.invariant.1,
+)
 
 pub whole_items-returns-clause-items : goal.whole_items-returns-clause-items
 whole_items-returns-clause-items g n c items rest whole is read =
     let now = c.loop-first.invariant.0 items rest whole is read in
     elim c.match-next.branch [
-      whole_items-in-Some+in-EndArray w ↦
+      | whole_items-in-Some+in-EndArray w ↦
           let last = items_ended now.0 c.next.new.self rest now.1
-              (sym (w.in-Some.ensures ∙ ap (λ t. token_of t ∷ c.next.new.self) w.in-EndArray.is) ∙ now.2) now.3 in
+          (sym (w.in-Some.ensures ∙ ap (λ t. token_of t ∷ c.next.new.self) w.in-EndArray.is) ∙ now.2) now.3 in
           (last.0, now.4 ∙ ap (items_after c.loop-first.items.items) last.1 ∙ with_no_more c.loop-first.items.items)
       | whole_items-in_default w ↦ absurd (no_items_left now.0 rest (sym w.in_default.ensures.0 ∙ now.2))
     ]

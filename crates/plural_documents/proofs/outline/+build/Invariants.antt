@@ -8,7 +8,7 @@ use Rattle.plural_documents.proofs.outline.+build.Given as goal
 use Rattle.plural_documents.specs.Inner.OutlineSteps.{members_by}
 use Rattle.serde_json.specs.Data.{Items, Members, no_members}
 use Rattle.serde_json.specs.Read.{of_items, of_members}
-use Rattle.serde_json.specs.View.{members_view, view}
+use Rattle.serde_json.specs.View.{members_view}
 
 abbrev pub decreases-outlined : goal.decreases-outlined
 decreases-outlined g l = 2 * length l.left.now + 1

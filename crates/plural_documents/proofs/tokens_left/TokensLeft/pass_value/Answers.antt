@@ -1,4 +1,4 @@
-use Rattle.std.proofs.Common.{◌≡◌, ℕ, suc, ◌+◌, ◌-◌, ◌<◌, ◌≤◌, List, [], ◌∷◌, drop, get_or, length, length-drop, map, take, take_all, refl, sym, ap, subst, ◌∙◌, arith, rules}
+use Rattle.std.proofs.Common.{◌≡◌, ℕ, suc, ◌+◌, ◌-◌, ◌<◌, ◌≤◌, List, [], ◌∷◌, drop, get_or, length, length-drop, map, take, take_all, refl, ap, subst, ◌∙◌, arith}
 use Rattle.std.proofs.lemmas.List.{length-map}
 use Rattle.json.specs.Reads.{token_of}
 use Rattle.json.specs.Token.{Token}
@@ -49,10 +49,10 @@ one_shorter n m most less within = omega arith
 
 pub loop-opened-init : goal.loop-opened-init
 loop-opened-init c = rw (c.opened_after-opened.ensures) (
-    (λ value rest is. ends_after_first value rest (token_of c.args.first) (map token_of c.self.inside.tokens.now) is),
-    first_few (token_of c.args.first) (length c.self.inside.tokens.now),
-    same_length (length c.self.inside.tokens.now),
-  )
+  (λ value rest is. ends_after_first value rest (token_of c.args.first) (map token_of c.self.inside.tokens.now) is),
+  first_few (token_of c.args.first) (length c.self.inside.tokens.now),
+  same_length (length c.self.inside.tokens.now),
+)
 
 pub loop-opened-preserved : goal.loop-opened-preserved
 loop-opened-preserved c =
@@ -81,7 +81,7 @@ returns-clause-passed c value rest is =
     let ts = c.loop-opened.tokens.now in
     let ends = c.loop-opened.invariant.0 value rest (ap (λ ts. token_of c.args.first ∷ ts) c.self.view_is ∙ is) in
     elim c.loop-opened-test.branch [
-      else-loop-opened-test w ↦
+      | else-loop-opened-test w ↦
           has_ended value rest (map token_of ts) (subst (λ (n : ℕ). Ends value rest n (map token_of ts)) (none_open c.loop-opened.opened w.loop-opened-test.false) ends)
       | then-loop-opened-test+in_default w ↦
           absurd (not_cut value rest c.loop-opened.opened w.loop-opened-test.true (subst (Ends value rest c.loop-opened.opened) (none_left ts w.in_default.len_below) ends))
