@@ -195,11 +195,7 @@ fn outline_of_chain<'a>(
 }
 
 // Writes the first locales of a chain, and returns how many.
-fn walk<'a>(
-    parents: &'a Value,
-    locale: &'a [u8],
-    steps: &mut [&'a [u8]; MOST_STEPS],
-) -> usize
+fn walk<'a>(parents: &'a Value, locale: &'a [u8], steps: &mut [&'a [u8]; MOST_STEPS]) -> usize
     ensures { result ≤ length steps.new }
 {
     let mut current = locale;

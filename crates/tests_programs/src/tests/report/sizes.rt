@@ -53,7 +53,10 @@ fn parents_and_report(alloc: Global) -> Result<(String, String), AllocError> {
         let separator = if number == 1000 { "" } else { "," };
         write!(document, "{separator}\"a{number}\":\"a{next}\"")?;
         if number < 1995 {
-            writeln!(report, "parents a{number}: the chain of parents doesn't end")?;
+            writeln!(
+                report,
+                "parents a{number}: the chain of parents doesn't end"
+            )?;
         }
     }
     document.push_str("}}")?;
