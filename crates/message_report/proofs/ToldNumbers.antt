@@ -1,6 +1,6 @@
 -- Where a table tells each of 100 numbers in a row, no number from 328 on tells more; and a number
 -- with the remainder of one that it tells has the category of two numbers before it.
-use Rattle.std.proofs.Common.{◌≡◌, ◌≢◌, ◌⊎◌, ℕ, ◌+◌, ◌-◌, ◌%◌, ◌<◌, ◌≤◌, Bool, List, true, false, Option, Some, None, refl, sym, subst, ◌∙◌, arith, inl, inr, length, get_or, set, replicate}
+use Rattle.std.proofs.Common.{◌≡◌, ◌⊎◌, ℕ, ◌+◌, ◌-◌, ◌%◌, ◌<◌, ◌≤◌, Bool, List, true, false, Option, Some, None, refl, sym, subst, ◌∙◌, arith, inl, inr, length, get_or, set, replicate}
 use Rattle.std.specs.Prelude.{is_some, slice_index, IsSome}
 use Rattle.std.proofs.lemmas.Bool.{cases_lt, cases_order}
 use Rattle.std.proofs.lemmas.List.{get_or-replicate, get_or-set_other, get_or-set_same}
