@@ -87,6 +87,15 @@ module _ (rules : FiveRules) (c : PluralCategory) where
   one_more end (Some n) (Some m) from has (found, after) =
       (least_kept 2 end (end + 1) n (omega arith) found, least_kept (n + 1) end (end + 1) m (omega arith) after)
 
+  -- two that are there stay the least, whatever the next number has
+  still_two : (end : ℕ) (first second : Option ℕ) → IsSome second → AreTwoBelow rules c end first second
+      → AreTwoBelow rules c (end + 1) first second
+  still_two end None None is_there two = cc
+  still_two end None (Some m) is_there (none, absent) = cc
+  still_two end (Some n) None is_there two = cc
+  still_two end (Some n) (Some m) is_there (found, after) =
+      (least_kept 2 end (end + 1) n (omega arith) found, least_kept (n + 1) end (end + 1) m (omega arith) after)
+
   -- two that are there are the least of all
   two_found : (end : ℕ) (first second : Option ℕ) → end ≤ 10000 → IsSome second → AreTwoBelow rules c end first second
       → AreTwoFrom rules c first second
@@ -135,6 +144,44 @@ next_seen rules end seen next category from has so_far own others = record { at 
         subst Q (sym (others c other))
         (without rules c end (seen_at seen c).first (seen_at seen c).second
         (λ (is : HasWhole rules c end). other (sym is ∙ has)) (so_far.at c))
+
+-- the next number is that of a category that has two
+pub passed : (rules : FiveRules) (end : ℕ) (seen : SeenNumbers) (category : PluralCategory) → HasWhole rules category end
+    → IsSome (seen_at seen category).second → AreSeenBelow rules end seen → AreSeenBelow rules (end + 1) seen
+passed rules end seen category has two so_far = record { at = λ c. by c (same_or_not c category) }
+  where
+    by : (c : PluralCategory) → (c ≡ category) ⊎ (c ≢ category)
+        → AreTwoBelow rules c (end + 1) (seen_at seen c).first (seen_at seen c).second
+    by c (inl same) =
+        let P : PluralCategory → Type 0 = λ d. AreTwoBelow rules d (end + 1) (seen_at seen d).first (seen_at seen d).second in
+        subst P (sym same)
+        (still_two rules category end (seen_at seen category).first (seen_at seen category).second two (so_far.at category))
+    by c (inr other) =
+        without rules c end (seen_at seen c).first (seen_at seen c).second
+        (λ (is : HasWhole rules c end). other (sym is ∙ has)) (so_far.at c)
+
+two_stay : (first second : Option ℕ) (n : ℕ) → IsSome second → IsSome (two_with first second n).second
+two_stay None second n is_there = is_there
+two_stay (Some first) None n is_there = refl
+two_stay (Some first) (Some second) n is_there = is_there
+
+-- what has two has two after one more
+pub still_has_two : (seen next : SeenNumbers) (category : PluralCategory) (n : ℕ)
+    → seen_at next category ≡ with_number (seen_at seen category) n
+    → ((c : PluralCategory) → c ≢ category → seen_at next c ≡ seen_at seen c) → (c : PluralCategory)
+    → IsSome (seen_at seen c).second → IsSome (seen_at next c).second
+still_has_two seen next category n own others c is_there = by (same_or_not c category)
+  where
+    Two : TwoNumbers → Type 0
+    Two two = IsSome two.second
+
+    by : (c ≡ category) ⊎ (c ≢ category) → IsSome (seen_at next c).second
+    by (inl same) =
+        let P : PluralCategory → Type 0 = λ d. IsSome (seen_at next d).second in
+        let Q : PluralCategory → Type 0 = λ d. IsSome (seen_at seen d).second in
+        subst P (sym same)
+        (subst Two (sym own) (two_stay (seen_at seen category).first (seen_at seen category).second n (subst Q same is_there)))
+    by (inr other) = subst Two (sym (others c other)) is_there
 
 -- each category has two
 pub two_each : (rules : FiveRules) (end : ℕ) (set : CategorySet) (seen : SeenNumbers) → end ≤ 10000 → HaveTwo set seen

@@ -1,8 +1,9 @@
 -- Where a table tells each of 100 numbers in a row, no number from 328 on tells more; and a number
--- that it tells has the category of two numbers before it.
-use Rattle.std.proofs.Common.{◌≡◌, ◌≢◌, ◌⊎◌, ℕ, ◌+◌, ◌-◌, ◌%◌, ◌<◌, ◌≤◌, List, true, Option, Some, None, refl, sym, subst, ◌∙◌, arith, inl, inr}
-use Rattle.std.specs.Prelude.{is_some, slice_index}
+-- with the remainder of one that it tells has the category of two numbers before it.
+use Rattle.std.proofs.Common.{◌≡◌, ◌⊎◌, ℕ, ◌+◌, ◌-◌, ◌%◌, ◌<◌, ◌≤◌, Bool, List, true, false, Option, Some, None, refl, sym, subst, ◌∙◌, arith, inl, inr, length, get_or, set, replicate}
+use Rattle.std.specs.Prelude.{is_some, slice_index, IsSome}
 use Rattle.std.proofs.lemmas.Bool.{cases_lt, cases_order}
+use Rattle.std.proofs.lemmas.List.{get_or-replicate, get_or-set_other, get_or-set_same}
 use Rattle.icu_plurals.specs.Categories.{place_of}
 use Rattle.icu_plurals.specs.CategoryTables.{IsTableOf, TableTells, table_bound}
 use Rattle.icu_plurals.specs.FiveRules.{FiveRules, first_category}
@@ -11,9 +12,9 @@ use Rattle.icu_plurals.specs.PackedTruth.{packed_truth}
 use Rattle.icu_plurals.specs.declared.PluralCategory.{PluralCategory}
 use Rattle.plural_base.proofs.tables.Entries.{table_category}
 use Rattle.plural_checker.specs.WholeNumbers.{HasWhole}
-use Rattle.message_report.specs.Inner.SeenNumbers.{AreSeenBelow, AreTwoBelow, IsLeastBelow, TellsEach, seen_at}
+use Rattle.message_report.specs.Inner.SeenNumbers.{AreRepeated, AreSeenBelow, AreTwoBelow, IsLeastBelow, Repeats, TellsEach, seen_at}
 use Rattle.message_report.specs.declared.seen_numbers.SeenNumbers.{SeenNumbers}
-use Rattle.message_report.proofs.SeenLemmas.{same_or_not, without}
+use Rattle.message_report.proofs.SeenLemmas.{passed}
 
 module _ (rules : FiveRules) (bytes : List ℕ) (of : IsTableOf rules bytes) (each : TellsEach bytes) where
   -- the remainders tell from 128 on
@@ -136,45 +137,64 @@ module _ (rules : FiveRules) (bytes : List ℕ) (of : IsTableOf rules bytes) (m 
             subst P (sym same) (tells.cycle from bound_below));
       } of)
 
-  -- two numbers before one that has their category are the least of it
-  two_before : (c : PluralCategory) (first second : Option ℕ) → HasWhole rules c m → HasWhole rules c (m + 100)
-      → AreTwoBelow rules c (m + 200) first second → AreTwoBelow rules c (m + 200 + 1) first second
-  two_before c None second here next (none, absent) = absurd (none m (omega arith) (omega arith) here)
-  two_before c (Some n) None here next (found, none) = by (cases_lt n (m + 100))
+-- ---- 100 numbers, of which some are told
+
+module _ (rules : FiveRules) (bytes : List ℕ) (of : IsTableOf rules bytes) (marks : List Bool) (k : ℕ) (within : k < length marks)
+  where
+    -- it is told of one
+    repeats_at : (told : Option PluralCategory) → TableTells bytes (128 + k) told → is_some told ≡ true → Repeats rules (128 + k)
+    repeats_at None tells is_there = absurd (cc is_there)
+    repeats_at (Some c) tells is_there = (c, later_told rules bytes of (128 + k) (omega arith) c tells)
+
+    -- one more is marked if it is told
+    pub repeated_more : (told : Option PluralCategory) → TableTells bytes (128 + k) told → AreRepeated rules marks
+        → AreRepeated rules (set marks k (is_some told))
+    repeated_more told tells so_far = record { at = λ r small marked. by r small marked (cases_order r k) }
+      where
+        by : (r : ℕ) → r < 100 → get_or (set marks k (is_some told)) r false ≡ true → (r ≡ k) ⊎ ((r < k) ⊎ (k < r))
+            → Repeats rules (128 + r)
+        by r small marked (inl same) =
+            let P : ℕ → Type 0 = λ p. Repeats rules (128 + p) in
+            let Q : ℕ → Type 0 = λ p. get_or (set marks k (is_some told)) p false ≡ true in
+            subst P (sym same)
+            (repeats_at told tells (sym (get_or-set_same marks k (is_some told) false within) ∙ subst Q same marked))
+        by r small marked (inr (inl less)) =
+            so_far.at r small (sym (get_or-set_other marks k r (is_some told) false (λ same. omega arith)) ∙ marked)
+        by r small marked (inr (inr more)) =
+            so_far.at r small (sym (get_or-set_other marks k r (is_some told) false (λ same. omega arith)) ∙ marked)
+
+-- at first none is marked
+pub none_repeated : (rules : FiveRules) → AreRepeated rules (replicate 100 false)
+none_repeated rules = record {
+  at = λ r small marked. absurd (cc (sym (get_or-replicate 100 r false false small) ∙ marked));
+}
+
+module _ (rules : FiveRules) (c : PluralCategory) (m n : ℕ) (from : 2 ≤ m) (apart : m + 100 < n) (here : HasWhole rules c m)
+    (next : HasWhole rules c (m + 100)) where
+  -- two numbers before one are enough
+  has_second : (first second : Option ℕ) → AreTwoBelow rules c n first second → IsSome second
+  has_second None second (none, absent) = absurd (none m (omega arith) (omega arith) here)
+  has_second (Some k) None (found, none) = absurd (by (cases_lt k (m + 100)))
     where
-      by : (n < m + 100) ⊎ (m + 100 ≤ n) → AreTwoBelow rules c (m + 200 + 1) (Some n) None
-      by (inl before) = absurd (none (m + 100) (omega arith) (omega arith) next)
-      by (inr later) = absurd (found.3 m (omega arith) (omega arith) here)
-  two_before c (Some n) (Some k) here next (found, after) =
-      ((found.0, omega (arith, found.1), found.2, found.3), (after.0, omega (arith, after.1), after.2, after.3))
+      by : (k < m + 100) ⊎ (m + 100 ≤ k) → ⊥
+      by (inl before) = none (m + 100) (omega arith) (omega arith) next
+      by (inr later) = found.3 m (omega arith) (omega arith) here
+  has_second (Some k) (Some j) two = refl
 
-  passed : (seen : SeenNumbers) → AreSeenBelow rules (m + 200) seen → AreSeenBelow rules (m + 200 + 1) seen
-  passed seen so_far = record { at = λ c. by c (same_or_not c told) }
-    where
-      two : HasWhole rules told m × HasWhole rules told (m + 100) × HasWhole rules told (m + 200)
-      two = (
-        later_told m (omega arith) refl,
-        later_told (m + 100) (omega arith) (omega arith),
-        later_told (m + 200) (omega arith) (omega arith),
-      )
-
-      by : (c : PluralCategory) → (c ≡ told) ⊎ (c ≢ told)
-          → AreTwoBelow rules c (m + 200 + 1) (seen_at seen c).first (seen_at seen c).second
-      by c (inl same) =
-          let P : PluralCategory → Type 0 = λ d. AreTwoBelow rules d (m + 200 + 1) (seen_at seen d).first (seen_at seen d).second in
-          subst P (sym same)
-          (two_before told (seen_at seen told).first (seen_at seen told).second two.0 two.1 (so_far.at told))
-      by c (inr other) =
-          without rules c (m + 200) (seen_at seen c).first (seen_at seen c).second
-          (λ (is : HasWhole rules c (m + 200)). other (sym is ∙ two.2)) (so_far.at c)
-
--- a number that the table tells, as it does one 200 before, tells nothing more
-pub told_passed : (rules : FiveRules) (bytes : List ℕ) → IsTableOf rules bytes → (n : ℕ) → 328 ≤ n
-    → (told : Option PluralCategory) → TableTells bytes (n - 200) told → is_some told ≡ true → (seen : SeenNumbers)
-    → AreSeenBelow rules n seen → AreSeenBelow rules (n + 1) seen
-told_passed rules bytes of n from None tells is_there seen so_far = cc
-told_passed rules bytes of n from (Some told) tells is_there seen so_far =
-    let is : n - 200 + 200 ≡ n = omega arith in
-    let P : ℕ → Type 0 = λ k. AreSeenBelow rules k seen in
-    let Q : ℕ → Type 0 = λ k. AreSeenBelow rules (k + 1) seen in
-    subst Q is (passed rules bytes of (n - 200) (omega arith) told tells seen (subst P (sym is) so_far))
+-- a number with a remainder that is marked tells nothing more
+pub repeated_passed : (rules : FiveRules) (marks : List Bool) → AreRepeated rules marks → (n : ℕ) → 328 ≤ n
+    → get_or marks ((n - 328) % 100) false ≡ true → (seen : SeenNumbers) → AreSeenBelow rules n seen
+    → AreSeenBelow rules (n + 1) seen
+repeated_passed rules marks each n from marked seen so_far = by ((n - 328) % 100) refl
+  where
+    by : (r : ℕ) → (n - 328) % 100 ≡ r → AreSeenBelow rules (n + 1) seen
+    by r left =
+        let small : r < 100 = omega arith in
+        let P : ℕ → Type 0 = λ p. get_or marks p false ≡ true in
+        let of : Repeats rules (128 + r) = each.at r small (subst P left marked) in
+        let next : HasWhole rules of.0 (128 + r + 100) = of.1 (128 + r + 100) (omega arith) (omega arith) in
+        let here : HasWhole rules of.0 (128 + r) = of.1 (128 + r) (omega arith) refl in
+        let has : HasWhole rules of.0 n = of.1 n (omega arith) (omega arith) in
+        passed rules n seen of.0 has
+        (has_second rules of.0 (128 + r) n (omega arith) (omega arith) here next (seen_at seen of.0).first (seen_at seen of.0).second
+        (so_far.at of.0)) so_far

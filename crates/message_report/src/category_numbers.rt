@@ -23,6 +23,7 @@ impl TwoNumbers {
     }
 
     // Adds a number above these, unless there are two. Returns whether it is the second one.
+    #[inline]
     pub(crate) fn add(&mut self, number: u16) -> bool
         ensures added { self.new ≡ with_number self.old number }
         ensures is_second { result ≡ lacks_second self.old }

@@ -2,7 +2,8 @@
 
 ghost use Rattle.std.specs.Prelude.{◌≤◌, IsFalse, IsTrue};
 ghost use Rattle.icu_plurals.specs.CategoryTables.{IsTableOf};
-ghost use Rattle.message_report.specs.Inner.SeenNumbers.{AreSeenBelow, AreFound, TellsEach};
+ghost use Rattle.icu_plurals.specs.FiveRules.{FiveRules};
+ghost use Rattle.message_report.specs.Inner.SeenNumbers.{AreSeenBelow, AreFound, AreRepeated, TellsEach};
 
 use crate::seen_numbers::SeenNumbers;
 use icu_plurals::{CategoryTable, PluralOperands, PluralRules, PreparedRules};
@@ -63,7 +64,7 @@ fn see_by_tables(tables: &PreparedRules<'_>, categories: CategorySet, seen: &mut
         return;
     }
     if tells_one(&told) {
-        see_untold(tables.rules(), &told, categories, seen);
+        see_untold(tables.rules(), told_numbers(&told), categories, seen);
     } else {
         see_each(tables, TWICE_TOLD, WHOLE_LIMIT, categories, seen);
     }
@@ -85,8 +86,15 @@ fn see_each(
     ensures found { IsTrue result → AreFound tables.now categories seen.new }
     ensures seen { IsFalse result → AreSeenBelow tables.now end seen.new }
 {
+    // A further number of a category that has two is passed over. The numbers that are far out are
+    // those of rare categories; the number before the start mostly has the common one.
+    let common = tables.category_for_integer(u64::from(start - 1));
+    let is_passed = seen.has_two(common);
     for number in start..end {
         let category = tables.category_for_integer(u64::from(number));
+        if is_passed && category == common {
+            continue;
+        }
         if seen.add(category, number) && seen.have_two(categories) {
             return true;
         }
@@ -117,21 +125,34 @@ fn tells_one(told: &CategoryTable<'_>) -> bool {
     false
 }
 
-// Sees those of the last numbers that the table of the rules doesn't tell, until each category has
-// two. A number that it tells has the category of two numbers before it; of the others only the
-// rules tell.
+// Returns which of 100 numbers a table tells. Each has the category of all later numbers with its
+// remainder by 100.
+fn told_numbers(table: &CategoryTable<'_>) -> [bool; 100]
+    ensures { (rules : FiveRules) → IsTableOf rules table.now → AreRepeated rules result }
+{
+    let mut told = [false; 100];
+    for place in 0..100usize {
+        told[place] = table
+            .category_for_integer(u64::from(TOLD) + place as u64)
+            .is_some();
+    }
+    told
+}
+
+// Sees the last numbers, but those with a remainder that is told, until each category has two.
+// Such a number has the category of two numbers before it; of the others only the rules tell.
 fn see_untold(
     rules: &PluralRules<'_>,
-    told: &CategoryTable<'_>,
+    told: [bool; 100],
     categories: CategorySet,
     seen: &mut SeenNumbers,
 )
-    requires table { IsTableOf rules.now told.now }
+    requires told { AreRepeated rules.now told }
     requires seen { AreSeenBelow rules.now TWICE_TOLD seen.old }
     ensures { AreFound rules.now categories seen.new }
 {
     for number in TWICE_TOLD..WHOLE_LIMIT {
-        if told.category_for_integer(u64::from(number) - 200).is_some() {
+        if told[usize::from((number - TWICE_TOLD) % 100)] {
             continue;
         }
         let category = rules.category_for(PluralOperands::from(number));

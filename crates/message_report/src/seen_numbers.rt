@@ -1,6 +1,6 @@
 //! The two least numbers of each category, among those that were looked at.
 
-ghost use Rattle.std.specs.Prelude.{◌≡◌, ◌≢◌, IsTrue};
+ghost use Rattle.std.specs.Prelude.{◌≡◌, ◌≢◌, IsSome, IsTrue};
 ghost use Rattle.icu_plurals.specs.declared.PluralCategory.{PluralCategory};
 ghost use Rattle.message_report.specs.Inner.SeenNumbers.{lacks_second, no_numbers, seen_at, with_number, HaveTwo};
 
@@ -34,8 +34,16 @@ impl SeenNumbers {
         at_category!(self.five, category, |numbers| *numbers, self.other)
     }
 
+    // Returns whether a category has two numbers.
+    pub(crate) fn has_two(&self, category: PluralCategory) -> bool
+        ensures { IsTrue result → IsSome (seen_at self.now category).second }
+    {
+        self.at(category).second.is_some()
+    }
+
     // Adds a number above those of its category, unless there are two. Returns whether it is the
     // second one.
+    #[inline]
     pub(crate) fn add(&mut self, category: PluralCategory, number: u16) -> bool
         ensures own { seen_at self.new category ≡ with_number (seen_at self.old category) number }
         ensures is_second { result ≡ lacks_second (seen_at self.old category) }

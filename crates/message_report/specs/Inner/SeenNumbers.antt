@@ -1,6 +1,6 @@
 -- Not a definition of the subject: the two least numbers of each category among those from 2 that
 -- were looked at.
-use Rattle.std.specs.Prelude.{◌≡◌, ◌+◌, ◌≤◌, ◌<◌, ℕ, Bool, true, false, List, IsTrue, Option, Some, None, IsSome}
+use Rattle.std.specs.Prelude.{◌≡◌, ◌+◌, ◌%◌, ◌≤◌, ◌<◌, ℕ, Bool, true, false, List, slice_index_or, IsTrue, Option, Some, None, IsSome}
 use Rattle.icu_plurals.specs.CategoryTables.{TableTells}
 use Rattle.icu_plurals.specs.declared.PluralCategory.{PluralCategory}
 use Rattle.icu_plurals.specs.declared.PluralCategory.TheVariants.{Zero, One, Two, Few, Many, Other}
@@ -70,3 +70,11 @@ pub record AreFound (rules : FiveRules) (set : CategorySet) (seen : SeenNumbers)
 -- a table tells each of 100 numbers
 pub record TellsEach (bytes : List ℕ) : Type 0 where
   pub at : (n : ℕ) → 128 ≤ n → n < 228 → (c : PluralCategory) × TableTells bytes n (Some c)
+
+-- all numbers from one on that leave the same by 100 have one category
+abbrev pub Repeats : FiveRules → ℕ → Type 0
+Repeats rules m = (c : PluralCategory) × ((n : ℕ) → m ≤ n → n % 100 ≡ m % 100 → HasWhole rules c n)
+
+-- so it is from each of 100 numbers that is marked
+pub record AreRepeated (rules : FiveRules) (told : List Bool) : Type 0 where
+  pub at : (r : ℕ) → r < 100 → IsTrue (slice_index_or told r false) → Repeats rules (128 + r)

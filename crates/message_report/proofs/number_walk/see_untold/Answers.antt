@@ -1,16 +1,13 @@
-use Rattle.std.proofs.Common.{arith, subst, sym, ℕ, ◌+◌, ◌-◌, ◌≡◌, ◌∙◌}
-use Rattle.icu_plurals.specs.CategoryTables.{TableTells}
+use Rattle.std.proofs.Common.{arith, subst, ℕ, ◌+◌, ◌≡◌}
 use Rattle.message_report.specs.Inner.SeenNumbers.{AreSeenBelow}
 use Rattle.message_report.proofs.SeenLemmas.{all_seen, next_seen, two_each}
-use Rattle.message_report.proofs.ToldNumbers.{told_passed}
+use Rattle.message_report.proofs.ToldNumbers.{repeated_passed}
 use Rattle.message_report.proofs.number_walk.see_untold.Goals as goal
 
-pub loop-number-preserved-then-is_some : goal.loop-number-preserved-then-is_some
-loop-number-preserved-then-is_some c =
-    let same : c.from.result ≡ c.loop-number.number = cc in
-    let P : ℕ → Type 0 = λ n. TableTells c.args.told.now (n - 200) c.category_for_integer.result in
-    told_passed c.args.rules.now c.args.told.now c.requires.table c.loop-number.number (omega arith) c.category_for_integer.result
-    (subst P same c.category_for_integer.ensures.told) (sym c.is_some.ensures ∙ c.if-is_some.true) c.loop-number.seen c.loop-number.invariant
+pub loop-number-preserved-then-told-from : goal.loop-number-preserved-then-told-from
+loop-number-preserved-then-told-from c =
+    repeated_passed c.args.rules.now c.args.told c.requires.told c.loop-number.number (omega arith) (cc) c.loop-number.seen
+    c.loop-number.invariant
 
 pub returns-then-have_two : goal.returns-then-have_two
 returns-then-have_two c =

@@ -1,0 +1,22 @@
+use Rattle.std.proofs.Common.{◌≡◌, ℕ, ◌+◌, ◌<◌, ◌∙◌, Bool, arith, length, length-set, refl, set, subst, sym}
+use Rattle.icu_plurals.specs.CategoryTables.{TableTells}
+use Rattle.message_report.specs.Inner.SeenNumbers.{AreRepeated}
+use Rattle.message_report.proofs.ToldNumbers.{none_repeated, repeated_more}
+use Rattle.message_report.proofs.number_walk.told_numbers.Goals as goal
+
+pub loop-place-init : goal.loop-place-init
+loop-place-init c = (refl, λ rules of. none_repeated rules)
+
+pub loop-place-preserved : goal.loop-place-preserved
+loop-place-preserved c =
+    let told = c.loop-place.told in
+    let place = c.loop-place.place in
+    let same : c.from.result ≡ 128 = cc in
+    let P : ℕ → Type 0 = λ n. TableTells c.args.table.now (n + place) c.category_for_integer.result in
+    let within : place < length told = omega (arith, c.loop-place.invariant.0) in (
+      length-set told place c.is_some.result ∙ c.loop-place.invariant.0,
+      λ rules of. (let Q : Bool → Type 0 = λ b. AreRepeated rules (set told place b) in
+          subst Q (sym c.is_some.ensures)
+          (repeated_more rules c.args.table.now of told place within c.category_for_integer.result
+          (subst P same c.category_for_integer.ensures.told) (c.loop-place.invariant.1 rules of))),
+    )
