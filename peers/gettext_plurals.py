@@ -8,7 +8,8 @@ from collections import Counter
 from library import CATEGORIES, RULES, TOP, Missing
 
 PLACES = ("/usr/lib/*/gettext/cldr-plurals", "/usr/lib*/gettext/cldr-plurals", "/usr/libexec/gettext/cldr-plurals")
-DOCUMENT = TOP / "crates/program_check/stdin"
+# The document of CLDR 41.
+DOCUMENT = TOP / "bench/cldr.json"
 ORDER = "two forms, other first"
 TYPES = ("cardinal", "ordinal")
 LAST = 100_000
@@ -185,12 +186,10 @@ def compare(library, say):
 
 # ---- the lines of plural_forms gettext
 
-FORMS_DOCUMENT = TOP / "crates/program_forms/data/cldr.json"
-
 
 def line_of(forms_program, locale, part):
     """Returns how many forms plural_forms prints for a locale, and its expression."""
-    words = ["gettext", locale, *(["--ordinal"] if part == "ordinal" else []), "--rules", str(FORMS_DOCUMENT)]
+    words = ["gettext", locale, *(["--ordinal"] if part == "ordinal" else []), "--rules", str(DOCUMENT)]
     ran = subprocess.run([forms_program, *words], capture_output=True, text=True)
     found = re.fullmatch(r"Plural-Forms: nplurals=(\d+); plural=\((.*)\);\n", ran.stdout)
     if not found:
@@ -259,7 +258,7 @@ HEAD = """\
 # The category of each integer from 0 to 200 under each set of CLDR 41's rules, as GNU gettext gives
 # it: the expression of C that its program cldr-plurals prints for the set, evaluated at each
 # integer. Nothing here comes from this project's own programs. tools/peers --rows writes the file,
-# and docs/PEERS.md says how. The rules are those of crates/program_check/stdin (ORIGIN.md there).
+# and docs/PEERS.md says how. The rules are those of bench/cldr.json (ORIGIN.md there).
 #
 # integer_categories RULES, FIRST, LAST => the categories of the integers from FIRST to LAST, zero
 #     to other, each with its integers; neighbours as 2~4

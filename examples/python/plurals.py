@@ -203,7 +203,7 @@ class Rules:
 
     @classmethod
     def of_locale(cls, locale: str, ordinal: bool = False, document: Optional[Union[str, bytes]] = None) -> Rules:
-        """Reads a locale's rules of a document (docs/JSON.md), which is the installed one of CLDR 41 unless another is given.
+        """Reads a locale's rules of a document (docs/JSON.md), which is the installed one of CLDR 48 unless another is given.
 
         The locale is compared byte by byte: CLDR has ru and pt-PT, not ru-RU.
         """

@@ -1,4 +1,4 @@
-"""Tests of plurals.py, over the rules of CLDR 41. What is expected comes from UTS 35 and CLDR's samples."""
+"""Tests of plurals.py, over the rules of CLDR 48. What is expected comes from UTS 35 and CLDR's samples."""
 import subprocess
 import sys
 import threading

@@ -28,7 +28,7 @@ pub use ranges::PluralRulesWithRanges;
 use std::fmt;
 pub use table::CategoryTable;
 
-/// The document of the rules of CLDR 41 that is installed with the library.
+/// The document of the rules of CLDR 48 that is installed with the library.
 pub const CLDR: &str = include_str!(env!("PLURALS_CLDR"));
 
 /// Why a call has no result: a number of `plurals_fault` in `plurals.h`. Its text is the library's.

@@ -1,4 +1,4 @@
-//! Categories, operands and values by category, over the document of CLDR 41. What is expected comes from UTS 35 and CLDR's samples.
+//! Categories, operands and values by category, over the document of CLDR 48. What is expected comes from UTS 35 and CLDR's samples.
 use plurals::PluralCategory::{self, *};
 use plurals::{CategoryTable, PluralElements, PluralOperands, PluralRuleType, PluralRules, PluralRulesOptions, PluralRulesWithRanges, CLDR};
 use plurals::{format_pattern, Argument, RawPluralOperands, Value};
