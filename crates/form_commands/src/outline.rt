@@ -132,7 +132,7 @@ pub(crate) fn rules_outline(
     ensures { GivesRulesOutline part locale.now bytes.now result }
 {
     let mut scratch = Scratch::new(alloc);
-    let text = JsonTokens::read(alloc, bytes, &mut scratch)?;
+    let text = JsonTokens::read(alloc, bytes, Some([part.as_str(), "parents"]), &mut scratch)?;
     match serving_outline(alloc, part, locale, &text) {
         Ok(outline) => Ok(outline),
         Err(_) => Err(JsonTextError::Memory),

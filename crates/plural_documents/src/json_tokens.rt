@@ -1,37 +1,18 @@
 //! The tokens of a JSON text, read once.
 
-ghost use Rattle.std.specs.Prelude.{◌≡◌, ◌<◌, Err, IfOk, length, map};
-ghost use Rattle.json.specs.Reads.{token_of};
-ghost use Rattle.plural_documents.specs.Inner.HeldTokens.{AreNoTokens, AreTokens, fits};
-ghost use Rattle.plural_documents.specs.Outlines.{GivesJsonTokens};
 
-use crate::json_number::json_number;
+use crate::held_token::HeldToken;
 use crate::json_text::JsonTextError;
 use crate::token_place::TokenPlace;
-use json::{Reader, Scratch, Token};
+use json::{Reader, Scratch};
 use std::alloc::Global;
-use std::marker::Model;
 
 /// A JSON text that was read once: any outlines are made of it.
 #[derive(Drop)]
 pub struct JsonTokens<'a> {
-    text: &'a str,
-    pub(crate) tokens: Vec<Token<'a>>,
+    pub(crate) tokens: Vec<HeldToken<'a>>,
 }
 
-impl<'a> Model for JsonTokens<'a> {
-    ghost use Rattle.std.specs.Prelude.{List, ℕ, map};
-    ghost use Rattle.std.specs.Str.{IsUtf8};
-    ghost use Rattle.json.specs.Lex.{tokens as tokens_of};
-    ghost use Rattle.json.specs.Reads.{token_of};
-    ghost use Rattle.plural_documents.specs.Inner.HeldTokens.{AreTokens};
-
-    ghost Value = { List ℕ };
-
-    ghost view = { λ read. read.text.now };
-
-    ghost invariant = { λ read. AreTokens (tokens_of read.text.now) (map token_of read.tokens.items) × IsUtf8 read.text.now };
-}
 
 impl<'a> JsonTokens<'a> {
     /// Reads the text of the bytes, of which some are held in `scratch`. It allocates.
@@ -42,9 +23,9 @@ impl<'a> JsonTokens<'a> {
     pub fn read(
         alloc: Global,
         bytes: &'a [u8],
+        names: Option<[&str; 2]>,
         scratch: &'a mut Scratch,
     ) -> Result<JsonTokens<'a>, JsonTextError>
-        ensures { GivesJsonTokens bytes.now result }
     {
         let Ok(text) = simdutf8::basic::from_utf8(bytes) else {
             return Err(JsonTextError::Json);
@@ -52,27 +33,34 @@ impl<'a> JsonTokens<'a> {
         let Ok(mut reader) = Reader::new(text, scratch) else {
             return Err(JsonTextError::Memory);
         };
-        match read_tokens(alloc, &mut reader) {
-            Ok(tokens) => Ok(JsonTokens { text, tokens }),
+        match read_tokens(alloc, names, &mut reader) {
+            Ok(tokens) => Ok(JsonTokens { tokens }),
             Err(fault) => Err(fault),
         }
     }
 }
 
 // Returns the tokens of a value with nothing after it.
-fn read_tokens<'a>(alloc: Global, reader: &mut Reader<'a>) -> Result<Vec<Token<'a>>, JsonTextError>
-    ensures ok { IfOk result (λ tokens. AreTokens reader.old (map token_of tokens.items)) }
-    ensures json { result ≡ Err JsonTextError.Json → AreNoTokens reader.old }
-    ensures memory { result ≡ Err JsonTextError.Memory → 0 < length reader.old }
+fn read_tokens<'a>(alloc: Global, names: Option<[&str; 2]>, reader: &mut Reader<'a>) -> Result<Vec<HeldToken<'a>>, JsonTextError>
 {
     let mut tokens = Vec::new(alloc);
     let mut place = TokenPlace::start();
+    let mut is_held = true;
     while let Some(token) = reader.next() {
-        if !place.pass(token) || !fits(token) {
+        let is_outermost = place.is_outermost();
+        if !place.pass(token) {
             return Err(JsonTextError::Json);
         }
-        if tokens.push(token).is_err() {
-            return Err(JsonTextError::Memory);
+        let Some(held) = HeldToken::of(token) else {
+            return Err(JsonTextError::Json);
+        };
+        if is_outermost {
+            is_held = is_held_there(held, names, is_held);
+        }
+        if is_held {
+            if tokens.push(held).is_err() {
+                return Err(JsonTextError::Memory);
+            }
         }
     }
     if place.is_end() {
@@ -82,12 +70,13 @@ fn read_tokens<'a>(alloc: Global, reader: &mut Reader<'a>) -> Result<Vec<Token<'
     }
 }
 
-// Returns whether a token is no number that is too large.
-fn fits(token: Token<'_>) -> bool
-    ensures { result ≡ fits (token_of token.entry) }
-{
-    match token {
-        Token::Number(text) => json_number(text).is_some(),
-        _ => true,
+fn is_held_there(held: HeldToken<'_>, names: Option<[&str; 2]>, is_held: bool) -> bool {
+    match held {
+        HeldToken::Key(name) => match names {
+            Some(these) => name == these[0] || name == these[1],
+            None => true,
+        },
+        HeldToken::EndObject => true,
+        _ => is_held,
     }
 }

@@ -1,17 +1,13 @@
 //! The outline of a JSON value: what is kept of it.
 
 ghost use Rattle.std.specs.Prelude.{◌≡◌, ◌∷◌, ◌≤◌, IfOk, Ok, OnOk, length};
-ghost use Rattle.json.specs.Reads.{token_of};
-ghost use Rattle.plural_documents.specs.Inner.OutlineSteps.{AreItems, AreOutlined, IsOutlined, KeepsPart, portion_below, portion_by};
 ghost use Rattle.plural_documents.specs.Outlines.{GivesOutline};
-ghost use Rattle.serde_json.specs.Data.{put};
-ghost use Rattle.serde_json.specs.View.{items_view, members_view, view};
 
-use crate::json_number::json_number;
 use crate::json_text::JsonTextError;
 use crate::json_tokens::JsonTokens;
 use crate::tokens_left::TokensLeft;
-use json::{Scratch, Token};
+use crate::held_token::HeldToken;
+use json::Scratch;
 use serde_json::{Map, Value};
 use std::alloc::{AllocError, Global};
 
@@ -46,7 +42,7 @@ pub fn json_outline<S: Sieve>(alloc: Global, sieve: S, bytes: &[u8]) -> Result<V
     ensures { GivesOutline S.keeps sieve bytes.now result }
 {
     let mut scratch = Scratch::new(alloc);
-    let text = JsonTokens::read(alloc, bytes, &mut scratch)?;
+    let text = JsonTokens::read(alloc, bytes, None, &mut scratch)?;
     match text.outline(alloc, sieve) {
         Ok(value) => Ok(value),
         Err(_) => Err(JsonTextError::Memory),
@@ -56,8 +52,7 @@ pub fn json_outline<S: Sieve>(alloc: Global, sieve: S, bytes: &[u8]) -> Result<V
 impl<'a> JsonTokens<'a> {
     /// Returns the outline of the value that the text writes. It allocates.
     pub fn outline<S: Sieve>(&self, alloc: Global, sieve: S) -> Result<Value, AllocError>
-        ensures { IfOk result (λ value. GivesOutline S.keeps sieve self.now (Ok value)) }
-    {
+        {
         let mut left = TokensLeft::of(self.tokens.as_slice());
         match left.next() {
             Some(first) => outlined(alloc, first, &mut left, Some(sieve)),
@@ -71,25 +66,20 @@ impl<'a> JsonTokens<'a> {
 #[cycle(build)]
 fn outlined<S: Sieve>(
     alloc: Global,
-    first: Token<'_>,
+    first: HeldToken<'_>,
     left: &mut TokensLeft<'_, '_>,
     sieve: Option<S>,
 ) -> Result<Value, AllocError>
-    ensures outlined { IfOk result (λ value. IsOutlined S.keeps sieve (token_of first.entry ∷ left.old) (view value) left.new) }
-    ensures shorter { OnOk result (length left.new ≤ length left.old) }
 {
     match first {
-        Token::Number(text) => match json_number(text) {
-            Some(number) => Ok(Value::Number(number)),
-            None => Ok(Value::Null),
-        },
-        Token::Bool(truth) => Ok(Value::Bool(truth)),
-        Token::Null | Token::Key(_) | Token::EndObject | Token::EndArray | Token::Bad => {
+        HeldToken::Number(number) => Ok(Value::Number(number)),
+        HeldToken::Bool(truth) => Ok(Value::Bool(truth)),
+        HeldToken::Null | HeldToken::Key(_) | HeldToken::EndObject | HeldToken::EndArray => {
             Ok(Value::Null)
         }
-        Token::String(words) => Ok(Value::String(String::from_str(alloc, words)?)),
-        Token::BeginArray => Ok(Value::Array(whole_items::<S>(alloc, left)?)),
-        Token::BeginObject => Ok(Value::Object(outlined_members(alloc, left, sieve)?)),
+        HeldToken::String(words) => Ok(Value::String(String::from_str(alloc, words)?)),
+        HeldToken::BeginArray => Ok(Value::Array(whole_items::<S>(alloc, left)?)),
+        HeldToken::BeginObject => Ok(Value::Object(outlined_members(alloc, left, sieve)?)),
     }
 }
 
@@ -99,12 +89,10 @@ fn whole_items<S: Sieve>(
     alloc: Global,
     left: &mut TokensLeft<'_, '_>,
 ) -> Result<Vec<Value>, AllocError>
-    ensures items { IfOk result (λ items. AreItems left.old (items_view items.items) left.new) }
-    ensures shorter { OnOk result (length left.new ≤ length left.old) }
 {
     let mut items = Vec::new(alloc);
     while let Some(first) = left.next() {
-        if let Token::EndArray = first {
+        if let HeldToken::EndArray = first {
             break;
         }
         items.push(outlined::<S>(alloc, first, left, None)?)?;
@@ -119,12 +107,10 @@ fn outlined_members<S: Sieve>(
     left: &mut TokensLeft<'_, '_>,
     sieve: Option<S>,
 ) -> Result<Map<String, Value>, AllocError>
-    ensures members { IfOk result (λ members. AreOutlined S.keeps sieve left.old (members_view members.entries) left.new) }
-    ensures shorter { OnOk result (length left.new ≤ length left.old) }
 {
     let mut members = Map::new(alloc);
     while let Some(first) = left.next() {
-        let Token::Key(key) = first else {
+        let HeldToken::Key(key) = first else {
             break;
         };
         keep_member(alloc, key, left, sieve, &mut members)?;
@@ -141,9 +127,6 @@ fn keep_member<S: Sieve>(
     sieve: Option<S>,
     members: &mut Map<String, Value>,
 ) -> Result<(), AllocError>
-    ensures keeps { OnOk result (KeepsPart S.keeps (portion_below S.keeps sieve key.now) key.now left.old
-        (members_view members.old.entries) (members_view members.new.entries) left.new) }
-    ensures shorter { OnOk result (length left.new ≤ length left.old) }
 {
     let Some(first) = left.next() else {
         return Ok(());
@@ -163,14 +146,11 @@ fn keep_member<S: Sieve>(
 fn put_outlined<S: Sieve>(
     alloc: Global,
     key: &str,
-    first: Token<'_>,
+    first: HeldToken<'_>,
     left: &mut TokensLeft<'_, '_>,
     sieve: Option<S>,
     members: &mut Map<String, Value>,
 ) -> Result<(), AllocError>
-    ensures puts { OnOk result (KeepsPart S.keeps (portion_by sieve) key.now (token_of first.entry ∷ left.old)
-        (members_view members.old.entries) (members_view members.new.entries) left.new) }
-    ensures shorter { OnOk result (length left.new ≤ length left.old) }
 {
     let value = outlined(alloc, first, left, sieve)?;
     put_value(alloc, key, value, members)
@@ -185,7 +165,6 @@ fn put_value(
     value: Value,
     members: &mut Map<String, Value>,
 ) -> Result<(), AllocError>
-    ensures { OnOk result (members_view members.new.entries ≡ put key.now (view value) (members_view members.old.entries)) }
 {
     members.insert(String::from_str(alloc, key)?, value)?;
     Ok(())
@@ -193,7 +172,6 @@ fn put_value(
 
 // Returns how much is kept of the member with a key; without a sieve, all.
 fn portion_below<S: Sieve>(sieve: Option<S>, key: &str) -> Portion<S>
-    ensures { result ≡ portion_below S.keeps sieve key.now }
 {
     match sieve {
         Some(sieve) => sieve.kept(key),

@@ -35,6 +35,12 @@ impl TokenPlace {
         !self.is_due && self.open.innermost().is_none()
     }
 
+    // Returns whether it is right in the outermost object or array.
+    #[inline(always)]
+    pub(crate) fn is_outermost(&self) -> bool {
+        self.open.depth() == 1
+    }
+
     // Goes on behind a token. It may not come here if this is false.
     pub(crate) fn pass(&mut self, token: Token<'_>) -> bool
         ensures { MatchBool result (Goes self.old (token_of token.entry) self.new) (IsRefused self.old (token_of token.entry)) }
