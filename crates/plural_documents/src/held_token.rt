@@ -1,10 +1,15 @@
 //! The tokens of a JSON text that are held.
 
+ghost use Rattle.std.specs.Prelude.{◌≡◌, false, true, MatchOption};
+ghost use Rattle.json.specs.Reads.{token_of};
+ghost use Rattle.plural_documents.specs.Inner.HeldParts.{fits};
+ghost use Rattle.plural_documents.specs.Inner.HeldTokens.{held_of, held_token};
+
 use crate::json_number::json_number;
 use json::Token;
 use serde_json::Number;
 
-// A token of a text, with the number that it writes.
+// A token of a text, and of a number in place of its text the number that this writes.
 #[derive(Clone, Copy, Drop)]
 pub(crate) enum HeldToken<'a> {
     BeginObject,
@@ -19,9 +24,12 @@ pub(crate) enum HeldToken<'a> {
 }
 
 impl<'a> HeldToken<'a> {
-    // Returns the held form of a token, unless it is a number that is too large, or ends a text that is no JSON.
+    // Returns what is held of a token, unless it is a number that is too large, or a fault.
     #[inline(always)]
-    pub(crate) fn of(token: Token<'a>) -> Option<HeldToken<'a>> {
+    pub(crate) fn of(token: Token<'a>) -> Option<HeldToken<'a>>
+        ensures { MatchOption result (fits (token_of token.entry) ≡ false)
+            (λ held. (fits (token_of token.entry) ≡ true) × (held_token held ≡ held_of (token_of token.entry))) }
+    {
         match token {
             Token::BeginObject => Some(HeldToken::BeginObject),
             Token::EndObject => Some(HeldToken::EndObject),

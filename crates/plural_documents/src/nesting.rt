@@ -50,7 +50,9 @@ impl Nesting {
 
     // Returns how many are open.
     #[inline(always)]
-    pub(crate) fn depth(&self) -> u32 {
+    pub(crate) fn depth(&self) -> u32
+        ensures { result ≡ length self.now }
+    {
         self.count
     }
 

@@ -1,12 +1,16 @@
 //! The outline of a JSON value: what is kept of it.
 
-ghost use Rattle.std.specs.Prelude.{◌≡◌, ◌∷◌, ◌≤◌, IfOk, Ok, OnOk, length};
-ghost use Rattle.plural_documents.specs.Outlines.{GivesOutline};
+ghost use Rattle.std.specs.Prelude.{◌≡◌, ◌∷◌, ◌≤◌, IfOk, OnOk, length};
+ghost use Rattle.plural_documents.specs.Inner.HeldTokens.{held_token};
+ghost use Rattle.plural_documents.specs.Inner.OutlineSteps.{AreItems, AreOutlined, IsOutlined, KeepsPart, portion_below, portion_by};
+ghost use Rattle.plural_documents.specs.Outlines.{GivesOutline, IsOutlineOf};
+ghost use Rattle.serde_json.specs.Data.{put};
+ghost use Rattle.serde_json.specs.View.{items_view, members_view, view};
 
+use crate::held_token::HeldToken;
 use crate::json_text::JsonTextError;
 use crate::json_tokens::JsonTokens;
 use crate::tokens_left::TokensLeft;
-use crate::held_token::HeldToken;
 use json::Scratch;
 use serde_json::{Map, Value};
 use std::alloc::{AllocError, Global};
@@ -42,7 +46,7 @@ pub fn json_outline<S: Sieve>(alloc: Global, sieve: S, bytes: &[u8]) -> Result<V
     ensures { GivesOutline S.keeps sieve bytes.now result }
 {
     let mut scratch = Scratch::new(alloc);
-    let text = JsonTokens::read(alloc, bytes, None, &mut scratch)?;
+    let text = JsonTokens::read(alloc, bytes, &mut scratch)?;
     match text.outline(alloc, sieve) {
         Ok(value) => Ok(value),
         Err(_) => Err(JsonTextError::Memory),
@@ -50,9 +54,10 @@ pub fn json_outline<S: Sieve>(alloc: Global, sieve: S, bytes: &[u8]) -> Result<V
 }
 
 impl<'a> JsonTokens<'a> {
-    /// Returns the outline of the value that the text writes. It allocates.
+    /// Returns the outline of what is held of the value that the text writes. It allocates.
     pub fn outline<S: Sieve>(&self, alloc: Global, sieve: S) -> Result<Value, AllocError>
-        {
+        ensures { IfOk result (λ value. IsOutlineOf S.keeps sieve self.now (view value)) }
+    {
         let mut left = TokensLeft::of(self.tokens.as_slice());
         match left.next() {
             Some(first) => outlined(alloc, first, &mut left, Some(sieve)),
@@ -70,6 +75,8 @@ fn outlined<S: Sieve>(
     left: &mut TokensLeft<'_, '_>,
     sieve: Option<S>,
 ) -> Result<Value, AllocError>
+    ensures outlined { IfOk result (λ value. IsOutlined S.keeps sieve (held_token first.entry ∷ left.old) (view value) left.new) }
+    ensures shorter { OnOk result (length left.new ≤ length left.old) }
 {
     match first {
         HeldToken::Number(number) => Ok(Value::Number(number)),
@@ -89,6 +96,8 @@ fn whole_items<S: Sieve>(
     alloc: Global,
     left: &mut TokensLeft<'_, '_>,
 ) -> Result<Vec<Value>, AllocError>
+    ensures items { IfOk result (λ items. AreItems left.old (items_view items.items) left.new) }
+    ensures shorter { OnOk result (length left.new ≤ length left.old) }
 {
     let mut items = Vec::new(alloc);
     while let Some(first) = left.next() {
@@ -107,6 +116,8 @@ fn outlined_members<S: Sieve>(
     left: &mut TokensLeft<'_, '_>,
     sieve: Option<S>,
 ) -> Result<Map<String, Value>, AllocError>
+    ensures members { IfOk result (λ members. AreOutlined S.keeps sieve left.old (members_view members.entries) left.new) }
+    ensures shorter { OnOk result (length left.new ≤ length left.old) }
 {
     let mut members = Map::new(alloc);
     while let Some(first) = left.next() {
@@ -127,6 +138,9 @@ fn keep_member<S: Sieve>(
     sieve: Option<S>,
     members: &mut Map<String, Value>,
 ) -> Result<(), AllocError>
+    ensures keeps { OnOk result (KeepsPart S.keeps (portion_below S.keeps sieve key.now) key.now left.old
+        (members_view members.old.entries) (members_view members.new.entries) left.new) }
+    ensures shorter { OnOk result (length left.new ≤ length left.old) }
 {
     let Some(first) = left.next() else {
         return Ok(());
@@ -151,6 +165,9 @@ fn put_outlined<S: Sieve>(
     sieve: Option<S>,
     members: &mut Map<String, Value>,
 ) -> Result<(), AllocError>
+    ensures puts { OnOk result (KeepsPart S.keeps (portion_by sieve) key.now (held_token first.entry ∷ left.old)
+        (members_view members.old.entries) (members_view members.new.entries) left.new) }
+    ensures shorter { OnOk result (length left.new ≤ length left.old) }
 {
     let value = outlined(alloc, first, left, sieve)?;
     put_value(alloc, key, value, members)
@@ -165,6 +182,7 @@ fn put_value(
     value: Value,
     members: &mut Map<String, Value>,
 ) -> Result<(), AllocError>
+    ensures { OnOk result (members_view members.new.entries ≡ put key.now (view value) (members_view members.old.entries)) }
 {
     members.insert(String::from_str(alloc, key)?, value)?;
     Ok(())
@@ -172,6 +190,7 @@ fn put_value(
 
 // Returns how much is kept of the member with a key; without a sieve, all.
 fn portion_below<S: Sieve>(sieve: Option<S>, key: &str) -> Portion<S>
+    ensures { result ≡ portion_below S.keeps sieve key.now }
 {
     match sieve {
         Some(sieve) => sieve.kept(key),

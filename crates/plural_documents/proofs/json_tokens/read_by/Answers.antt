@@ -1,0 +1,21 @@
+use Rattle.std.proofs.Common.{◌≡◌, ℕ, ◌<◌, List, length, map, Err, sym, ap, subst}
+use Rattle.json.specs.Lex.{tokens}
+use Rattle.json.specs.Token.{Token}
+use Rattle.plural_documents.specs.Inner.HeldParts.{AreHeld, AreNoTokens, given_names, is_held_name}
+use Rattle.plural_documents.specs.Inner.HeldTokens.{held_token}
+use Rattle.plural_documents.specs.Outlines.{GivesHeldText}
+use Rattle.plural_documents.proofs.JsonTextLemmas.{value_refused}
+use Rattle.plural_documents.proofs.TextValues.{fault_given, text_held}
+use Rattle.plural_documents.proofs.json_tokens.read_by.Goals as goal
+
+pub returns-in_default : goal.returns-in_default
+returns-in_default c = value_refused _ (λ text. absurd (c.in_default.ensures text))
+
+pub returns-in-Err : goal.returns-in-Err
+returns-in-Err c =
+    let text = c.in-Ok.text.now in
+    let held : tokens text ≡ c.in-Ok-new.reader = sym c.in-Ok-new.ensures.ok in
+    subst (λ (bytes : List ℕ). GivesHeldText (given_names c.args.names) bytes (Err c.in-Err.fault)) (c.in-Ok.ensures).0
+    (fault_given (given_names c.args.names) text c.in-Err.fault
+    (λ is. subst (λ (us : List Token). AreNoTokens us) (sym held) (c.in-Err.ensures.json (ap Err is)))
+    (λ is. subst (λ (us : List Token). 0 < length us) (sym held) (c.in-Err.ensures.memory (ap Err is))))
