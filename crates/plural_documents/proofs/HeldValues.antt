@@ -46,7 +46,7 @@ module _ (names : List (List ℕ)) where
       let found = held_map object (of_members ms no_members) whole read in (
         object (kept_of found.0),
         ap (option_map object) (members_read ms no_members found.0 tt found.1),
-        rw (found.2) refl,
+        ap (outline named (kept.Members names)) found.2,
       )
 
 -- without names all is held

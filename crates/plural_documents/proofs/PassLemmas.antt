@@ -1,11 +1,11 @@
 -- How a value is passed, by the count of what is open.
-use Rattle.std.proofs.Common.{◌≡◌, ℕ, zero, suc, ◌-◌, ◌<◌, List, [], ◌∷◌, ◌++◌, refl, ap, ◌∙◌, arith}
+use Rattle.std.proofs.Common.{◌≡◌, ℕ, zero, suc, ◌-◌, ◌<◌, List, [], ◌∷◌, ◌++◌, refl, sym, ap, ◌∙◌, arith}
 use Rattle.json.specs.Json as json
 use Rattle.plural_documents.specs.Inner.HeldTokens.{Held, held_items, held_members, held_tokens, opened_after}
 use Rattle.plural_documents.proofs.OpenLemmas.{joined}
 
 -- what is left when nothing is open any more
-abbrev pub passed : ℕ → List Held → List Held
+abbrev passed : ℕ → List Held → List Held
 passed zero ts = ts
 passed (suc count) [] = []
 passed (suc count) (t ∷ ts) = passed (opened_after (suc count) t) ts
@@ -45,14 +45,32 @@ first_passed (json.string s) rest = refl
 first_passed (json.array js) rest = items_passed 0 js rest
 first_passed (json.object ms) rest = members_passed 0 ms rest
 
--- a value is passed
-pub passes : (value : json.Json) (t : Held) (ts rest : List Held) → t ∷ ts ≡ held_tokens value ++ rest → passed (opened_after 0 t) ts ≡ rest
-passes value t ts rest is = ap after_first is ∙ first_passed value rest
+-- ---- What is left after a value
 
-pub passed_by_one : (count : ℕ) (t : Held) (ts : List Held) → 0 < count → passed count (t ∷ ts) ≡ passed (opened_after count t) ts
+-- when nothing is open any more, these are left
+abbrev pub Leaves : List Held → ℕ → List Held → Type 0
+Leaves rest count ts = (left : List Held) × (passed count ts ≡ left) × (left ≡ rest)
+
+pub leaves_first : (value : json.Json) (rest : List Held) (t : Held) (ts : List Held) → t ∷ ts ≡ held_tokens value ++ rest
+    → Leaves rest (opened_after 0 t) ts
+leaves_first value rest t ts is = (rest, ap after_first is ∙ first_passed value rest, refl)
+
+passed_by_one : (count : ℕ) (t : Held) (ts : List Held) → 0 < count → passed count (t ∷ ts) ≡ passed (opened_after count t) ts
 passed_by_one zero t ts some = absurd (omega arith)
 passed_by_one (suc count) t ts some = refl
 
-pub none_to_pass : (count : ℕ) → passed count [] ≡ []
+-- after one token more
+pub leaves_on : (rest : List Held) (count : ℕ) (t : Held) (ts : List Held) → 0 < count → Leaves rest count (t ∷ ts) → Leaves rest (opened_after count t) ts
+leaves_on rest count t ts some (left, is, same) = (left, sym (passed_by_one count t ts some) ∙ is, same)
+
+-- nothing is open
+pub is_left : (rest ts : List Held) → Leaves rest 0 ts → ts ≡ rest
+is_left rest ts (left, is, same) = is ∙ same
+
+none_to_pass : (count : ℕ) → passed count [] ≡ []
 none_to_pass zero = refl
 none_to_pass (suc count) = refl
+
+-- no token is left
+pub none_is_left : (rest : List Held) (count : ℕ) → Leaves rest count [] → [] ≡ rest
+none_is_left rest count (left, is, same) = sym (none_to_pass count) ∙ is ∙ same

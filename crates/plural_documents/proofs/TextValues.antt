@@ -74,7 +74,7 @@ mutual
 
 -- ---- The value of a text
 
-none_left : {T : Type 0} (ts : List T) → ts ++ [] ≡ ts
+pub none_left : {T : Type 0} (ts : List T) → ts ++ [] ≡ ts
 none_left [] = refl
 none_left (t ∷ ts) = ap (λ us. t ∷ us) (none_left ts)
 

@@ -62,7 +62,7 @@ abbrev mutual
 
   pub held_members : json.Members → List Held
   held_members json.no_members = Held.end_object ∷ []
-  held_members (json.member key value members) = Held.key key ∷ (held_tokens value ++ held_members members)
+  held_members (json.member name value members) = Held.key name ∷ (held_tokens value ++ held_members members)
 
 -- how many arrays and objects are open after a token
 abbrev pub opened_after : ℕ → Held → ℕ

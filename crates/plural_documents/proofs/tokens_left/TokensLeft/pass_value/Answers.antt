@@ -1,8 +1,8 @@
-use Rattle.std.proofs.Common.{◌≡◌, ℕ, suc, ◌+◌, ◌-◌, ◌<◌, ◌≤◌, List, [], ◌∷◌, drop, get_or, length, length-drop, map, take, take_all, refl, sym, ap, ◌∙◌, arith}
+use Rattle.std.proofs.Common.{◌≡◌, ℕ, suc, ◌+◌, ◌-◌, ◌<◌, ◌≤◌, List, [], ◌∷◌, drop, get_or, length, length-drop, map, take, take_all, refl, ap, subst, ◌∙◌, arith}
 use Rattle.std.proofs.lemmas.List.{length-map}
 use Rattle.plural_documents.specs.Inner.HeldTokens.{Held, held_token, opened_after}
-use Rattle.plural_documents.specs.declared.held_token.HeldHeld.{HeldToken}
-use Rattle.plural_documents.proofs.PassLemmas.{none_to_pass, passed, passed_by_one, passes}
+use Rattle.plural_documents.specs.declared.held_token.HeldToken.{HeldToken}
+use Rattle.plural_documents.proofs.PassLemmas.{Leaves, is_left, leaves_first, leaves_on, none_is_left}
 use Rattle.plural_documents.proofs.tokens_left.TokensLeft.pass_value.Goals.{else-loop-opened-test, then-loop-opened-test+in_default}
 use Rattle.plural_documents.proofs.tokens_left.TokensLeft.pass_value.Goals as goal
 
@@ -46,7 +46,7 @@ one_shorter n m most less within = omega arith
 
 pub loop-opened-init : goal.loop-opened-init
 loop-opened-init c = rw (c.opened_after-opened.ensures) (
-  refl,
+  (λ value rest is. leaves_first value rest (held_token c.args.first) (map held_token c.self.inside.tokens.now) is),
   first_few (held_token c.args.first) (length c.self.inside.tokens.now),
   same_length (length c.self.inside.tokens.now),
 )
@@ -55,8 +55,8 @@ pub loop-opened-preserved : goal.loop-opened-preserved
 loop-opened-preserved c =
     let ts = c.loop-opened.tokens.now in
     rw (others ts, c.opened_after-opened-in-loop-opened.ensures) (
-      c.loop-opened.invariant.0 ∙ ap (passed c.loop-opened.opened) (parted ts _ c.in-len1-up.len_at_least)
-          ∙ passed_by_one c.loop-opened.opened _ (map held_token (drop 1 ts)) c.loop-opened-test.true,
+      (λ value rest is. leaves_on rest c.loop-opened.opened _ (map held_token (drop 1 ts)) c.loop-opened-test.true
+          (subst (Leaves rest c.loop-opened.opened) (parted ts _ c.in-len1-up.len_at_least) (c.loop-opened.invariant.0 value rest is))),
       one_more_at_most _ c.loop-opened.opened (length (drop 1 ts)) (length c.self.inside.tokens.now)
           (rw (shorter ts c.in-len1-up.len_at_least) c.loop-opened.invariant.1),
       one_shorter (length (drop 1 ts)) (length ts) (length c.self.inside.tokens.now) (shorter ts c.in-len1-up.len_at_least)
@@ -76,14 +76,13 @@ none_left (t ∷ ts) less = absurd (below less)
 pub returns-clause-passed : goal.returns-clause-passed
 returns-clause-passed c value rest is =
     let ts = map held_token c.loop-opened.tokens.now in
-    let left : passed c.loop-opened.opened ts ≡ rest =
-    sym c.loop-opened.invariant.0
-    ∙ passes value (held_token c.args.first) (map held_token c.self.inside.tokens.now) rest (ap (λ us. held_token c.args.first ∷ us) c.self.view_is ∙ is) in
+    let leaves = c.loop-opened.invariant.0 value rest (ap (λ us. held_token c.args.first ∷ us) c.self.view_is ∙ is) in
     elim c.loop-opened-test.branch [
-      | else-loop-opened-test w ↦ ap (λ n. passed n ts) (sym (none_open c.loop-opened.opened w.loop-opened-test.false)) ∙ left
+      | else-loop-opened-test w ↦
+          is_left rest ts (subst (λ (n : ℕ). Leaves rest n ts) (none_open c.loop-opened.opened w.loop-opened-test.false) leaves)
       | then-loop-opened-test+in_default w ↦
           let none = none_left c.loop-opened.tokens.now w.in_default.len_below in
-          none ∙ sym (ap (passed c.loop-opened.opened) none ∙ none_to_pass c.loop-opened.opened) ∙ left
+          none ∙ none_is_left rest c.loop-opened.opened (subst (Leaves rest c.loop-opened.opened) none leaves)
     ]
 
 pub returns-clause-shorter : goal.returns-clause-shorter

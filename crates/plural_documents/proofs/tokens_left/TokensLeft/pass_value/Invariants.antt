@@ -1,12 +1,14 @@
-use Rattle.std.proofs.Common.{◌≡◌, ◌+◌, ◌≤◌, length, map}
-use Rattle.plural_documents.specs.Inner.HeldTokens.{held_token, opened_after}
-use Rattle.plural_documents.proofs.PassLemmas.{passed}
+use Rattle.std.proofs.Common.{◌≡◌, ◌+◌, ◌≤◌, ◌∷◌, ◌++◌, List, length, map}
+use Rattle.json.specs.Json.{Json}
+use Rattle.plural_documents.specs.Inner.HeldTokens.{Held, held_token, held_tokens}
+use Rattle.plural_documents.proofs.PassLemmas.{Leaves}
 use Rattle.plural_documents.proofs.tokens_left.TokensLeft.pass_value.Given as goal
 
--- the same is left after what is open
+-- what comes after the value is left when nothing is open any more
 abbrev pub invariant-loop-opened : goal.invariant-loop-opened
 invariant-loop-opened l =
-    (passed (opened_after 0 (held_token l.first)) (map held_token l.initial.tokens) ≡ passed l.opened (map held_token l.tokens))
+    ((value : Json) (rest : List Held) → held_token l.first ∷ map held_token l.initial.tokens ≡ held_tokens value ++ rest
+    → Leaves rest l.opened (map held_token l.tokens))
     × (l.opened + length l.tokens ≤ 1 + length l.initial.tokens) × (length l.tokens ≤ length l.initial.tokens)
 
 abbrev pub decreases-loop-opened : goal.decreases-loop-opened
