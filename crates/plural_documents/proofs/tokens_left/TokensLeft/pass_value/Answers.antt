@@ -1,4 +1,4 @@
-use Rattle.std.proofs.Common.{◌≡◌, ℕ, suc, ◌+◌, ◌-◌, ◌<◌, ◌≤◌, List, [], ◌∷◌, drop, get_or, length, length-drop, map, take, take_all, refl, ap, subst, ◌∙◌, arith}
+use Rattle.std.proofs.Common.{◌≡◌, ℕ, suc, ◌+◌, ◌-◌, ◌<◌, ◌≤◌, List, [], ◌∷◌, drop, get_or, length, length-drop, map, take, take_all, refl, sym, ap, subst, ◌∙◌, arith}
 use Rattle.std.proofs.lemmas.List.{length-map}
 use Rattle.plural_documents.specs.Inner.HeldTokens.{Held, held_token, opened_after}
 use Rattle.plural_documents.specs.declared.held_token.HeldToken.{HeldToken}
@@ -24,12 +24,12 @@ others : (ts : List HeldToken) → take (length ts - 1) (drop 1 ts) ≡ drop 1 t
 others ts = take_all (length ts - 1) (drop 1 ts) (omega (arith, length-drop 1 ts))
 
 -- the first token and the others
-parted : (ts : List HeldToken) (d : HeldToken) → 1 ≤ length ts → map held_token ts ≡ held_token (get_or ts 0 d) ∷ map held_token (drop 1 ts)
-parted [] d some = absurd (none some)
+parted : (ts : List HeldToken) (d first : HeldToken) → 1 ≤ length ts → first ≡ get_or ts 0 d → map held_token ts ≡ held_token first ∷ map held_token (drop 1 ts)
+parted [] d first some is = absurd (none some)
   where
     none : 1 ≤ 0 → ⊥
     none some = omega arith
-parted (t ∷ ts) d some = refl
+parted (t ∷ ts) d first some is = ap (λ u. held_token u ∷ map held_token ts) (sym is)
 
 shorter : (ts : List HeldToken) → 1 ≤ length ts → suc (length (drop 1 ts)) ≡ length ts
 shorter [] some = absurd (none some)
@@ -55,8 +55,8 @@ pub loop-opened-preserved : goal.loop-opened-preserved
 loop-opened-preserved c =
     let ts = c.loop-opened.tokens.now in
     rw (others ts, c.opened_after-opened-in-loop-opened.ensures) (
-      (λ value rest is. leaves_on rest c.loop-opened.opened _ (map held_token (drop 1 ts)) c.loop-opened-test.true
-          (subst (Leaves rest c.loop-opened.opened) (parted ts _ c.in-len1-up.len_at_least) (c.loop-opened.invariant.0 value rest is))),
+      (λ value rest is. leaves_on rest c.loop-opened.opened (held_token c.token-item.result) (map held_token (drop 1 ts)) c.loop-opened-test.true
+          (subst (Leaves rest c.loop-opened.opened) (parted ts _ c.token-item.result c.in-len1-up.len_at_least c.token-item.is) (c.loop-opened.invariant.0 value rest is))),
       one_more_at_most _ c.loop-opened.opened (length (drop 1 ts)) (length c.self.inside.tokens.now)
           (rw (shorter ts c.in-len1-up.len_at_least) c.loop-opened.invariant.1),
       one_shorter (length (drop 1 ts)) (length ts) (length c.self.inside.tokens.now) (shorter ts c.in-len1-up.len_at_least)
