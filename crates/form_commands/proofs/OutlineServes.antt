@@ -1,8 +1,9 @@
 -- An outline of a document of rules serves as the whole does, where the chain stays inside.
-use Rattle.std.proofs.Common.{◌≡◌, ℕ, zero, suc, ◌<◌, ◌≤◌, List, true, Option, Some, None, Result, Ok, Err, inl, inr, refl, sym, ap, ◌∙◌, arith}
-use Rattle.std.specs.Prelude.{IfOk, is_some, option_and_then}
+use Rattle.std.proofs.Common.{◌≡◌, ℕ, zero, suc, ◌<◌, ◌≤◌, List, [], ◌∷◌, Bool, true, false, Option, Some, None, Result, Ok, Err, inl, inr, refl, sym, ap, ◌∙◌, arith}
+use Rattle.std.specs.Prelude.{◌||◌, bytes_eq, codes, IfOk, is_some, option_and_then}
 use Rattle.std.specs.declared.alloc.AllocError.{AllocError}
-use Rattle.plural_documents.specs.Outlines.{GivesOutline, outline}
+use Rattle.plural_documents.proofs.HeldOutlines.{outline_held}
+use Rattle.plural_documents.specs.Outlines.{HeldText, IsOutlineOf, is_named, outline, part_by_names}
 use Rattle.plural_documents.specs.declared.Portion.TheVariants as kept
 use Rattle.plural_fallback.specs.Chain.{next_of}
 use Rattle.plural_fallback.specs.FirstKeys.{NoneBefore, locale_at}
@@ -14,7 +15,7 @@ use Rattle.plural_fallback.specs.declared.locales.Part.{Part}
 use Rattle.serde_json.specs.Data.{Data}
 use Rattle.serde_json.specs.View.{view}
 use Rattle.serde_json.specs.declared.Value.{Value}
-use Rattle.form_commands.specs.Inner.RulesOutline.{IsServedBy, Serves, StaysInside, is_inside, keeps}
+use Rattle.form_commands.specs.Inner.RulesOutline.{HoldsPart, IsServedBy, Serves, StaysInside, is_inside, keeps}
 use Rattle.form_commands.specs.KeyNotes.{IsNote}
 use Rattle.form_commands.specs.Languages.{HasNoKey, IsFoundAt, IsFoundFor, IsKeyOf, key_after, most_locales, value_at}
 use Rattle.form_commands.specs.declared.error.LanguageError.{LanguageError}
@@ -127,14 +128,28 @@ module _ (part : Part) (locale : List ℕ) (locales : KeptLocales) (whole docume
 pub all_stay : (document : Data) (part : Part) (locale : List ℕ) → StaysInside All document part locale
 all_stay document part locale n within current none here = refl
 
--- so what is kept of a part serves
-pub outline_is_served : (part : Part) (locale bytes : List ℕ) (locales : KeptLocales) (value : Value)
-    → GivesOutline keeps (Document part locales) bytes (Ok value) → StaysInside locales (view value) part locale
-    → IsServedBy part locale bytes (view value)
-outline_is_served part locale bytes locales value kept stays =
-    (kept.0, kept.1, outline_serves part locale locales kept.0 (view value) kept.2 stays)
+-- ---- What is held serves
 
-pub all_served : (part : Part) (locale bytes : List ℕ) (r : Result Value AllocError)
-    → IfOk r (λ value. GivesOutline keeps (Document part All) bytes (Ok value)) → IfOk r (λ value. IsServedBy part locale bytes (view value))
-all_served part locale bytes (Ok value) kept = outline_is_served part locale bytes All value kept (all_stay (view value) part locale)
-all_served part locale bytes (Err error) kept = kept
+with_none : (a b : Bool) → a || (b || false) ≡ false → a || b ≡ false
+with_none true b is = is
+with_none false true is = is
+with_none false false is = refl
+
+-- no other member is kept
+no_other : (part : Part) (locales : KeptLocales) (key : List ℕ) → is_named (part_name part ∷ codes "parents" ∷ []) key ≡ false
+    → keeps (Document part locales) key ≡ kept.Nothing
+no_other part locales key other = rw (with_none (bytes_eq key (part_name part)) (bytes_eq key (codes "parents")) other) refl
+
+-- so what is kept of a part serves
+pub outline_is_served : (part : Part) (locale : List ℕ) (text : HeldText) (locales : KeptLocales) (value : Value) → HoldsPart part text
+    → IsOutlineOf keeps (Document part locales) text (view value) → StaysInside locales (view value) part locale
+    → IsServedBy part locale text.bytes (view value)
+outline_is_served part locale text locales value names (held, (whole, reads, is_held), kept) stays =
+    let same = outline_held keeps (Document part locales) (part_name part ∷ codes "parents" ∷ []) (no_other part locales) whole held
+    (ap (λ given. part_by_names given whole) (sym names) ∙ is_held) in
+    (whole, reads, outline_serves part locale locales whole (view value) (same ∙ kept) stays)
+
+pub all_served : (part : Part) (locale : List ℕ) (text : HeldText) (r : Result Value AllocError) → HoldsPart part text
+    → IfOk r (λ value. IsOutlineOf keeps (Document part All) text (view value)) → IfOk r (λ value. IsServedBy part locale text.bytes (view value))
+all_served part locale text (Ok value) names kept = outline_is_served part locale text All value names kept (all_stay (view value) part locale)
+all_served part locale text (Err error) names kept = kept

@@ -1,7 +1,7 @@
 //! The outline of a document of rules: what is kept of it serves one locale as the whole does.
 
 ghost use Rattle.std.specs.Prelude.{◌≡◌, ◌≤◌, IfOk, IfSome, IsTrue, codes, take, length};
-ghost use Rattle.form_commands.specs.Inner.RulesOutline.{IsServedBy, GivesRulesOutline, StaysInside, is_among, is_inside, is_part, steps_view};
+ghost use Rattle.form_commands.specs.Inner.RulesOutline.{HoldsPart, IsServedBy, GivesRulesOutline, StaysInside, is_among, is_inside, is_part, steps_view};
 ghost use Rattle.plural_fallback.specs.LocaleNames.{is_same};
 ghost use Rattle.serde_json.specs.View.{view};
 
@@ -131,22 +131,24 @@ pub(crate) fn rules_outline(
 ) -> Result<Value, JsonTextError>
     ensures { GivesRulesOutline part locale.now bytes.now result }
 {
+    let names = [part.as_str(), "parents"];
     let mut scratch = Scratch::new(alloc);
-    let text = JsonTokens::read(alloc, bytes, &mut scratch)?;
+    let text = JsonTokens::read_members(alloc, &names, bytes, &mut scratch)?;
     match serving_outline(alloc, part, locale, &text) {
         Ok(outline) => Ok(outline),
         Err(_) => Err(JsonTextError::Memory),
     }
 }
 
-// Returns the same of a text that was read.
+// Returns the same of a text that was read, of which the part and the parents are held.
 fn serving_outline(
     alloc: Global,
     part: Part,
     locale: &str,
     text: &JsonTokens<'_>,
 ) -> Result<Value, AllocError>
-    ensures { IfOk result (λ document. IsServedBy part locale.now text.now (view document)) }
+    requires { HoldsPart part text.now }
+    ensures { IfOk result (λ document. IsServedBy part locale.now text.now.bytes (view document)) }
 {
     let fronts = KeptLocales::Fronts(locale.as_bytes());
     if let Some(outline) = outline_inside(alloc, part, locale, fronts, text)? {
@@ -168,7 +170,8 @@ fn outline_inside(
     locales: KeptLocales<'_>,
     text: &JsonTokens<'_>,
 ) -> Result<Option<Value>, AllocError>
-    ensures { IfOk result (λ found. IfSome found (λ document. IsServedBy part locale.now text.now (view document))) }
+    requires { HoldsPart part text.now }
+    ensures { IfOk result (λ found. IfSome found (λ document. IsServedBy part locale.now text.now.bytes (view document))) }
 {
     let outline = text.outline(alloc, RulesSieve::Document(part, locales))?;
     if stays_inside(&outline, part, locale, locales) {
@@ -178,7 +181,7 @@ fn outline_inside(
     }
 }
 
-// Returns what is kept for the first locales of the chain, if it stays among them.
+// Returns what is kept for the locales of the chain, unless these are many, if it stays among them.
 fn outline_of_chain<'a>(
     alloc: Global,
     part: Part,
@@ -186,17 +189,24 @@ fn outline_of_chain<'a>(
     parents: &'a Value,
     text: &JsonTokens<'_>,
 ) -> Result<Option<Value>, AllocError>
-    ensures { IfOk result (λ found. IfSome found (λ document. IsServedBy part locale.now text.now (view document))) }
+    requires { HoldsPart part text.now }
+    ensures { IfOk result (λ found. IfSome found (λ document. IsServedBy part locale.now text.now.bytes (view document))) }
 {
     let mut steps = [locale.as_bytes(); MOST_STEPS];
-    let count = walk(parents, locale.as_bytes(), &mut steps);
+    let Some(count) = walk(parents, locale.as_bytes(), &mut steps) else {
+        return Ok(None);
+    };
     let chain = KeptLocales::These(&steps[..count]);
     outline_inside(alloc, part, locale, chain, text)
 }
 
-// Writes the first locales of a chain, and returns how many.
-fn walk<'a>(parents: &'a Value, locale: &'a [u8], steps: &mut [&'a [u8]; MOST_STEPS]) -> usize
-    ensures { result ≤ length steps.new }
+// Writes the locales of a chain, and returns how many, unless there are too many.
+fn walk<'a>(
+    parents: &'a Value,
+    locale: &'a [u8],
+    steps: &mut [&'a [u8]; MOST_STEPS],
+) -> Option<usize>
+    ensures { IfSome result (λ count. count ≤ length steps.new) }
 {
     let mut current = locale;
     let mut count = 0;
@@ -204,11 +214,11 @@ fn walk<'a>(parents: &'a Value, locale: &'a [u8], steps: &mut [&'a [u8]; MOST_ST
         steps[count] = current;
         count += 1;
         let Some(next) = next_locale(parents, current) else {
-            break;
+            return Some(count);
         };
         current = next;
     }
-    count
+    None
 }
 
 // Returns whether the chain of a locale stays among these locales, up to its first key. It isn't

@@ -2,6 +2,10 @@ pub mod FoundLemmas
 pub mod InputLemmas
 pub mod ItemLemmas
 pub mod JsonTextLemmas
+pub mod HeldLemmas
+pub mod HeldOutlines
+pub mod HeldPartLemmas
+pub mod HeldValues
 pub mod OutlineLemmas
 pub mod KindLemmas
 pub mod NumberLemmas

@@ -21,7 +21,7 @@ by_first : (P : Token → List Token → Type 0) (t u : Token) (ts us : List Tok
 by_first P t u ts us same is =
     subst (λ (x : Token). P x ts) (sym (ap (first_or t) same)) (subst (λ (xs : List Token). P u xs) (sym (ap rest_of same)) is)
 
-pub joined : (one two three : List Token) → (one ++ two) ++ three ≡ one ++ (two ++ three)
+pub joined : {T : Type 0} (one two three : List T) → (one ++ two) ++ three ≡ one ++ (two ++ three)
 joined [] two three = refl
 joined (t ∷ one) two three = ap (λ ts. t ∷ ts) (joined one two three)
 

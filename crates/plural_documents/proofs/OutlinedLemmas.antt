@@ -1,14 +1,13 @@
--- What is kept of a value, by its tokens.
+-- What is kept of a value, by the tokens that are held of it.
 use Rattle.std.proofs.Common.{◌≡◌, ℕ, List, ◌∷◌, ◌++◌, Bool, true, false, true≢false, Option, Some, None, Result, Ok, Err, String, Global, string_bytes, refl, rules, sym, ap, ◌∙◌}
 use Rattle.std.specs.Prelude.{OnOk, option_map, unwrap_or}
 use Rattle.json.specs.Json as json
-use Rattle.json.specs.Token.{Token}
-use Rattle.json.specs.Tree.{json_tokens}
+use Rattle.plural_documents.specs.Inner.HeldTokens.{Held, held_tokens}
 use Rattle.plural_documents.specs.Inner.OutlineSteps.{AreItems, AreOutlined, IsOutlined, IsPassed, KeepsPart, members_by, portion_by, put_portion}
 use Rattle.plural_documents.specs.Outlines.{outline}
 use Rattle.plural_documents.specs.declared.outline.Portion.{Portion}
 use Rattle.plural_documents.specs.declared.outline.Portion.TheVariants as kept
-use Rattle.plural_documents.proofs.OpenLemmas.{first_or, rest_of}
+use Rattle.plural_documents.proofs.HeldLemmas.{first_or, rest_of}
 use Rattle.serde_json.specs.Data.{Data, Num, null, boolean, number, string, array, object, Items, Members, no_members, put}
 use Rattle.serde_json.specs.Read.{number_of, of_items, of_members}
 use Rattle.serde_json.specs.View.{number_view, view}
@@ -29,19 +28,18 @@ on_success (Ok a) next is = next is
 on_success (Err e) next is = is
 
 -- a value may begin with the token
-abbrev pub begins : Token → Bool
-begins Token.begin_object = true
-begins Token.end_object = false
-begins Token.begin_array = true
-begins Token.end_array = false
-begins (Token.key k) = false
-begins (Token.string s) = true
-begins (Token.number s) = true
-begins (Token.boolean b) = true
-begins Token.null = true
-begins Token.bad = false
+abbrev pub begins : Held → Bool
+begins Held.begin_object = true
+begins Held.end_object = false
+begins Held.begin_array = true
+begins Held.end_array = false
+begins (Held.key k) = false
+begins (Held.string s) = true
+begins (Held.number s) = true
+begins (Held.boolean b) = true
+begins Held.null = true
 
-value_begins : (j : json.Json) (after : List Token) → begins (first_or Token.bad (json_tokens j ++ after)) ≡ true
+value_begins : (j : json.Json) (after : List Held) → begins (first_or Held.end_array (held_tokens j ++ after)) ≡ true
 value_begins json.null after = refl
 value_begins (json.boolean b) after = refl
 value_begins (json.number s) after = refl
@@ -76,7 +74,7 @@ module _ {S : Type 0} (keeps : S → List ℕ → Portion S) (sieve : Option S) 
   of_object None ms = refl
   of_object (Some sieve) ms = refl
 
-  pub string_outlined : (s : List ℕ) (ts : List Token) → IsOutlined keeps sieve (Token.string s ∷ ts) (string s) ts
+  pub string_outlined : (s : List ℕ) (ts : List Held) → IsOutlined keeps sieve (Held.string s ∷ ts) (string s) ts
   string_outlined s ts json.null rest whole is read = absurd (cc)
   string_outlined s ts (json.boolean b) rest whole is read = absurd (cc)
   string_outlined s ts (json.number n) rest whole is read = absurd (cc)
@@ -86,7 +84,7 @@ module _ {S : Type 0} (keeps : S → List ℕ → Portion S) (sieve : Option S) 
   string_outlined s ts (json.array js) rest whole is read = absurd (cc)
   string_outlined s ts (json.object ms) rest whole is read = absurd (cc)
 
-  pub boolean_outlined : (b : Bool) (ts : List Token) → IsOutlined keeps sieve (Token.boolean b ∷ ts) (boolean b) ts
+  pub boolean_outlined : (b : Bool) (ts : List Held) → IsOutlined keeps sieve (Held.boolean b ∷ ts) (boolean b) ts
   boolean_outlined b ts json.null rest whole is read = absurd (cc)
   boolean_outlined b ts (json.boolean t) rest whole is read =
       let same : b ≡ t = cc in
@@ -96,7 +94,7 @@ module _ {S : Type 0} (keeps : S → List ℕ → Portion S) (sieve : Option S) 
   boolean_outlined b ts (json.array js) rest whole is read = absurd (cc)
   boolean_outlined b ts (json.object ms) rest whole is read = absurd (cc)
 
-  pub null_outlined : (ts : List Token) → IsOutlined keeps sieve (Token.null ∷ ts) null ts
+  pub null_outlined : (ts : List Held) → IsOutlined keeps sieve (Held.null ∷ ts) null ts
   null_outlined ts json.null rest whole is read =
       (ap rest_of is, ap (outline keeps (portion_by sieve)) (sym (some_is null whole read)) ∙ of_null sieve)
   null_outlined ts (json.boolean t) rest whole is read = absurd (cc)
@@ -105,38 +103,26 @@ module _ {S : Type 0} (keeps : S → List ℕ → Portion S) (sieve : Option S) 
   null_outlined ts (json.array js) rest whole is read = absurd (cc)
   null_outlined ts (json.object ms) rest whole is read = absurd (cc)
 
-  pub number_outlined : (s : List ℕ) (n : Num) (ts : List Token) → number_of s ≡ Some n → IsOutlined keeps sieve (Token.number s ∷ ts) (number n) ts
-  number_outlined s n ts has json.null rest whole is read = absurd (cc)
-  number_outlined s n ts has (json.boolean t) rest whole is read = absurd (cc)
-  number_outlined s n ts has (json.number t) rest whole is read =
-      let same : s ≡ t = cc in
+  pub number_outlined : (n : Num) (ts : List Held) → IsOutlined keeps sieve (Held.number (Some n) ∷ ts) (number n) ts
+  number_outlined n ts json.null rest whole is read = absurd (cc)
+  number_outlined n ts (json.boolean t) rest whole is read = absurd (cc)
+  number_outlined n ts (json.number t) rest whole is read =
+      let same : Some n ≡ number_of t = cc in
       let found = held_map number (number_of t) whole read in
-      let which : found.0 ≡ n = some_is found.0 n (sym found.1 ∙ ap number_of (sym same) ∙ has) in
+      let which : found.0 ≡ n = some_is found.0 n (sym found.1 ∙ sym same) in
       (ap rest_of is, ap (outline keeps (portion_by sieve)) (found.2 ∙ ap number which) ∙ of_number sieve n)
-  number_outlined s n ts has (json.string t) rest whole is read = absurd (cc)
-  number_outlined s n ts has (json.array js) rest whole is read = absurd (cc)
-  number_outlined s n ts has (json.object ms) rest whole is read = absurd (cc)
-
-  -- no text has a number that is too large
-  pub no_number : (s : List ℕ) (d : Data) (ts : List Token) → number_of s ≡ None → IsOutlined keeps sieve (Token.number s ∷ ts) d ts
-  no_number s d ts none json.null rest whole is read = absurd (cc)
-  no_number s d ts none (json.boolean t) rest whole is read = absurd (cc)
-  no_number s d ts none (json.number t) rest whole is read =
-      let same : s ≡ t = cc in
-      let found = held_map number (number_of t) whole read in
-      let never : Some found.0 ≡ None = sym found.1 ∙ ap number_of (sym same) ∙ none in absurd (cc)
-  no_number s d ts none (json.string t) rest whole is read = absurd (cc)
-  no_number s d ts none (json.array js) rest whole is read = absurd (cc)
-  no_number s d ts none (json.object ms) rest whole is read = absurd (cc)
+  number_outlined n ts (json.string t) rest whole is read = absurd (cc)
+  number_outlined n ts (json.array js) rest whole is read = absurd (cc)
+  number_outlined n ts (json.object ms) rest whole is read = absurd (cc)
 
   -- no value begins with this token
-  pub none_outlined : (t : Token) (d : Data) (ts new : List Token) → begins t ≡ false → IsOutlined keeps sieve (t ∷ ts) d new
+  pub none_outlined : (t : Held) (d : Data) (ts new : List Held) → begins t ≡ false → IsOutlined keeps sieve (t ∷ ts) d new
   none_outlined t d ts new other value rest whole is read =
-      absurd (true≢false (sym (value_begins value rest) ∙ ap (λ us. begins (first_or Token.bad us)) (sym is) ∙ other))
+      absurd (true≢false (sym (value_begins value rest) ∙ ap (λ us. begins (first_or Held.end_array us)) (sym is) ∙ other))
 
   -- ---- Arrays and objects
 
-  pub array_outlined : (ts new : List Token) (found : Items) → AreItems ts found new → IsOutlined keeps sieve (Token.begin_array ∷ ts) (array found) new
+  pub array_outlined : (ts new : List Held) (found : Items) → AreItems ts found new → IsOutlined keeps sieve (Held.begin_array ∷ ts) (array found) new
   array_outlined ts new found are json.null rest whole is read = absurd (cc)
   array_outlined ts new found are (json.boolean t) rest whole is read = absurd (cc)
   array_outlined ts new found are (json.number n) rest whole is read = absurd (cc)
@@ -147,8 +133,8 @@ module _ {S : Type 0} (keeps : S → List ℕ → Portion S) (sieve : Option S) 
       (all.0, ap (outline keeps (portion_by sieve)) (some.2 ∙ ap array all.1) ∙ of_array sieve found)
   array_outlined ts new found are (json.object ms) rest whole is read = absurd (cc)
 
-  pub object_outlined : (ts new : List Token) (found : Members) → AreOutlined keeps sieve ts found new
-      → IsOutlined keeps sieve (Token.begin_object ∷ ts) (object found) new
+  pub object_outlined : (ts new : List Held) (found : Members) → AreOutlined keeps sieve ts found new
+      → IsOutlined keeps sieve (Held.begin_object ∷ ts) (object found) new
   object_outlined ts new found are json.null rest whole is read = absurd (cc)
   object_outlined ts new found are (json.boolean t) rest whole is read = absurd (cc)
   object_outlined ts new found are (json.number n) rest whole is read = absurd (cc)
@@ -162,13 +148,13 @@ module _ {S : Type 0} (keeps : S → List ℕ → Portion S) (sieve : Option S) 
   -- ---- Members
 
   -- what is kept of a value goes in under its key
-  pub part_put : (key : List ℕ) (old new : List Token) (part : Data) (before after : Members) → IsOutlined keeps sieve old part new
+  pub part_put : (key : List ℕ) (old new : List Held) (part : Data) (before after : Members) → IsOutlined keeps sieve old part new
       → after ≡ put key part before → KeepsPart keeps (portion_by sieve) key old before after new
   part_put key old new part before after outlined puts value rest whole is read =
       let kept = outlined value rest whole is read in
       (kept.0, puts ∙ ap (λ o. put_portion key o before) (sym kept.1))
 
-  pub part_passed : (key : List ℕ) (old new : List Token) (before : Members) → IsPassed old new → KeepsPart keeps kept.Nothing key old before before new
+  pub part_passed : (key : List ℕ) (old new : List Held) (before : Members) → IsPassed old new → KeepsPart keeps kept.Nothing key old before before new
   part_passed key old new before passed value rest whole is read = (passed value rest is, refl)
 
 -- ---- What a value stands for

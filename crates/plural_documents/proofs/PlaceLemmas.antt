@@ -1,12 +1,37 @@
 -- How a place of a JSON text goes on.
-use Rattle.std.proofs.Common.{◌≡◌, ℕ, ◌<◌, ◌≤◌, List, [], ◌∷◌, length, Bool, true, false, true≢false, arith}
+use Rattle.std.proofs.Common.{◌≡◌, ℕ, suc, ◌-◌, ◌<◌, ◌≤◌, List, [], ◌∷◌, length, Bool, true, false, refl, true≢false, arith}
 use Rattle.std.specs.Prelude.{drop}
 use Rattle.json.specs.Token.{Token}
+use Rattle.plural_documents.specs.Inner.HeldTokens.{held_of, opened_after}
 use Rattle.plural_documents.specs.Inner.OpenBrackets.{Comes, Completes, beginning, ending, goes_on, is_scalar, may_have_value}
 use Rattle.plural_documents.proofs.OpenLemmas.{Follows, follows, leads}
 
 nothing_left : (t : Token) (ts : List Token) → t ∷ ts ≡ [] → ⊥
 nothing_left t ts is = absurd (cc)
+
+-- ---- How many are open
+
+pub one_more : (k : Bool) (n : ℕ) → opened_after n (held_of (beginning k)) ≡ suc n
+one_more true n = refl
+one_more false n = refl
+
+pub one_less : (k : Bool) (n : ℕ) → opened_after n (held_of (ending k)) ≡ n - 1
+one_less true n = refl
+one_less false n = refl
+
+pub as_many : (t : Token) (n : ℕ) → is_scalar t ≡ true → opened_after n (held_of t) ≡ n
+as_many Token.begin_object n is = absurd (true≢false (cc))
+as_many Token.end_object n is = absurd (true≢false (cc))
+as_many Token.begin_array n is = absurd (true≢false (cc))
+as_many Token.end_array n is = absurd (true≢false (cc))
+as_many (Token.key k) n is = refl
+as_many (Token.string s) n is = refl
+as_many (Token.number s) n is = refl
+as_many (Token.boolean b) n is = refl
+as_many Token.null n is = refl
+as_many Token.bad n is = refl
+
+-- ---- What comes
 
 module _ (most : ℕ) where
   abbrev Next : Bool → List Bool → List Token → Type 0

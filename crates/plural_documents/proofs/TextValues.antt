@@ -10,15 +10,20 @@ use Rattle.json.specs.Token.{Token}
 use Rattle.json.specs.Tree.{items_tokens, json_tokens, members_tokens}
 use Rattle.json.proofs.Nesting.{value-depth}
 use Rattle.json.proofs.Unique.Spelling.{value-json_tokens_back}
-use Rattle.plural_documents.specs.Inner.HeldTokens.{AreNoTokens, AreTokens, fits}
+use Rattle.plural_documents.specs.Inner.HeldParts.{AreHeld, AreNoTokens, Holds, fits, is_held_name, json_part}
+use Rattle.plural_documents.specs.Inner.HeldTokens.{Held, held_tokens}
 use Rattle.plural_documents.specs.Inner.OpenBrackets.{Comes, most_open}
 use Rattle.plural_documents.proofs.TokenValues.{value_back}
 use Rattle.json.proofs.OnLiterals.{json_on_literals}
 use Rattle.plural_documents.specs.Inner.OutlineSteps.{IsOutlined}
-use Rattle.plural_documents.specs.Outlines.{GivesJsonTokens, GivesOutline}
+use Rattle.plural_documents.specs.Inputs.{json_of}
+use Rattle.plural_documents.specs.Outlines.{GivesHeldText, GivesOutline, HeldText, IsOutlineOf, outline, part_by_names}
 use Rattle.plural_documents.specs.declared.json_text.JsonTextError.{JsonTextError}
 use Rattle.plural_documents.specs.declared.json_text.JsonTextError.TheVariants as fault
 use Rattle.plural_documents.specs.declared.outline.Portion.{Portion}
+use Rattle.plural_documents.specs.declared.outline.Portion.TheVariants as kept
+use Rattle.plural_documents.proofs.HeldValues.{part_read}
+use Rattle.plural_documents.proofs.OutlinedLemmas.{some_is}
 use Rattle.plural_documents.proofs.JsonTextLemmas.{value_refused, value_there}
 use Rattle.std.specs.Str.{IsUtf8}
 use Rattle.std.specs.declared.alloc.AllocError.{AllocError}
@@ -69,7 +74,7 @@ mutual
 
 -- ---- The value of a text
 
-pub none_left : (ts : List Token) → ts ++ [] ≡ ts
+pub none_left : {T : Type 0} (ts : List T) → ts ++ [] ≡ ts
 none_left [] = refl
 none_left (t ∷ ts) = ap (λ us. t ∷ us) (none_left ts)
 
@@ -84,20 +89,29 @@ not_held (Some x) some = absurd (true≢false some)
 abbrev document : List ℕ → Option Json
 document text = option_and_then (λ p. if_last p.0 p.1) (value max_depth (tokens text))
 
--- the tokens of a value
-pub there : (text : List ℕ) (ts : List Token) → AreTokens (tokens text) ts
-    → (j : Json) × (whole : Data) × (ts ≡ json_tokens j) × (of_json j ≡ Some whole) × (read text ≡ Some whole)
-there text ts (same, (j, after, is, nests, done), fit) =
-    let spelled : ts ≡ json_tokens j = is ∙ ap (λ us. json_tokens j ++ us) done ∙ none_left (json_tokens j) in
+-- the tokens of a value, and what is held of them
+there : (text : List ℕ) (test : List ℕ → Bool) (ts : List Held) → AreHeld test (tokens text) ts
+    → (j : Json) × (whole : Data) × (ts ≡ held_tokens (json_part test j)) × (of_json j ≡ Some whole) × (read text ≡ Some whole)
+there text test ts ((j, after, is, nests, done), fit, holds) =
+    let spelled : tokens text ≡ json_tokens j = is ∙ ap (λ us. json_tokens j ++ us) done ∙ none_left (json_tokens j) in
     let found = held (of_json j) (fits_value j ∙ ap (list_all fits) (sym spelled) ∙ fit) in
-    let here : tokens text ≡ json_tokens j ++ [] = sym same ∙ spelled ∙ sym (none_left (json_tokens j)) in (
+    let here : tokens text ≡ json_tokens j ++ [] = spelled ∙ sym (none_left (json_tokens j)) in (
       j,
       found.0,
-      spelled,
+      holds j spelled,
       found.1,
       ap (λ us. option_and_then of_json (option_and_then (λ p. if_last p.0 p.1) (value max_depth us))) here
           ∙ ap (λ o. option_and_then of_json (option_and_then (λ p. if_last p.0 p.1) o)) (value_back j max_depth [] nests) ∙ found.1,
     )
+
+-- so the text is that of a value, and this is held of it
+pub text_held : (text : List ℕ) (names : Option (List (List ℕ))) (ts : List Held) → IsUtf8 text → AreHeld (is_held_name names) (tokens text) ts
+    → ((whole : Data) × (json_of text ≡ Some whole)) × Holds record { bytes = text; names = names } ts
+text_held text names ts utf8 are =
+    let found = there text (is_held_name names) ts are in
+    let whole = value_there text found.1 utf8 found.4 in
+    let part = part_read names found.0 found.1 found.3 in
+    ((found.1, whole), (part.0, (found.1, whole, part.2), (json_part (is_held_name names) found.0, found.2, part.1)))
 
 -- the tokens of none
 pub not_there : (text : List ℕ) → AreNoTokens (tokens text) → read text ≡ None
@@ -128,19 +142,25 @@ some_byte [] some = subst (λ (ts : List Token). 0 < length ts) no_tokens some
 some_byte (byte ∷ bytes) some = omega arith
 
 -- why there are no tokens
-pub fault_given : (bytes : List ℕ) (cause : JsonTextError) → (cause ≡ fault.Json → AreNoTokens (tokens bytes))
-    → (cause ≡ fault.Memory → 0 < length (tokens bytes)) → GivesJsonTokens bytes (Err cause)
-fault_given bytes fault.Json none some = value_refused bytes (λ text. not_there bytes (none refl))
-fault_given bytes fault.Memory none some = some_byte bytes (some refl)
+pub fault_given : (names : Option (List (List ℕ))) (bytes : List ℕ) (cause : JsonTextError) → (cause ≡ fault.Json → AreNoTokens (tokens bytes))
+    → (cause ≡ fault.Memory → 0 < length (tokens bytes)) → GivesHeldText names bytes (Err cause)
+fault_given names bytes fault.Json none some = value_refused bytes (λ text. not_there bytes (none refl))
+fault_given names bytes fault.Memory none some = some_byte bytes (some refl)
 
 -- ---- An outline
 
--- what is kept of the first tokens is kept of the value
-pub outline_given : {S : Type 0} (keeps : S → List ℕ → Portion S) (sieve : S) (text : List ℕ) (ts new : List Token) (r : Result Value AllocError)
-    → AreTokens (tokens text) ts → IsUtf8 text → IfOk r (λ value. IsOutlined keeps (Some sieve) ts (view value) new)
-    → IfOk r (λ value. GivesOutline keeps sieve text (Ok value))
-outline_given keeps sieve text ts new (Ok value) are utf8 outlined =
-    let found = there text ts are in
-    let kept = outlined found.0 [] found.1 (found.2 ∙ sym (none_left (json_tokens found.0))) found.3 in
-    (found.1, value_there text found.1 utf8 found.4, kept.1)
-outline_given keeps sieve text ts new (Err error) are utf8 outlined = outlined
+-- what is kept of the first tokens is kept of what is held
+pub outline_given : {S : Type 0} (keeps : S → List ℕ → Portion S) (sieve : S) (text : HeldText) (ts new : List Held) (r : Result Value AllocError)
+    → Holds text ts → IfOk r (λ value. IsOutlined keeps (Some sieve) ts (view value) new) → IfOk r (λ value. IsOutlineOf keeps sieve text (view value))
+outline_given keeps sieve text ts new (Ok value) (held, is_held, (j, spelled, read)) outlined =
+    (held, is_held, (outlined j [] held (spelled ∙ sym (none_left (held_tokens j))) read).1)
+outline_given keeps sieve text ts new (Err error) holds outlined = outlined
+
+-- where all is held, it is kept of the value of the bytes
+pub outline_of_all : {S : Type 0} (keeps : S → List ℕ → Portion S) (sieve : S) (text : HeldText) (bytes : List ℕ) (value : Value)
+    → text ≡ record { bytes = bytes; names = None } → IsOutlineOf keeps sieve text (view value) → GivesOutline keeps sieve bytes (Ok value)
+outline_of_all keeps sieve text bytes value all (held, (whole, reads, is_held), outlined) = (
+  whole,
+  ap json_of (sym (ap (λ t. t.bytes) all)) ∙ reads,
+  ap (outline keeps (kept.Members sieve)) (some_is whole held (ap (λ t. part_by_names t.names whole) (sym all) ∙ is_held)) ∙ outlined,
+)

@@ -1,5 +1,6 @@
 -- Not definitions of the subject: steps of private calls.
 pub mod OpenKinds
-pub mod OpenBrackets
 pub mod HeldTokens
+pub mod OpenBrackets
+pub mod HeldParts
 pub mod OutlineSteps

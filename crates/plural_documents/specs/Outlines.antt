@@ -3,7 +3,10 @@
 --     outline keeps kept value      what is kept of a value, if anything
 --     GivesOutline keeps choice bytes result      the outline of the value that bytes write, if
 --         they are a JSON text
-use Rattle.std.specs.Prelude.{◌≡◌, ℕ, ◌<◌, List, length, Option, Some, None, Result, Ok, Err}
+--     GivesHeldText names bytes result      a text that is held, of an outermost object by names
+--     IsOutlineOf keeps choice text part      the outline of what is held of it
+use Rattle.std.specs.Prelude.{◌≡◌, ℕ, ◌<◌, List, length, Bool, bytes_eq, if◌then◌else◌, Option, Some, None, Result, Ok, Err}
+use Rattle.std.specs.List.{list_any}
 use Rattle.plural_documents.specs.Inputs.{json_of}
 use Rattle.plural_documents.specs.declared.json_text.JsonTextError.{JsonTextError}
 use Rattle.plural_documents.specs.declared.json_text.JsonTextError.TheVariants as fault
@@ -43,8 +46,36 @@ GivesOutline keeps choice bytes (Ok value) =
 GivesOutline keeps choice bytes (Err fault.Json) = json_of bytes ≡ None
 GivesOutline keeps choice bytes (Err fault.Memory) = 0 < length bytes
 
--- the bytes are a text of one value; or there is none, or memory ran out, which needs a byte
-abbrev pub GivesJsonTokens : List ℕ → Result (List ℕ) JsonTextError → Type 0
-GivesJsonTokens bytes (Ok text) = (text ≡ bytes) × ((whole : Data) × (json_of bytes ≡ Some whole))
-GivesJsonTokens bytes (Err fault.Json) = json_of bytes ≡ None
-GivesJsonTokens bytes (Err fault.Memory) = 0 < length bytes
+-- ---- A text that is read once
+
+-- the bytes of a text, and the names of the outermost members that are held of it, unless all are
+pub record HeldText : Type 0 where
+  pub bytes : List ℕ
+  pub names : Option (List (List ℕ))
+
+abbrev pub is_named : List (List ℕ) → List ℕ → Bool
+is_named names key = list_any (λ name. bytes_eq key name) names
+
+-- the members with these names
+abbrev pub named : List (List ℕ) → List ℕ → Portion (List (List ℕ))
+named names key = if is_named names key then kept.Whole else kept.Nothing
+
+-- of an object the members with these names, if names are given, and of any other value all of it
+abbrev pub part_by_names : Option (List (List ℕ)) → Data → Option Data
+part_by_names None whole = Some whole
+part_by_names (Some names) whole = outline named (kept.Members names) whole
+
+-- this is held of the value that the text writes
+abbrev pub IsHeld : HeldText → Data → Type 0
+IsHeld text held = (whole : Data) × (json_of text.bytes ≡ Some whole) × (part_by_names text.names whole ≡ Some held)
+
+-- the text of the bytes, which write a value; or they write none, or memory ran out, which needs a
+-- byte
+abbrev pub GivesHeldText : Option (List (List ℕ)) → List ℕ → Result HeldText JsonTextError → Type 0
+GivesHeldText names bytes (Ok text) = (text ≡ record { bytes = bytes; names = names }) × ((whole : Data) × (json_of bytes ≡ Some whole))
+GivesHeldText names bytes (Err fault.Json) = json_of bytes ≡ None
+GivesHeldText names bytes (Err fault.Memory) = 0 < length bytes
+
+-- what a sieve keeps of what is held
+abbrev pub IsOutlineOf : {C : Type 0} → (C → List ℕ → Portion C) → C → HeldText → Data → Type 0
+IsOutlineOf keeps choice text part = (held : Data) × IsHeld text held × (outline keeps (kept.Members choice) held ≡ Some part)

@@ -4,6 +4,7 @@
 
 mod first_lines;
 mod found;
+mod held_token;
 mod input;
 mod json_number;
 mod json_text;

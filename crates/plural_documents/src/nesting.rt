@@ -48,6 +48,14 @@ impl Nesting {
         Some(self.objects % 2 == 1)
     }
 
+    // Returns how many are open.
+    #[inline(always)]
+    pub(crate) fn depth(&self) -> u32
+        ensures { result ≡ length self.now }
+    {
+        self.count
+    }
+
     // Opens an object or an array, unless as many are open as may be.
     pub(crate) fn open(&mut self, is_object: bool) -> bool
         ensures { MatchBool result

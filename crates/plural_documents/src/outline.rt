@@ -1,17 +1,17 @@
 //! The outline of a JSON value: what is kept of it.
 
-ghost use Rattle.std.specs.Prelude.{◌≡◌, ◌∷◌, ◌≤◌, IfOk, Ok, OnOk, length};
-ghost use Rattle.json.specs.Reads.{token_of};
+ghost use Rattle.std.specs.Prelude.{◌≡◌, ◌∷◌, ◌≤◌, IfOk, OnOk, length};
+ghost use Rattle.plural_documents.specs.Inner.HeldTokens.{held_token};
 ghost use Rattle.plural_documents.specs.Inner.OutlineSteps.{AreItems, AreOutlined, IsOutlined, KeepsPart, portion_below, portion_by};
-ghost use Rattle.plural_documents.specs.Outlines.{GivesOutline};
+ghost use Rattle.plural_documents.specs.Outlines.{GivesOutline, IsOutlineOf};
 ghost use Rattle.serde_json.specs.Data.{put};
 ghost use Rattle.serde_json.specs.View.{items_view, members_view, view};
 
-use crate::json_number::json_number;
+use crate::held_token::HeldToken;
 use crate::json_text::JsonTextError;
 use crate::json_tokens::JsonTokens;
 use crate::tokens_left::TokensLeft;
-use json::{Scratch, Token};
+use json::Scratch;
 use serde_json::{Map, Value};
 use std::alloc::{AllocError, Global};
 
@@ -54,9 +54,9 @@ pub fn json_outline<S: Sieve>(alloc: Global, sieve: S, bytes: &[u8]) -> Result<V
 }
 
 impl<'a> JsonTokens<'a> {
-    /// Returns the outline of the value that the text writes. It allocates.
+    /// Returns the outline of what is held of the value that the text writes. It allocates.
     pub fn outline<S: Sieve>(&self, alloc: Global, sieve: S) -> Result<Value, AllocError>
-        ensures { IfOk result (λ value. GivesOutline S.keeps sieve self.now (Ok value)) }
+        ensures { IfOk result (λ value. IsOutlineOf S.keeps sieve self.now (view value)) }
     {
         let mut left = TokensLeft::of(self.tokens.as_slice());
         match left.next() {
@@ -71,25 +71,22 @@ impl<'a> JsonTokens<'a> {
 #[cycle(build)]
 fn outlined<S: Sieve>(
     alloc: Global,
-    first: Token<'_>,
+    first: HeldToken<'_>,
     left: &mut TokensLeft<'_, '_>,
     sieve: Option<S>,
 ) -> Result<Value, AllocError>
-    ensures outlined { IfOk result (λ value. IsOutlined S.keeps sieve (token_of first.entry ∷ left.old) (view value) left.new) }
+    ensures outlined { IfOk result (λ value. IsOutlined S.keeps sieve (held_token first.entry ∷ left.old) (view value) left.new) }
     ensures shorter { OnOk result (length left.new ≤ length left.old) }
 {
     match first {
-        Token::Number(text) => match json_number(text) {
-            Some(number) => Ok(Value::Number(number)),
-            None => Ok(Value::Null),
-        },
-        Token::Bool(truth) => Ok(Value::Bool(truth)),
-        Token::Null | Token::Key(_) | Token::EndObject | Token::EndArray | Token::Bad => {
+        HeldToken::Number(number) => Ok(Value::Number(number)),
+        HeldToken::Bool(truth) => Ok(Value::Bool(truth)),
+        HeldToken::Null | HeldToken::Key(_) | HeldToken::EndObject | HeldToken::EndArray => {
             Ok(Value::Null)
         }
-        Token::String(words) => Ok(Value::String(String::from_str(alloc, words)?)),
-        Token::BeginArray => Ok(Value::Array(whole_items::<S>(alloc, left)?)),
-        Token::BeginObject => Ok(Value::Object(outlined_members(alloc, left, sieve)?)),
+        HeldToken::String(words) => Ok(Value::String(String::from_str(alloc, words)?)),
+        HeldToken::BeginArray => Ok(Value::Array(whole_items::<S>(alloc, left)?)),
+        HeldToken::BeginObject => Ok(Value::Object(outlined_members(alloc, left, sieve)?)),
     }
 }
 
@@ -104,7 +101,7 @@ fn whole_items<S: Sieve>(
 {
     let mut items = Vec::new(alloc);
     while let Some(first) = left.next() {
-        if let Token::EndArray = first {
+        if let HeldToken::EndArray = first {
             break;
         }
         items.push(outlined::<S>(alloc, first, left, None)?)?;
@@ -124,7 +121,7 @@ fn outlined_members<S: Sieve>(
 {
     let mut members = Map::new(alloc);
     while let Some(first) = left.next() {
-        let Token::Key(key) = first else {
+        let HeldToken::Key(key) = first else {
             break;
         };
         keep_member(alloc, key, left, sieve, &mut members)?;
@@ -163,12 +160,12 @@ fn keep_member<S: Sieve>(
 fn put_outlined<S: Sieve>(
     alloc: Global,
     key: &str,
-    first: Token<'_>,
+    first: HeldToken<'_>,
     left: &mut TokensLeft<'_, '_>,
     sieve: Option<S>,
     members: &mut Map<String, Value>,
 ) -> Result<(), AllocError>
-    ensures puts { OnOk result (KeepsPart S.keeps (portion_by sieve) key.now (token_of first.entry ∷ left.old)
+    ensures puts { OnOk result (KeepsPart S.keeps (portion_by sieve) key.now (held_token first.entry ∷ left.old)
         (members_view members.old.entries) (members_view members.new.entries) left.new) }
     ensures shorter { OnOk result (length left.new ≤ length left.old) }
 {

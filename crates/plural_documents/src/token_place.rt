@@ -1,10 +1,10 @@
 //! Which tokens may come at a place of a JSON text.
 
 ghost use Rattle.std.specs.Bool.{MatchBool};
-ghost use Rattle.std.specs.Prelude.{◌≡◌, [], true};
+ghost use Rattle.std.specs.Prelude.{◌≡◌, ◌==◌, [], length, true};
 ghost use Rattle.json.specs.Reads.{token_of};
 ghost use Rattle.json.specs.Token.{key};
-ghost use Rattle.plural_documents.specs.Inner.OpenBrackets.{Goes, GoesByScalar, IsAfter, IsRefused, beginning, ending, goes_on, may_have_value};
+ghost use Rattle.plural_documents.specs.Inner.OpenBrackets.{GoesByScalar, IsAfter, IsRefused, Passes, beginning, ending, goes_on, may_have_value};
 
 use crate::nesting::Nesting;
 use json::Token;
@@ -35,9 +35,17 @@ impl TokenPlace {
         !self.is_due && self.open.innermost().is_none()
     }
 
+    // Returns whether it is right in the outermost object or array.
+    #[inline(always)]
+    pub(crate) fn is_outermost(&self) -> bool
+        ensures { result ≡ (length self.now.open == 1) }
+    {
+        self.open.depth() == 1
+    }
+
     // Goes on behind a token. It may not come here if this is false.
     pub(crate) fn pass(&mut self, token: Token<'_>) -> bool
-        ensures { MatchBool result (Goes self.old (token_of token.entry) self.new) (IsRefused self.old (token_of token.entry)) }
+        ensures { MatchBool result (Passes self.old (token_of token.entry) self.new) (IsRefused self.old (token_of token.entry)) }
     {
         match token {
             Token::BeginObject => self.begin(true),
@@ -74,7 +82,7 @@ impl TokenPlace {
 
     // Goes on in an object or an array.
     fn begin(&mut self, is_object: bool) -> bool
-        ensures { MatchBool result (Goes self.old (beginning is_object) self.new) (IsRefused self.old (beginning is_object)) }
+        ensures { MatchBool result (Passes self.old (beginning is_object) self.new) (IsRefused self.old (beginning is_object)) }
     {
         if !self.may_have_value() {
             return false;
@@ -85,7 +93,7 @@ impl TokenPlace {
 
     // Goes on behind an object or an array.
     fn end(&mut self, is_object: bool) -> bool
-        ensures { MatchBool result (Goes self.old (ending is_object) self.new) (IsRefused self.old (ending is_object)) }
+        ensures { MatchBool result (Passes self.old (ending is_object) self.new) (IsRefused self.old (ending is_object)) }
     {
         if !self.goes_on(is_object) {
             return false;
@@ -96,7 +104,7 @@ impl TokenPlace {
 
     // Goes on behind a key.
     fn pass_key(&mut self, name: &str) -> bool
-        ensures { MatchBool result (Goes self.old (key name.now) self.new) (IsRefused self.old (key name.now)) }
+        ensures { MatchBool result (Passes self.old (key name.now) self.new) (IsRefused self.old (key name.now)) }
     {
         if !self.goes_on(true) {
             return false;

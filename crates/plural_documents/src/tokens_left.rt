@@ -1,39 +1,38 @@
 //! The tokens of a text that are left.
 
 ghost use Rattle.std.specs.Prelude.{◌≡◌, ◌+◌, ◌^◌, ◌<◌, ◌≤◌, ◌∷◌, length, map};
-ghost use Rattle.json.specs.Reads.{Yields, token_of};
-ghost use Rattle.plural_documents.specs.Inner.OutlineSteps.{IsPassed, opened_after};
+ghost use Rattle.plural_documents.specs.Inner.HeldTokens.{held_token, opened_after};
+ghost use Rattle.plural_documents.specs.Inner.OutlineSteps.{IsPassed, YieldsHeld};
 
-use json::Token;
+use crate::held_token::HeldToken;
 use std::marker::Model;
 
 // The tokens that are left.
 #[derive(Drop)]
 pub(crate) struct TokensLeft<'t, 'a> {
-    tokens: &'t [Token<'a>],
+    tokens: &'t [HeldToken<'a>],
 }
 
 impl<'t, 'a> Model for TokensLeft<'t, 'a> {
     ghost use Rattle.std.specs.Prelude.{List, map};
-    ghost use Rattle.json.specs.Reads.{token_of};
-    ghost use Rattle.json.specs.Token.{Token as SpecToken, tokens_code};
+    ghost use Rattle.plural_documents.specs.Inner.HeldTokens.{Held, held_token};
 
-    ghost Value = { List SpecToken };
+    ghost Value = { List Held };
 
-    ghost view = { λ left. map token_of left.tokens.now };
+    ghost view = { λ left. map held_token left.tokens.now };
 }
 
 impl<'t, 'a> TokensLeft<'t, 'a> {
     // All of these.
-    pub(crate) fn of(tokens: &'t [Token<'a>]) -> TokensLeft<'t, 'a>
-        ensures { result ≡ map token_of tokens.now }
+    pub(crate) fn of(tokens: &'t [HeldToken<'a>]) -> TokensLeft<'t, 'a>
+        ensures { result ≡ map held_token tokens.now }
     {
         TokensLeft { tokens }
     }
 
     // Takes the next one.
-    pub(crate) fn next(&mut self) -> Option<Token<'a>>
-        ensures { Yields self.old result self.new }
+    pub(crate) fn next(&mut self) -> Option<HeldToken<'a>>
+        ensures { YieldsHeld self.old result self.new }
     {
         match self.tokens {
             [first, rest @ ..] => {
@@ -45,8 +44,8 @@ impl<'t, 'a> TokensLeft<'t, 'a> {
     }
 
     // Goes past the value that begins with this token.
-    pub(crate) fn pass_value(&mut self, first: Token<'_>)
-        ensures passed { IsPassed (token_of first.entry ∷ self.old) self.new }
+    pub(crate) fn pass_value(&mut self, first: HeldToken<'_>)
+        ensures passed { IsPassed (held_token first.entry ∷ self.old) self.new }
         ensures shorter { length self.new ≤ length self.old }
     {
         let mut opened = opened_after(0, first);
@@ -63,13 +62,13 @@ impl<'t, 'a> TokensLeft<'t, 'a> {
 }
 
 // Returns how many arrays and objects are open after a token.
-fn opened_after(opened: usize, token: Token<'_>) -> usize
+fn opened_after(opened: usize, token: HeldToken<'_>) -> usize
     requires { opened + 1 < 2 ^ 64 }
-    ensures { result ≡ opened_after opened (token_of token.entry) }
+    ensures { result ≡ opened_after opened (held_token token.entry) }
 {
     match token {
-        Token::BeginObject | Token::BeginArray => opened + 1,
-        Token::EndObject | Token::EndArray => opened.saturating_sub(1),
+        HeldToken::BeginObject | HeldToken::BeginArray => opened + 1,
+        HeldToken::EndObject | HeldToken::EndArray => opened.saturating_sub(1),
         _ => opened,
     }
 }

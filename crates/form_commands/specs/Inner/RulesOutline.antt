@@ -1,9 +1,10 @@
 -- Not a definition of the subject: what is kept of a document of rules for one locale, and when it
 -- serves as the whole does.
-use Rattle.std.specs.Prelude.{◌≡◌, ℕ, ◌<◌, List, codes, Bool, true, ◌||◌, bytes_eq, length, map, take, Some, None, Result, Ok, Err, if◌then◌else◌}
+use Rattle.std.specs.Prelude.{◌≡◌, ℕ, ◌<◌, List, [], ◌∷◌, codes, Bool, true, ◌||◌, bytes_eq, length, map, take, Some, None, Result, Ok, Err, if◌then◌else◌}
 use Rattle.std.specs.Borrow.{Bor}
 use Rattle.std.specs.List.{list_any}
 use Rattle.plural_documents.specs.Inputs.{json_of}
+use Rattle.plural_documents.specs.Outlines.{HeldText}
 use Rattle.plural_documents.specs.declared.JsonTextError.{JsonTextError}
 use Rattle.plural_documents.specs.declared.JsonTextError.TheVariants as fault
 use Rattle.plural_documents.specs.declared.Portion.{Portion}
@@ -67,6 +68,10 @@ abbrev pub Serves : Part → List ℕ → Data → Data → Type 0
 Serves part locale document whole =
     ((answer : Result Language LanguageError) → IsFoundFor document part locale answer → IsFoundFor whole part locale answer)
     × ((place note : List ℕ) → IsNote document place part locale note → IsNote whole place part locale note)
+
+-- the part and the parents are held of the text
+abbrev pub HoldsPart : Part → HeldText → Type 0
+HoldsPart part text = text.names ≡ Some (part_name part ∷ codes "parents" ∷ [])
 
 -- the same of the value that the bytes write
 abbrev pub IsServedBy : Part → List ℕ → List ℕ → Data → Type 0

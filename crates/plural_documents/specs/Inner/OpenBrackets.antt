@@ -5,6 +5,7 @@ use Rattle.std.specs.Bool.{MatchBool}
 use Rattle.json.specs.Json.{Json, Items, Members}
 use Rattle.json.specs.Token.{Token}
 use Rattle.json.specs.Tree.{depth, items_depth, items_tokens, json_tokens, members_depth, members_tokens}
+use Rattle.plural_documents.specs.Inner.HeldTokens.{held_of, opened_after}
 use Rattle.plural_documents.specs.declared.token_place.TokenPlace.{TokenPlace}
 
 -- ---- What completes it
@@ -40,6 +41,10 @@ IsAfter place tokens = Comes most_open [] place.is_due place.open tokens
 abbrev pub Goes : TokenPlace → Token → TokenPlace → Type 0
 Goes old token new =
     (tokens : List Token) → (IsAfter old (token ∷ tokens) → IsAfter new tokens) × (IsAfter new tokens → IsAfter old (token ∷ tokens))
+
+-- and as many are open there as the token leaves open
+abbrev pub Passes : TokenPlace → Token → TokenPlace → Type 0
+Passes old token new = Goes old token new × (length new.«open» ≡ opened_after (length old.«open») (held_of token))
 
 -- the token doesn't come after the place
 abbrev pub IsRefused : TokenPlace → Token → Type 0
@@ -83,4 +88,4 @@ is_scalar Token.bad = false
 
 -- past any of these, if it may come
 abbrev pub GoesByScalar : Bool → TokenPlace → TokenPlace → Type 0
-GoesByScalar passed old new = (token : Token) → is_scalar token ≡ true → MatchBool passed (Goes old token new) (IsRefused old token)
+GoesByScalar passed old new = (token : Token) → is_scalar token ≡ true → MatchBool passed (Passes old token new) (IsRefused old token)

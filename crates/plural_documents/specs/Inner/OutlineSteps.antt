@@ -1,8 +1,8 @@
--- Not a definition of the subject: what is made of the tokens of a JSON text.
-use Rattle.std.specs.Prelude.{◌≡◌, ℕ, suc, ◌-◌, List, ◌++◌, Option, Some, None}
+-- Not a definition of the subject: what is made of the tokens that are held.
+use Rattle.std.specs.Prelude.{◌≡◌, ℕ, List, ◌∷◌, ◌++◌, Option, Some, None, MatchOption, []}
+use Rattle.plural_documents.specs.declared.held_token.HeldToken.{HeldToken}
 use Rattle.json.specs.Json as json
-use Rattle.json.specs.Token.{Token}
-use Rattle.json.specs.Tree.{items_tokens, json_tokens, members_tokens}
+use Rattle.plural_documents.specs.Inner.HeldTokens.{Held, held_items, held_members, held_token, held_tokens}
 use Rattle.plural_documents.specs.Outlines.{outline, outline_members}
 use Rattle.plural_documents.specs.declared.outline.Portion.{Portion}
 use Rattle.plural_documents.specs.declared.outline.Portion.TheVariants as kept
@@ -26,39 +26,30 @@ members_by keeps (Some sieve) members = outline_members keeps sieve members
 
 -- ---- What the tokens begin with
 
--- how many arrays and objects are open after a token
-abbrev pub opened_after : ℕ → Token → ℕ
-opened_after count Token.begin_object = suc count
-opened_after count Token.end_object = count - 1
-opened_after count Token.begin_array = suc count
-opened_after count Token.end_array = count - 1
-opened_after count (Token.key name) = count
-opened_after count (Token.string text) = count
-opened_after count (Token.number text) = count
-opened_after count (Token.boolean truth) = count
-opened_after count Token.null = count
-opened_after count Token.bad = count
+-- of these tokens one is the first, and the others are left; or there is none
+abbrev pub YieldsHeld : List Held → Option HeldToken → List Held → Type 0
+YieldsHeld old first new = MatchOption first ((old ≡ []) × (new ≡ [])) (λ token. old ≡ held_token token ∷ new)
 
 -- these are left after a value
-abbrev pub IsPassed : List Token → List Token → Type 0
-IsPassed old new = (value : json.Json) (rest : List Token) → old ≡ json_tokens value ++ rest → new ≡ rest
+abbrev pub IsPassed : List Held → List Held → Type 0
+IsPassed old new = (value : json.Json) (rest : List Held) → old ≡ held_tokens value ++ rest → new ≡ rest
 
 -- this is kept of the value
-abbrev pub IsOutlined : {S : Type 0} → (S → List ℕ → Portion S) → Option S → List Token → Data → List Token → Type 0
+abbrev pub IsOutlined : {S : Type 0} → (S → List ℕ → Portion S) → Option S → List Held → Data → List Held → Type 0
 IsOutlined keeps sieve old part new =
-    (value : json.Json) (rest : List Token) (whole : Data) → old ≡ json_tokens value ++ rest → of_json value ≡ Some whole
+    (value : json.Json) (rest : List Held) (whole : Data) → old ≡ held_tokens value ++ rest → of_json value ≡ Some whole
     → (new ≡ rest) × (outline keeps (portion_by sieve) whole ≡ Some part)
 
 -- these are the items up to the end of the array
-abbrev pub AreItems : List Token → Items → List Token → Type 0
+abbrev pub AreItems : List Held → Items → List Held → Type 0
 AreItems old found new =
-    (items : json.Items) (rest : List Token) (whole : Items) → old ≡ items_tokens items ++ rest → of_items items ≡ Some whole
+    (items : json.Items) (rest : List Held) (whole : Items) → old ≡ held_items items ++ rest → of_items items ≡ Some whole
     → (new ≡ rest) × (whole ≡ found)
 
 -- this is kept of the members up to the end of the object
-abbrev pub AreOutlined : {S : Type 0} → (S → List ℕ → Portion S) → Option S → List Token → Members → List Token → Type 0
+abbrev pub AreOutlined : {S : Type 0} → (S → List ℕ → Portion S) → Option S → List Held → Members → List Held → Type 0
 AreOutlined keeps sieve old part new =
-    (members : json.Members) (rest : List Token) (whole : Members) → old ≡ members_tokens members ++ rest
+    (members : json.Members) (rest : List Held) (whole : Members) → old ≡ held_members members ++ rest
     → of_members members no_members ≡ Some whole → (new ≡ rest) × (members_by keeps sieve whole ≡ part)
 
 -- ---- A member
@@ -68,7 +59,7 @@ abbrev pub put_portion : List ℕ → Option Data → Members → Members
 put_portion key None members = members
 put_portion key (Some part) members = put key part members
 
-abbrev pub KeepsPart : {S : Type 0} → (S → List ℕ → Portion S) → Portion S → List ℕ → List Token → Members → Members → List Token → Type 0
+abbrev pub KeepsPart : {S : Type 0} → (S → List ℕ → Portion S) → Portion S → List ℕ → List Held → Members → Members → List Held → Type 0
 KeepsPart keeps portion key old before after new =
-    (value : json.Json) (rest : List Token) (whole : Data) → old ≡ json_tokens value ++ rest → of_json value ≡ Some whole
+    (value : json.Json) (rest : List Held) (whole : Data) → old ≡ held_tokens value ++ rest → of_json value ≡ Some whole
     → (new ≡ rest) × (after ≡ put_portion key (outline keeps portion whole) before)

@@ -25,6 +25,20 @@ impl<'a> Sieve for Only<'a> {
     }
 }
 
+// All members.
+#[derive(Clone, Copy)]
+struct Any;
+
+impl Sieve for Any {
+    ghost use Rattle.plural_documents.specs.declared.Portion.TheVariants as kept;
+
+    ghost keeps = { λ any key. kept.Whole };
+
+    fn kept(&self, _key: &str) -> Portion<Any> {
+        Portion::Whole
+    }
+}
+
 // Returns whether a document has this outline; if none, it has to be no JSON.
 fn has_outline(rt: &HostRuntime, key: &str, text: &str, want: Option<&str>) -> Result<bool, Fail> {
     match (json_outline(rt.alloc(), Only(key), text.as_bytes()), want) {
@@ -179,6 +193,117 @@ fn a_text_is_read_once_for_any_outlines(rt: HostRuntime) -> Result<(), Fail> {
         ("b", "{\"b\":{\"a\":2.5}}"),
     ] {
         let outline = tokens.outline(rt.alloc(), Only(key))?;
+        let printed = outline.to_string(rt.alloc())?;
+        holds!(rt; printed.as_str() == want, key);
+    }
+    Ok(())
+}
+
+// Returns whether this is held of a document by two names; if nothing is told, it has to be no JSON.
+fn holds_members(
+    rt: &HostRuntime,
+    names: [&str; 2],
+    text: &str,
+    want: Option<&str>,
+) -> Result<bool, Fail> {
+    let mut scratch = Scratch::new(rt.alloc());
+    match (
+        JsonTokens::read_members(rt.alloc(), &names, text.as_bytes(), &mut scratch),
+        want,
+    ) {
+        (Ok(held), Some(want)) => {
+            let outline = held.outline(rt.alloc(), Any)?;
+            let printed = outline.to_string(rt.alloc())?;
+            Ok(printed.as_str() == want)
+        }
+        (Err(JsonTextError::Json), None) => Ok(json_value(rt.alloc(), text.as_bytes()).is_err()),
+        _ => Ok(false),
+    }
+}
+
+#[test]
+fn outermost_members_are_held_by_their_names(rt: HostRuntime) -> Result<(), Fail> {
+    let rows = [
+        // No object: all of it.
+        ("null", Some("null")),
+        ("-1.5", Some("-1.5")),
+        ("\"c\"", Some("\"c\"")),
+        ("[]", Some("[]")),
+        (
+            "[1, {\"c\": 2, \"a\": 3}, [4]]",
+            Some("[1,{\"a\":3,\"c\":2},[4]]"),
+        ),
+        // Members with a name, and others before, between and after them.
+        ("{}", Some("{}")),
+        ("{\"c\": 1}", Some("{}")),
+        ("{\"a\": 1, \"b\": 2}", Some("{\"a\":1,\"b\":2}")),
+        (
+            "{\"b\": 2, \"c\": [3], \"a\": {}}",
+            Some("{\"a\":{},\"b\":2}"),
+        ),
+        (
+            "{\"c\": {}, \"b\": [], \"d\": {\"e\": []}}",
+            Some("{\"b\":[]}"),
+        ),
+        (
+            "{\"c\": [[], {}], \"a\": [[{}]], \"c\": {}}",
+            Some("{\"a\":[[{}]]}"),
+        ),
+        // Names that another begins with, and the other way about.
+        ("{\"\": 1, \"aa\": 2, \"ab\": 3}", Some("{}")),
+        // A name that stands twice, and one that is escaped.
+        (
+            "{\"a\": 1, \"c\": 2, \"a\": {\"c\": 3}}",
+            Some("{\"a\":{\"c\":3}}"),
+        ),
+        ("{\"\\u0061\": 1, \"\\u0063\": 2}", Some("{\"a\":1}")),
+        // The same keys inside: of a member that is held, and of one that isn't.
+        (
+            "{\"a\": {\"c\": 1, \"a\": 2}, \"b\": [{\"d\": 3}]}",
+            Some("{\"a\":{\"a\":2,\"c\":1},\"b\":[{\"d\":3}]}"),
+        ),
+        (
+            "{\"c\": {\"a\": 1}, \"d\": [{\"b\": 2}, \"a\"]}",
+            Some("{}"),
+        ),
+        (
+            "{\"c\": {\"a\": {\"b\": {}}}, \"b\": \"c\"}",
+            Some("{\"b\":\"c\"}"),
+        ),
+        // Numbers that are too large, and other faults, in what is held and in what isn't.
+        ("{\"a\": 1e999}", None),
+        ("{\"c\": 1e999}", None),
+        ("{\"c\": {\"a\": [-1e999]}}", None),
+        ("{\"c\": 1e308, \"a\": 1e308}", Some("{\"a\":1e308}")),
+        ("{\"c\": [1,]}", None),
+        ("{\"c\": 1", None),
+        ("{\"c\": {]}", None),
+        ("{\"c\": 1} 2", None),
+        ("{\"c\": \"\\ud800\"}", None),
+        ("", None),
+    ];
+    for (text, want) in rows {
+        holds!(rt; holds_members(&rt, ["a", "b"], text, want)?, text);
+    }
+    Ok(())
+}
+
+#[test]
+fn outlines_of_held_members(rt: HostRuntime) -> Result<(), Fail> {
+    let text = "{\"a\": [1, \"\\u00e9\"], \"c\": 3, \"b\": {\"a\": 2.5}}";
+    let names = ["a", "b"];
+    let mut scratch = Scratch::new(rt.alloc());
+    let Ok(held) = JsonTokens::read_members(rt.alloc(), &names, text.as_bytes(), &mut scratch)
+    else {
+        holds!(rt; false, text);
+        return Ok(());
+    };
+    for (key, want) in [
+        ("a", "{\"a\":[1,\"é\"]}"),
+        ("b", "{\"b\":{\"a\":2.5}}"),
+        ("c", "{}"),
+    ] {
+        let outline = held.outline(rt.alloc(), Only(key))?;
         let printed = outline.to_string(rt.alloc())?;
         holds!(rt; printed.as_str() == want, key);
     }

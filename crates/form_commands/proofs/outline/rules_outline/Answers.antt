@@ -1,4 +1,4 @@
-use Rattle.std.proofs.Common.{ℕ, List, subst}
+use Rattle.std.proofs.Common.{ℕ, List, ap, subst}
 use Rattle.serde_json.specs.View.{view}
 use Rattle.plural_documents.proofs.JsonTextLemmas.{some_bytes}
 use Rattle.form_commands.specs.Inner.RulesOutline.{IsServedBy}
@@ -6,7 +6,8 @@ use Rattle.form_commands.proofs.outline.rules_outline.Goals as goal
 
 pub returns-in-Ok : goal.returns-in-Ok
 returns-in-Ok c =
-    subst (λ (bytes : List ℕ). IsServedBy c.args.part c.args.locale.now bytes (view c.in-Ok.outline)) (c.in_ok-text.ensures).0 c.in-Ok.ensures
+    subst (λ (bytes : List ℕ). IsServedBy c.args.part c.args.locale.now bytes (view c.in-Ok.outline)) (ap (λ text. text.bytes) (c.in_ok-text.ensures).0)
+    c.in-Ok.ensures
 
 pub returns : goal.returns
 returns c = let found = (c.in_ok-text.ensures).1 in some_bytes c.args.bytes.now found.0 found.1

@@ -1,15 +1,18 @@
-use Rattle.std.proofs.Common.{◌≡◌, [], ◌++◌, true, length, map}
+use Rattle.std.proofs.Common.{◌≡◌, ◌≤◌, [], ◌++◌, true, length, map}
 use Rattle.std.specs.List.{list_all}
-use Rattle.json.specs.Reads.{token_of}
-use Rattle.plural_documents.specs.Inner.HeldTokens.{fits}
+use Rattle.plural_documents.specs.Inner.HeldParts.{fits, given_names, is_held_name}
+use Rattle.plural_documents.specs.Inner.HeldTokens.{held_of, held_token}
 use Rattle.plural_documents.specs.Inner.OpenBrackets.{Comes, IsAfter, most_open}
+use Rattle.plural_documents.proofs.HeldPartLemmas.{part_held}
 use Rattle.plural_documents.proofs.json_tokens.read_tokens.Given as goal
 
--- the tokens so far were those of the text, and the text is that of one value if the rest may come
--- here
+-- what is held so far comes before what is held of the rest, and the text is that of one value if
+-- the rest may come here
 abbrev pub invariant-loop-token : goal.invariant-loop-token
 invariant-loop-token l =
-    (map token_of l.tokens.items ++ l.reader ≡ l.initial.reader) × (list_all fits (map token_of l.tokens.items) ≡ true)
+    (part_held (is_held_name (given_names l.names)) 0 true (map held_of l.initial.reader)
+    ≡ map held_token l.tokens.items ++ part_held (is_held_name (given_names l.names)) (length l.place.«open») l.is_held (map held_of l.reader))
+    × (list_all fits l.initial.reader ≡ list_all fits l.reader) × (length l.reader ≤ length l.initial.reader)
     × (Comes most_open [] true [] l.initial.reader → IsAfter l.place l.reader)
     × (IsAfter l.place l.reader → Comes most_open [] true [] l.initial.reader)
 

@@ -1,12 +1,11 @@
 use Rattle.std.proofs.Common.{◌⊎◌, inl, inr, ◌≡◌, ℕ, suc, ◌≤◌, ◌∷◌, List, length, refl, sym, ap, subst, ◌∙◌, arith}
-use Rattle.json.specs.Reads.{token_of}
-use Rattle.json.specs.Token.{Token}
-use Rattle.json.specs.declared.token.Token.{Token as Held}
-use Rattle.json.specs.declared.token.Token.TheVariants as held
+use Rattle.plural_documents.specs.Inner.HeldTokens.{Held, held_token}
+use Rattle.plural_documents.specs.declared.held_token.HeldToken.{HeldToken}
+use Rattle.plural_documents.specs.declared.held_token.HeldToken.TheVariants as variant
 use Rattle.std.specs.Borrow.{Bor}
 use Rattle.plural_documents.specs.Inner.OutlineSteps.{IsOutlined}
-use Rattle.plural_documents.proofs.OpenLemmas.{no_items_left, no_value}
-use Rattle.plural_documents.proofs.OutlinedLemmas.{array_outlined, boolean_outlined, no_number, none_outlined, null_outlined, number_outlined, object_outlined, on_success, part_put, string_outlined, view_bool, view_null, view_number, view_string}
+use Rattle.plural_documents.proofs.HeldLemmas.{no_items_left, no_value}
+use Rattle.plural_documents.proofs.OutlinedLemmas.{array_outlined, boolean_outlined, none_outlined, null_outlined, number_outlined, object_outlined, on_success, part_put, string_outlined, view_bool, view_null, view_number, view_string}
 use Rattle.plural_documents.proofs.outline.+build.Goals as goal
 use Rattle.serde_json.specs.Data.{null}
 use Rattle.serde_json.specs.View.{members_view, view}
@@ -44,14 +43,9 @@ outlined-returns-in_ok-from_str-in-String-clause-outlined g n c =
     rw (c.in-String.is, view_string _, c.in_ok-from_str-in-String.ensures.ok)
     (string_outlined g.S.Sieve.keeps c.args.sieve _ c.args.left.now)
 
-pub outlined-returns-in-Some-clause-outlined : goal.outlined-returns-in-Some-clause-outlined
-outlined-returns-in-Some-clause-outlined g n c =
-    rw (c.in-Number.is, view_number _)
-    (number_outlined g.S.Sieve.keeps c.args.sieve _ _ c.args.left.now (sym c.in-Some.ensures))
-
-pub outlined-returns-in-None-clause-outlined : goal.outlined-returns-in-None-clause-outlined
-outlined-returns-in-None-clause-outlined g n c =
-    rw (c.in-Number.is) (no_number g.S.Sieve.keeps c.args.sieve _ _ c.args.left.now (sym c.in-None.ensures))
+pub outlined-returns-in-Number-clause-outlined : goal.outlined-returns-in-Number-clause-outlined
+outlined-returns-in-Number-clause-outlined g n c =
+    rw (c.in-Number.is, view_number _) (number_outlined g.S.Sieve.keeps c.args.sieve _ c.args.left.now)
 
 pub outlined-returns-in-Bool-clause-outlined : goal.outlined-returns-in-Bool-clause-outlined
 outlined-returns-in-Bool-clause-outlined g n c = rw (c.in-Bool.is, view_bool _) (boolean_outlined g.S.Sieve.keeps c.args.sieve _ c.args.left.now)
@@ -60,19 +54,18 @@ pub outlined-returns-in-Null-clause-outlined : goal.outlined-returns-in-Null-cla
 outlined-returns-in-Null-clause-outlined g n c =
     rw (view_null) (by c.args.first c.in-Null.is)
   where
-    by : (first : Held) → (first ≡ held.Null) ⊎ (((k : Bor (List ℕ)) × (first ≡ held.Key k)) ⊎ ((first ≡ held.EndObject) ⊎ ((first ≡ held.EndArray) ⊎ (first ≡ held.Bad))))
-        → IsOutlined g.S.Sieve.keeps c.args.sieve (token_of first ∷ c.args.left.now) null c.args.left.now
+    by : (first : HeldToken) → (first ≡ variant.Null) ⊎ (((k : Bor (List ℕ)) × (first ≡ variant.Key k)) ⊎ ((first ≡ variant.EndObject) ⊎ (first ≡ variant.EndArray)))
+        → IsOutlined g.S.Sieve.keeps c.args.sieve (held_token first ∷ c.args.left.now) null c.args.left.now
     by first (inl is) = rw (is) (null_outlined g.S.Sieve.keeps c.args.sieve c.args.left.now)
-    by first (inr (inl (k, is))) = rw (is) (none_outlined g.S.Sieve.keeps c.args.sieve (Token.key k.now) null c.args.left.now c.args.left.now refl)
-    by first (inr (inr (inl is))) = rw (is) (none_outlined g.S.Sieve.keeps c.args.sieve Token.end_object null c.args.left.now c.args.left.now refl)
-    by first (inr (inr (inr (inl is)))) = rw (is) (none_outlined g.S.Sieve.keeps c.args.sieve Token.end_array null c.args.left.now c.args.left.now refl)
-    by first (inr (inr (inr (inr is)))) = rw (is) (none_outlined g.S.Sieve.keeps c.args.sieve Token.bad null c.args.left.now c.args.left.now refl)
+    by first (inr (inl (k, is))) = rw (is) (none_outlined g.S.Sieve.keeps c.args.sieve (Held.key k.now) null c.args.left.now c.args.left.now refl)
+    by first (inr (inr (inl is))) = rw (is) (none_outlined g.S.Sieve.keeps c.args.sieve Held.end_object null c.args.left.now c.args.left.now refl)
+    by first (inr (inr (inr is))) = rw (is) (none_outlined g.S.Sieve.keeps c.args.sieve Held.end_array null c.args.left.now c.args.left.now refl)
 
 pub outlined_members-loop-first-preserved : goal.outlined_members-loop-first-preserved
 outlined_members-loop-first-preserved g n c = (
   (λ members rest whole is read. member_added g.S.Sieve.keeps c.args.sieve _ _ c.keep_member.new.left rest whole _ _
-      (subst (λ (ts : List Token). MembersGoOn g.S.Sieve.keeps c.args.sieve (members_view c.loop-first.members.entries) ts rest whole)
-      (c.in-Some.ensures ∙ ap (λ t. token_of t ∷ c.next.new.self) c.in-Key.is)
+      (subst (λ (ts : List Held). MembersGoOn g.S.Sieve.keeps c.args.sieve (members_view c.loop-first.members.entries) ts rest whole)
+      (c.in-Some.ensures ∙ ap (λ t. held_token t ∷ c.next.new.self) c.in-Key.is)
       (c.loop-first.invariant.0 members rest whole is read)) c.in_ok-keep_member.ensures.keeps),
   one_shorter (length c.keep_member.new.left) (length c.next.new.self) (length c.loop-first.left) (length c.args.left.now)
       c.in_ok-keep_member.ensures.shorter (ap length c.in-Some.ensures) c.loop-first.invariant.1,
@@ -84,18 +77,18 @@ outlined_members-returns-clause-members g n c ms rest whole is read =
     let found = members_view c.loop-first.members.entries in
     elim c.match-next.branch [
       | outlined_members-in-Some+in_default-first w ↦
-          members_ended g.S.Sieve.keeps c.args.sieve (token_of w.in-Some.first) c.next.new.self rest whole found
+          members_ended g.S.Sieve.keeps c.args.sieve (held_token w.in-Some.first) c.next.new.self rest whole found
           (no_key w.in-Some.first w.in_default-first.not-Key)
-          (subst (λ (ts : List Token). MembersGoOn g.S.Sieve.keeps c.args.sieve found ts rest whole) w.in-Some.ensures now)
+          (subst (λ (ts : List Held). MembersGoOn g.S.Sieve.keeps c.args.sieve found ts rest whole) w.in-Some.ensures now)
       | outlined_members-in_default w ↦
           absurd (members_not_cut g.S.Sieve.keeps c.args.sieve rest whole found
-          (subst (λ (ts : List Token). MembersGoOn g.S.Sieve.keeps c.args.sieve found ts rest whole) w.in_default.ensures.0 now))
+          (subst (λ (ts : List Held). MembersGoOn g.S.Sieve.keeps c.args.sieve found ts rest whole) w.in_default.ensures.0 now))
     ]
 
 pub put_outlined-returns-clause-puts : goal.put_outlined-returns-clause-puts
 put_outlined-returns-clause-puts g n c =
     on_success c.put_value.result
-    (part_put g.S.Sieve.keeps c.args.sieve c.args.key.now (token_of c.args.first ∷ c.args.left.now) c.outlined.new.left (view c.in_ok-value.value)
+    (part_put g.S.Sieve.keeps c.args.sieve c.args.key.now (held_token c.args.first ∷ c.args.left.now) c.outlined.new.left (view c.in_ok-value.value)
     (members_view c.args.members.now.entries) (members_view c.put_value.new.members.entries) c.in_ok-value.ensures.outlined)
     c.put_value.ensures
 
@@ -116,7 +109,7 @@ whole_items-returns-clause-items g n c items rest whole is read =
     elim c.match-next.branch [
       | whole_items-in-Some+in-EndArray w ↦
           let last = items_ended now.0 c.next.new.self rest now.1
-          (sym (w.in-Some.ensures ∙ ap (λ t. token_of t ∷ c.next.new.self) w.in-EndArray.is) ∙ now.2) now.3 in
+          (sym (w.in-Some.ensures ∙ ap (λ t. held_token t ∷ c.next.new.self) w.in-EndArray.is) ∙ now.2) now.3 in
           (last.0, now.4 ∙ ap (items_after c.loop-first.items.items) last.1 ∙ with_no_more c.loop-first.items.items)
       | whole_items-in_default w ↦ absurd (no_items_left now.0 rest (sym w.in_default.ensures.0 ∙ now.2))
     ]

@@ -1,7 +1,6 @@
 use Rattle.std.proofs.Common.{◌≡◌, ◌≤◌, ◌+◌, ◌*◌, ◌++◌, List, Some, length}
 use Rattle.json.specs.Json as json
-use Rattle.json.specs.Token.{Token}
-use Rattle.json.specs.Tree.{items_tokens, members_tokens}
+use Rattle.plural_documents.specs.Inner.HeldTokens.{Held, held_items, held_members}
 use Rattle.plural_documents.proofs.OutlineLemmas.{AreSorted}
 use Rattle.plural_documents.proofs.ItemLemmas.{items_after}
 use Rattle.plural_documents.proofs.outline.+build.Given as goal
@@ -28,8 +27,8 @@ decreases-put_outlined g l = 2 * length l.left.now + 2
 -- the items that are left come after those that were found
 abbrev pub invariant-whole_items-loop-first : goal.invariant-whole_items-loop-first
 invariant-whole_items-loop-first g l =
-    ((items : json.Items) (rest : List Token) (whole : Items) → l.initial.left ≡ items_tokens items ++ rest → of_items items ≡ Some whole
-    → (others : json.Items) × (more : Items) × (l.left ≡ items_tokens others ++ rest) × (of_items others ≡ Some more)
+    ((items : json.Items) (rest : List Held) (whole : Items) → l.initial.left ≡ held_items items ++ rest → of_items items ≡ Some whole
+    → (others : json.Items) × (more : Items) × (l.left ≡ held_items others ++ rest) × (of_items others ≡ Some more)
     × (whole ≡ items_after l.items.items more))
     × (length l.left ≤ length l.initial.left)
 
@@ -39,9 +38,9 @@ decreases-whole_items-loop-first g l = length l.left
 -- the members that are left go in among those before, and this is kept of these
 abbrev pub invariant-outlined_members-loop-first : goal.invariant-outlined_members-loop-first
 invariant-outlined_members-loop-first g l =
-    ((members : json.Members) (rest : List Token) (whole : Members) → l.initial.left ≡ members_tokens members ++ rest
+    ((members : json.Members) (rest : List Held) (whole : Members) → l.initial.left ≡ held_members members ++ rest
     → of_members members no_members ≡ Some whole
-    → (others : json.Members) × (before : Members) × (l.left ≡ members_tokens others ++ rest) × (of_members others before ≡ Some whole)
+    → (others : json.Members) × (before : Members) × (l.left ≡ held_members others ++ rest) × (of_members others before ≡ Some whole)
     × AreSorted before × (members_by g.S.Sieve.keeps l.sieve before ≡ members_view l.members.entries))
     × (length l.left ≤ length l.initial.left)
 
