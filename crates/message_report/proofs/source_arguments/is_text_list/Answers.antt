@@ -1,0 +1,10 @@
+use Rattle.serde_json.specs.View.{items_view, view}
+use Rattle.message_report.proofs.TextLists.{no_list, text_list_if}
+use Rattle.message_report.proofs.source_arguments.is_text_list.Goals as goal
+
+pub returns-in-Some : goal.returns-in-Some
+returns-in-Some c =
+    text_list_if (view c.args.value.now) (items_view c.in-Some.items.now.items) c.are_texts.result c.in-Some.ensures c.are_texts.ensures
+
+pub returns-in-None : goal.returns-in-None
+returns-in-None c = ((λ yes. cc), (λ list. absurd (no_list (view c.args.value.now) list.0 c.in-None.ensures list.1)))
