@@ -1,6 +1,5 @@
--- What the source text of a message has, from which the message was translated
--- (docs/TRANSLATORS.md): in a further part of the locale, `source`, the list of its arguments stands
--- under the message's key. The text `{}` is the number.
+-- What the source text of a message has (docs/TRANSLATORS.md). Its arguments are a list of texts
+-- under the message's key in a part of the locale, `source`; the text `{}` is the number.
 --     IsTextList value      the value is a list of texts
 --     LacksNumber part key      a list of texts is under the key, and none of these is the number
 use Rattle.std.specs.Prelude.{◌≡◌, ◌≢◌, ℕ, List, codes, map, Option, Some, None}
