@@ -15,4 +15,5 @@ pub mod OwnBranches
 pub mod PatternTold
 pub mod TellLemmas
 pub mod TextLemmas
+pub mod TextLists
 pub mod ToldLemmas

@@ -17,6 +17,7 @@ use Rattle.message_report.specs.MessagesReport.{IsFoundInBoth, IsFoundInObject, 
 use Rattle.message_report.specs.PatternFaults.{TwoLanguages}
 use Rattle.plural_documents.specs.PrintedKeys.{name_text}
 use Rattle.message_report.specs.RulesSource.{RulesSource}
+use Rattle.message_report.specs.SourceArguments.{source_name}
 
 -- no entries are no members
 pub none_there : (entries : List (String Global × Value)) → length entries ≡ 0 → members_view entries ≡ no_members
@@ -33,11 +34,11 @@ filled_if (entry ∷ entries) false is = refl
 
 -- what is found in some messages under a language
 pub under_messages : (type : PluralRuleType) (locale : List ℕ) (entries : List (String Global × Value))
-    (language : Option Language) (found : Found) → (length entries ≡ 0 → ⊥)
-    → IsFoundUnder language type (name_text locale) (members_view entries) found
-    → IsFoundInMessagesBy language type locale (members_view entries) found
-under_messages type locale [] language found some under = absurd (some refl)
-under_messages type locale (entry ∷ entries) language found some under = under
+    (language : Option Language) (arguments : Option Data) (found : Found) → (length entries ≡ 0 → ⊥)
+    → IsFoundUnder language arguments type (name_text locale) (members_view entries) found
+    → IsFoundInMessagesBy language arguments type locale (members_view entries) found
+under_messages type locale [] language arguments found some under = absurd (some refl)
+under_messages type locale (entry ∷ entries) language arguments found some under = under
 
 -- ---- Under the rules of a source
 
@@ -49,23 +50,23 @@ either_second : (a b : Bool) → IsTrue b → IsTrue (a || b)
 either_second true b h = refl
 either_second false b h = h
 
-by_messages : (source : RulesSource) (type : PluralRuleType) (locale : List ℕ) (language : Option Language) (members : Members)
+by_messages : (source : RulesSource) (arguments : Option Data) (type : PluralRuleType) (locale : List ℕ) (language : Option Language) (members : Members)
     (found : Found) → (IsTrue (is_filled (Some members)) → HasLanguage source type locale language)
-    → IsFoundInMessagesBy language type locale members found → IsFoundInMessages source type locale members found
-by_messages source type locale language no_members found has by = by
-by_messages source type locale language (member key value left) found has by = (language, has refl, by)
+    → IsFoundInMessagesBy language arguments type locale members found → IsFoundInMessages source arguments type locale members found
+by_messages source arguments type locale language no_members found has by = by
+by_messages source arguments type locale language (member key value left) found has by = (language, has refl, by)
 
-by_object : (source : RulesSource) (type : PluralRuleType) (locale : List ℕ) (language : Option Language) (members : Option Members)
+by_object : (source : RulesSource) (arguments : Option Data) (type : PluralRuleType) (locale : List ℕ) (language : Option Language) (members : Option Members)
     (found : Found) → (IsTrue (is_filled members) → HasLanguage source type locale language)
-    → IsFoundInObjectBy language type locale members found → IsFoundInObject source type locale members found
-by_object source type locale language None found has by = by
-by_object source type locale language (Some all) found has by = by_messages source type locale language all found has by
+    → IsFoundInObjectBy language arguments type locale members found → IsFoundInObject source arguments type locale members found
+by_object source arguments type locale language None found has by = by
+by_object source arguments type locale language (Some all) found has by = by_messages source arguments type locale language all found has by
 
-by_part : (source : RulesSource) (type : PluralRuleType) (locale : List ℕ) (language : Option Language) (part : Option Data)
+by_part : (source : RulesSource) (arguments : Option Data) (type : PluralRuleType) (locale : List ℕ) (language : Option Language) (part : Option Data)
     (found : Found) → (IsTrue (has_members_in part) → HasLanguage source type locale language)
-    → IsFoundInPartBy language type locale part found → IsFoundInPart source type locale part found
-by_part source type locale language None found has by = by
-by_part source type locale language (Some part) found has by = by_object source type locale language (as_object part) found has by
+    → IsFoundInPartBy language arguments type locale part found → IsFoundInPart source arguments type locale part found
+by_part source arguments type locale language None found has by = by
+by_part source arguments type locale language (Some part) found has by = by_object source arguments type locale language (as_object part) found has by
 
 by_patterns : (source : RulesSource) (locale : List ℕ) (two : TwoLanguages) (members : Option Members) (found : Found)
     → (IsTrue (is_some members) → HaveLanguages source locale two) → IsFoundInPatternsObjectBy two locale members found
@@ -85,9 +86,9 @@ pub by_both : (source : RulesSource) (locale : List ℕ) (value : Data) (two : T
 by_both source locale value two found needed by = (
   by.0,
   by.1,
-  by_part source Cardinal locale two.cardinal (get (type_name Cardinal) value) by.0
+  by_part source (get source_name value) Cardinal locale two.cardinal (get (type_name Cardinal) value) by.0
       (λ some. needed.at Cardinal (either_second patterns (has_members_in (get (type_name Cardinal) value)) some)) by.2,
-  by_part source Ordinal locale two.ordinal (get (type_name Ordinal) value) by.1
+  by_part source (get source_name value) Ordinal locale two.ordinal (get (type_name Ordinal) value) by.1
       (λ some. needed.at Ordinal (either_second patterns (has_members_in (get (type_name Ordinal) value)) some)) by.3,
   by.4,
 )

@@ -3,6 +3,8 @@
 --         choose their forms
 --     HasFormFault language form message fault      the fault of a form in a message, if it has
 --         one; without a language only that it has no text
+--     told_of needs_number fault      the fault, unless it is that a form lacks a number which it
+--         doesn't need
 use Rattle.std.specs.Prelude.{◌≡◌, ◌⊎◌, ℕ, Bool, true, IsTrue, IsFalse, List, ◌++◌, codes, Option, Some, None, is_some, if◌then◌else◌}
 use Rattle.std.specs.Fmt.{decimal}
 use Rattle.std.specs.Str.Iter.{HasSubslice}
@@ -91,6 +93,13 @@ HasFormFault language ExplicitZero message fault = fault ≡ form_value_fault (f
 HasFormFault language ExplicitOne message fault = fault ≡ form_value_fault (form_under ExplicitOne message)
 HasFormFault None (Category category) message fault = fault ≡ form_value_fault (form_under (Category category) message)
 HasFormFault (Some language) (Category category) message fault = HasCategoryFault language category message fault
+
+-- of a fault: no form needs a number that the source of its message lacks
+abbrev pub told_of : Bool → FormFault → Option FormFault
+told_of needs_number NoText = Some NoText
+told_of needs_number (Unused category) = Some (Unused category)
+told_of needs_number (NoNumber category first second) = if needs_number then Some (NoNumber category first second) else None
+told_of needs_number (Missing category first second) = Some (Missing category first second)
 
 -- ---- The texts of faults
 

@@ -3,6 +3,7 @@ pub mod ArgumentViews
 pub mod FormSteps
 pub mod KnownNumbers
 pub mod LanguageViews
+pub mod ListedTexts
 pub mod NeededRules
 pub mod NumberBranches
 pub mod OwnForms

@@ -3,6 +3,7 @@ pub mod PrintedKeys
 pub mod MessageForms
 pub mod MessageSets
 pub mod WholeNumberLaws
+pub mod SourceArguments
 pub mod FormFaults
 -- patterns
 pub mod PatternBranches

@@ -1,13 +1,15 @@
 -- The report of files of messages (docs/TRANSLATORS.md): what is found in each locale, in the order
--- of their bytes. In a locale first in its keys, then in its messages for cardinal numbers, in
--- those for ordinal numbers, and in its patterns; in a message form by form, and then in its other
--- keys; in a pattern argument by argument, first the missing branches, then branch by branch.
+-- of their bytes. In a locale first in its keys, then in what its messages' sources have, in its
+-- messages for cardinal numbers, in those for ordinal numbers, and in its patterns; in a message form
+-- by form, and then in its other keys; in a pattern argument by argument, first the missing branches,
+-- then branch by branch.
 --     IsFoundInMessagesDocument source document found      what is found in a document under the
 --         rules of a source
 --     IsFoundInFiles source files found      what is found in files, each line after the name of
 --         its file
 use Rattle.std.specs.Prelude.{◌≡◌, ℕ, ◌||◌, bytes_eq, Bool, List, [], ◌∷◌, ◌++◌, codes, length, map, take}
-use Rattle.std.specs.Prelude.{Option, Some, None, is_some, ◌⊎◌, if◌then◌else◌}
+use Rattle.std.specs.Prelude.{Option, Some, None, is_some, ◌⊎◌, ◌↔◌, IsFalse, if◌then◌else◌}
+use Rattle.std.specs.Option.{option_and_then}
 use Rattle.serde_json.specs.Data.{Data, Members, no_members, member}
 use Rattle.serde_json.specs.Find.{get, as_object, as_str}
 use Rattle.serde_json.specs.View.{view}
@@ -21,7 +23,7 @@ use Rattle.message_pattern.specs.PatternParts.{Branching, Part, PatternPiece, Se
 use Rattle.message_pattern.specs.PatternAnswers.{HasPatternFault, IsPattern, pattern_error_text}
 use Rattle.message_pattern.specs.declared.error.FaultKind.{FaultKind}
 use Rattle.message_pattern.specs.declared.error.PatternError.TheVariants as error
-use Rattle.message_report.specs.FormFaults.{Language, HasFormFault, IsLanguageOf, form_fault_text}
+use Rattle.message_report.specs.FormFaults.{Language, HasFormFault, IsLanguageOf, form_fault_text, told_of}
 use Rattle.message_report.specs.FoundInMessages.{IsFoundInEach, one_form, one_message}
 use Rattle.plural_documents.specs.Found.{Found, IsFoundInMembers, nothing_found, one_fault, together}
 use Rattle.message_report.specs.MessageForms.{form_name, form_order, has_form, is_form_name}
@@ -30,6 +32,7 @@ use Rattle.plural_documents.specs.PrintedKeys.{name_text}
 use Rattle.message_report.specs.PrintedKeys.{bytes_text, message_text}
 use Rattle.plural_documents.specs.FirstLines.{most_told, rest_lines}
 use Rattle.message_report.specs.RulesSource.{RulesSource, HasRules}
+use Rattle.message_report.specs.SourceArguments.{IsTextList, LacksNumber, source_name}
 use Rattle.message_report.specs.declared.branch_fault.BranchFault.{BranchFault}
 use Rattle.message_report.specs.declared.fault.FormFault.{FormFault}
 use Rattle.message_report.specs.declared.file.MessageFile.{MessageFile}
@@ -70,10 +73,11 @@ abbrev pub found_of_fault : List ℕ → Form → Option FormFault → Found
 found_of_fault place form None = nothing_found
 found_of_fault place form (Some fault) = one_fault (named_line place (form_name form) (form_fault_text fault))
 
-abbrev pub IsFoundInForm : Option Language → List ℕ → Data → Form → Found → Type 0
-IsFoundInForm language place message form found =
+-- its fault is told, but for a number that it doesn't need
+abbrev pub IsFoundInForm : Option Language → Bool → List ℕ → Data → Form → Found → Type 0
+IsFoundInForm language needs_number place message form found =
     (fault : Option FormFault) × HasFormFault language form message fault
-    × (found ≡ together (form_count form message) (found_of_fault place form fault))
+    × (found ≡ together (form_count form message) (found_of_fault place form (option_and_then (told_of needs_number) fault)))
 
 -- the keys that name no form
 abbrev pub other_keys : Members → List (List ℕ)
@@ -94,16 +98,17 @@ found_of_keys place keys = record {
 }
 
 -- first in the forms, then in the other keys
-abbrev pub IsFoundInForms : Option Language → List ℕ → Data → Option Members → Found → Type 0
-IsFoundInForms language place message None found = found ≡ one_fault (place_line place (codes "no object"))
-IsFoundInForms language place message (Some members) found =
-    (forms : Found) × IsFoundInEach (IsFoundInForm language place message) form_order forms
+abbrev pub IsFoundInForms : Option Language → Bool → List ℕ → Data → Option Members → Found → Type 0
+IsFoundInForms language needs_number place message None found = found ≡ one_fault (place_line place (codes "no object"))
+IsFoundInForms language needs_number place message (Some members) found =
+    (forms : Found) × IsFoundInEach (IsFoundInForm language needs_number place message) form_order forms
     × (found ≡ together forms (found_of_keys place (other_keys members)))
 
--- a message is counted
-abbrev pub IsFoundInMessage : Option Language → PluralRuleType → List ℕ → List ℕ → Data → Found → Type 0
-IsFoundInMessage language type locale key message found =
-    (more : Found) × IsFoundInForms language (message_place type locale (message_text key)) message (as_object message) more
+-- a message is counted; its forms need the number, unless its source lacks it
+abbrev pub IsFoundInMessage : Option Language → Option Data → PluralRuleType → List ℕ → List ℕ → Data → Found → Type 0
+IsFoundInMessage language arguments type locale key message found =
+    (needs_number : Bool) × (more : Found) × (IsFalse needs_number ↔ LacksNumber arguments key)
+    × IsFoundInForms language needs_number (message_place type locale (message_text key)) message (as_object message) more
     × (found ≡ together one_message more)
 
 -- ---- The messages of a type
@@ -129,27 +134,50 @@ HasLanguage source type locale language =
     (rules : Option FiveRules) × HasRules source type locale rules × IsLanguageIf rules language
 
 -- first that there are no rules
-abbrev pub IsFoundUnder : Option Language → PluralRuleType → List ℕ → Members → Found → Type 0
-IsFoundUnder language type locale members found =
-    (messages : Found) × IsFoundInMembers (IsFoundInMessage language type locale) members messages
+abbrev pub IsFoundUnder : Option Language → Option Data → PluralRuleType → List ℕ → Members → Found → Type 0
+IsFoundUnder language arguments type locale members found =
+    (messages : Found) × IsFoundInMembers (IsFoundInMessage language arguments type locale) members messages
     × (found ≡ together (found_of_language type locale language) messages)
 
 -- under the rules of the locale; without messages none are needed
-abbrev pub IsFoundInMessages : RulesSource → PluralRuleType → List ℕ → Members → Found → Type 0
-IsFoundInMessages source type locale no_members found = found ≡ nothing_found
-IsFoundInMessages source type locale (member key value members) found =
+abbrev pub IsFoundInMessages : RulesSource → Option Data → PluralRuleType → List ℕ → Members → Found → Type 0
+IsFoundInMessages source arguments type locale no_members found = found ≡ nothing_found
+IsFoundInMessages source arguments type locale (member key value members) found =
     (language : Option Language) × HasLanguage source type locale language
-    × IsFoundUnder language type (name_text locale) (member key value members) found
+    × IsFoundUnder language arguments type (name_text locale) (member key value members) found
 
 -- a part that isn't there has no messages, and one that is there should be an object
-abbrev pub IsFoundInObject : RulesSource → PluralRuleType → List ℕ → Option Members → Found → Type 0
-IsFoundInObject source type locale None found =
+abbrev pub IsFoundInObject : RulesSource → Option Data → PluralRuleType → List ℕ → Option Members → Found → Type 0
+IsFoundInObject source arguments type locale None found =
     found ≡ one_fault (place_line (part_place type (name_text locale)) (codes "no object"))
-IsFoundInObject source type locale (Some members) found = IsFoundInMessages source type locale members found
+IsFoundInObject source arguments type locale (Some members) found = IsFoundInMessages source arguments type locale members found
 
-abbrev pub IsFoundInPart : RulesSource → PluralRuleType → List ℕ → Option Data → Found → Type 0
-IsFoundInPart source type locale None found = found ≡ nothing_found
-IsFoundInPart source type locale (Some part) found = IsFoundInObject source type locale (as_object part) found
+abbrev pub IsFoundInPart : RulesSource → Option Data → PluralRuleType → List ℕ → Option Data → Found → Type 0
+IsFoundInPart source arguments type locale None found = found ≡ nothing_found
+IsFoundInPart source arguments type locale (Some part) found = IsFoundInObject source arguments type locale (as_object part) found
+
+-- ---- What the sources of messages have
+
+-- `ru source`
+abbrev pub source_place : List ℕ → List ℕ
+source_place locale = locale ++ codes " source"
+
+-- `ru source files: no list of texts`
+abbrev pub source_line : List ℕ → List ℕ → List ℕ
+source_line locale key = named_line (source_place locale) (message_text key) (codes "no list of texts")
+
+-- of a message's source: the value should be a list of texts
+abbrev pub IsFoundInSource : List ℕ → List ℕ → Data → Found → Type 0
+IsFoundInSource locale key value found =
+    (IsTextList value × (found ≡ nothing_found)) ⊎ ((¬ (IsTextList value)) × (found ≡ one_fault (source_line locale key)))
+
+abbrev pub IsFoundInSourceObject : List ℕ → Option Members → Found → Type 0
+IsFoundInSourceObject locale None found = found ≡ one_fault (place_line (source_place locale) (codes "no object"))
+IsFoundInSourceObject locale (Some members) found = IsFoundInMembers (IsFoundInSource locale) members found
+
+abbrev pub IsFoundInSourcePart : List ℕ → Option Data → Found → Type 0
+IsFoundInSourcePart locale None found = found ≡ nothing_found
+IsFoundInSourcePart locale (Some part) found = IsFoundInSourceObject locale (as_object part) found
 
 -- ---- A pattern
 
@@ -282,7 +310,8 @@ IsFoundInPatternsPart source locale (Some part) found = IsFoundInPatternsObject 
 -- ---- The document
 
 abbrev pub is_locale_part : List ℕ → Bool
-is_locale_part key = bytes_eq key (type_name Cardinal) || bytes_eq key (type_name Ordinal) || bytes_eq key patterns_name
+is_locale_part key =
+    bytes_eq key (type_name Cardinal) || bytes_eq key (type_name Ordinal) || bytes_eq key patterns_name || bytes_eq key source_name
 
 -- `ru cardinals: not a part`
 abbrev pub found_of_part_key : List ℕ → List ℕ → Found
@@ -296,8 +325,8 @@ IsFoundInLocaleKey locale key value found = found ≡ found_of_part_key locale k
 abbrev pub IsFoundInBoth : RulesSource → List ℕ → Data → Found → Type 0
 IsFoundInBoth source locale value found =
     (cardinal ordinal : Found)
-    × IsFoundInPart source Cardinal locale (get (type_name Cardinal) value) cardinal
-    × IsFoundInPart source Ordinal locale (get (type_name Ordinal) value) ordinal
+    × IsFoundInPart source (get source_name value) Cardinal locale (get (type_name Cardinal) value) cardinal
+    × IsFoundInPart source (get source_name value) Ordinal locale (get (type_name Ordinal) value) ordinal
     × (found ≡ together cardinal ordinal)
 
 -- and then patterns
@@ -306,12 +335,13 @@ IsFoundInAll source locale value found =
     (both patterns : Found) × IsFoundInBoth source locale value both
     × IsFoundInPatternsPart source locale (get patterns_name value) patterns × (found ≡ together both patterns)
 
--- in a locale: in its keys, and in all parts
+-- in a locale: in its keys, in what the sources of its messages have, and in all other parts
 abbrev pub IsFoundInParts : RulesSource → List ℕ → Data → Option Members → Found → Type 0
 IsFoundInParts source locale value None found = found ≡ one_fault (place_line (name_text locale) (codes "no object"))
 IsFoundInParts source locale value (Some members) found =
-    (keys parts : Found) × IsFoundInMembers (IsFoundInLocaleKey (name_text locale)) members keys × IsFoundInAll source locale value parts
-    × (found ≡ together keys parts)
+    (keys sources parts : Found) × IsFoundInMembers (IsFoundInLocaleKey (name_text locale)) members keys
+    × IsFoundInSourcePart (name_text locale) (get source_name value) sources × IsFoundInAll source locale value parts
+    × (found ≡ together keys (together sources parts))
 
 abbrev pub IsFoundInLocale : RulesSource → List ℕ → Data → Found → Type 0
 IsFoundInLocale source locale value found = IsFoundInParts source locale value (as_object value) found

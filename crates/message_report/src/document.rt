@@ -16,6 +16,7 @@ use crate::languages::Languages;
 use crate::part::add_part;
 use crate::patterns::add_patterns;
 use crate::source::RulesOfLocales;
+use crate::source_part::add_source_part;
 use icu_plurals::PluralRuleType;
 use plural_documents::{Found, MemberCheck, add_members, name_text};
 use serde_json::{Map, Value};
@@ -94,6 +95,7 @@ fn add_locale<S: RulesOfLocales>(
 {
     let name = name_text(alloc, locale)?;
     add_part_keys(alloc, name.as_str(), members, found)?;
+    add_source_part(alloc, name.as_str(), value.get("source"), found)?;
     add_all(alloc, source, locale, value, found)
 }
 
@@ -181,5 +183,5 @@ fn add_part_key(alloc: Global, locale: &str, key: &str, found: &mut Found) -> Re
 fn is_part_name(key: &str) -> bool
     ensures { result ≡ is_locale_part key.now }
 {
-    key == "cardinal" || key == "ordinal" || key == "patterns"
+    key == "cardinal" || key == "ordinal" || key == "patterns" || key == "source"
 }

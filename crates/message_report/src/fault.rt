@@ -1,7 +1,8 @@
 //! What is wrong with a form of a message.
 
 ghost use Rattle.std.specs.Prelude.{◌≡◌, Some, None, option_map};
-ghost use Rattle.message_report.specs.FormFaults.{form_fault_text, no_number, form_value_fault};
+ghost use Rattle.std.specs.Option.{option_and_then};
+ghost use Rattle.message_report.specs.FormFaults.{form_fault_text, no_number, form_value_fault, told_of};
 ghost use Rattle.message_report.specs.FormFaults.{HasFaultUnder, HasPresentFault, HasTextFault};
 ghost use Rattle.message_report.specs.Inner.FormSteps.{HasFaultOf, language_lent, value_lent};
 ghost use Rattle.message_report.specs.Inner.LanguageViews.{language_view};
@@ -59,6 +60,20 @@ impl fmt::Display for FormFault {
             }
             FormFault::Missing(_, None, _) => f.write_str("missing"),
         }
+    }
+}
+
+// Returns the fault that is told, given whether the form needs the number.
+pub(crate) fn told_fault(needs_number: bool, fault: Option<FormFault>) -> Option<FormFault>
+    ensures { result ≡ option_and_then (told_of needs_number) fault }
+{
+    let fault = fault?;
+    if needs_number {
+        return Some(fault);
+    }
+    match fault {
+        FormFault::NoNumber(..) => None,
+        _ => Some(fault),
     }
 }
 

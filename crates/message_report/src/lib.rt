@@ -29,6 +29,8 @@ mod report;
 pub mod run;
 mod seen_numbers;
 mod source;
+mod source_arguments;
+mod source_part;
 
 pub use counts::Counts;
 pub use error::ReportError;

@@ -13,11 +13,12 @@ ghost use Rattle.message_report.specs.MessagesReport.{IsFoundInForm, IsFoundInFo
 ghost use Rattle.serde_json.specs.Find.{as_object};
 ghost use Rattle.serde_json.specs.View.{members_view, view};
 
-use crate::fault::{FormFault, form_fault};
+use crate::fault::{FormFault, form_fault, told_fault};
 use crate::form::{Form, OwnForms};
 use crate::keys::{add_keys, has_only_forms, place_line};
 use crate::language::Language;
 use crate::message_place::MessagePlace;
+use crate::source_arguments::needs_number;
 use icu_plurals::{PluralCategory, PluralRuleType};
 use plural_documents::{Found, MemberCheck};
 use serde_json::{Map, Value};
@@ -35,16 +36,18 @@ const FORM_ORDER: [Form; 8] = [
     Form::Category(PluralCategory::Other),
 ];
 
-// Checks a message of a type, in a locale whose printed name is given.
+// Checks a message of a type, in a locale whose printed name is given, with what the sources of its
+// messages have.
 #[derive(Clone, Copy)]
 pub(crate) struct MessageCheck<'a> {
     pub(crate) language: Option<&'a Language>,
+    pub(crate) arguments: Option<&'a Value>,
     pub(crate) rule_type: PluralRuleType,
     pub(crate) locale: &'a str,
 }
 
 impl<'a> MemberCheck for MessageCheck<'a> {
-    ghost finds = { λ check. IsFoundInMessage (language_lent check.language) check.rule_type check.locale.now };
+    ghost finds = { λ check. IsFoundInMessage (language_lent check.language) (value_lent check.arguments) check.rule_type check.locale.now };
 
     fn add(
         &self,
@@ -59,24 +62,36 @@ impl<'a> MemberCheck for MessageCheck<'a> {
             key,
             text: None,
         };
+        let needs = FormNeeds {
+            language: self.language,
+            number: needs_number(self.arguments, key),
+        };
         found.add_checked(1)?;
-        add_forms(alloc, self.language, &mut place, message, found)
+        add_forms(alloc, needs, &mut place, message, found)
     }
+}
+
+// What the forms of a message need: those of a language, if it is known, and the number, unless the
+// source of the message lacks it.
+#[derive(Clone, Copy)]
+struct FormNeeds<'a> {
+    language: Option<&'a Language>,
+    number: bool,
 }
 
 // Adds what is found in the forms of a message, and in its other keys.
 fn add_forms(
     alloc: Global,
-    language: Option<&Language>,
+    needs: FormNeeds<'_>,
     place: &mut MessagePlace<'_>,
     message: &Value,
     found: &mut Found,
 ) -> Result<(), AllocError>
-    ensures { OnOk result (HasGrownBy (IsFoundInForms (language_lent language.entry) (place_text place.old) (view message.now)
+    ensures { OnOk result (HasGrownBy (IsFoundInForms (language_lent needs.entry.language) needs.entry.number (place_text place.old) (view message.now)
         (as_object (view message.now))) found.old found.new) }
 {
     match message.as_object() {
-        Some(members) => add_all(alloc, language, place, message, members, found),
+        Some(members) => add_all(alloc, needs, place, message, members, found),
         None => found.add_fault(no_object_line(alloc, place)?),
     }
 }
@@ -92,16 +107,16 @@ fn no_object_line(alloc: Global, place: &MessagePlace<'_>) -> Result<String, All
 // Adds what is found in each form of a message with these members, and in its other keys.
 fn add_all(
     alloc: Global,
-    language: Option<&Language>,
+    needs: FormNeeds<'_>,
     place: &mut MessagePlace<'_>,
     message: &Value,
     members: &Map<String, Value>,
     found: &mut Found,
 ) -> Result<(), AllocError>
-    ensures { OnOk result (HasGrownBy (IsFoundInForms (language_lent language.entry) (place_text place.old) (view message.now)
+    ensures { OnOk result (HasGrownBy (IsFoundInForms (language_lent needs.entry.language) needs.entry.number (place_text place.old) (view message.now)
         (Some (members_view members.now.entries))) found.old found.new) }
 {
-    add_each_form(alloc, language, place, message, found)?;
+    add_each_form(alloc, needs, place, message, found)?;
     add_other_keys(alloc, place, members, found)
 }
 
@@ -128,18 +143,18 @@ fn add_other_keys(
 // Adds what is found in each form.
 fn add_each_form(
     alloc: Global,
-    language: Option<&Language>,
+    needs: FormNeeds<'_>,
     place: &mut MessagePlace<'_>,
     message: &Value,
     found: &mut Found,
 ) -> Result<(), AllocError>
-    ensures found { OnOk result (HasGrownBy (IsFoundInEach (IsFoundInForm (language_lent language.entry) (place_text place.old)
+    ensures found { OnOk result (HasGrownBy (IsFoundInEach (IsFoundInForm (language_lent needs.entry.language) needs.entry.number (place_text place.old)
         (view message.now)) form_order) found.old found.new) }
     ensures place { OnOk result (place_text place.new ≡ place_text place.old) }
 {
     let own = OwnForms::of(message);
     for form in &FORM_ORDER {
-        add_form(alloc, language, own, place, message, *form, found)?;
+        add_form(alloc, needs, own, place, message, *form, found)?;
     }
     Ok(())
 }
@@ -147,7 +162,7 @@ fn add_each_form(
 // Adds what is found in a form, given which of 0 and 1 have forms of their own in the message.
 fn add_form(
     alloc: Global,
-    language: Option<&Language>,
+    needs: FormNeeds<'_>,
     own: OwnForms,
     place: &mut MessagePlace<'_>,
     message: &Value,
@@ -155,14 +170,14 @@ fn add_form(
     found: &mut Found,
 ) -> Result<(), AllocError>
     requires { own ≡ own_forms (view message.now) }
-    ensures found { OnOk result (HasGrownBy (IsFoundInForm (language_lent language.entry) (place_text place.old) (view message.now) form)
+    ensures found { OnOk result (HasGrownBy (IsFoundInForm (language_lent needs.entry.language) needs.entry.number (place_text place.old) (view message.now) form)
         found.old found.new) }
     ensures place { OnOk result (place_text place.new ≡ place_text place.old) }
 {
     let value = form.in_message(message);
     count_value(value, found)?;
-    let fault = form_fault(language, own, form, value);
-    add_fault(alloc, place, form, fault, found)
+    let fault = form_fault(needs.language, own, form, value);
+    add_fault(alloc, place, form, told_fault(needs.number, fault), found)
 }
 
 // Counts what a message has under the key of a form, if there is something.

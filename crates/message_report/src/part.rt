@@ -3,11 +3,12 @@
 ghost use Rattle.std.specs.Prelude.{◌≡◌, codes, IfOk, OnOk, string_bytes};
 ghost use Rattle.plural_documents.specs.Found.{together};
 ghost use Rattle.plural_documents.specs.Found.{HasGrownBy};
-ghost use Rattle.message_report.specs.Inner.FormSteps.{language_lent};
+ghost use Rattle.message_report.specs.Inner.FormSteps.{language_lent, value_lent};
 ghost use Rattle.message_report.specs.Inner.NeededRules.{IsFoundInMessagesBy, IsFoundInObjectBy, IsFoundInPartBy};
 ghost use Rattle.message_report.specs.MessagesReport.{found_of_language, no_rules_text, part_place, place_line, type_name};
 ghost use Rattle.message_report.specs.MessagesReport.{IsFoundUnder};
 ghost use Rattle.plural_documents.specs.PrintedKeys.{name_text};
+ghost use Rattle.message_report.specs.SourceArguments.{source_name};
 ghost use Rattle.serde_json.specs.Find.{as_object, get};
 ghost use Rattle.serde_json.specs.View.{members_view, view};
 
@@ -39,29 +40,41 @@ pub(crate) fn add_part(
     value: &Value,
     found: &mut Found,
 ) -> Result<(), AllocError>
-    ensures { OnOk result (HasGrownBy (IsFoundInPartBy (language_lent language.entry) rule_type locale.now
+    ensures { OnOk result (HasGrownBy (IsFoundInPartBy (language_lent language.entry) (get source_name (view value.now)) rule_type locale.now
         (get (type_name rule_type) (view value.now))) found.old found.new) }
 {
     match value.get(type_name(rule_type)) {
-        Some(part) => add_object(alloc, language, rule_type, locale, part, found),
+        Some(part) => add_object(
+            alloc,
+            language,
+            value.get("source"),
+            rule_type,
+            locale,
+            part,
+            found,
+        ),
         None => Ok(()),
     }
 }
 
-// Adds what is found in the messages of a type, which should be an object.
+// Adds what is found in the messages of a type, which should be an object, given what their sources
+// have.
 fn add_object(
     alloc: Global,
     language: Option<&Language>,
+    arguments: Option<&Value>,
     rule_type: PluralRuleType,
     locale: &str,
     part: &Value,
     found: &mut Found,
 ) -> Result<(), AllocError>
-    ensures { OnOk result (HasGrownBy (IsFoundInObjectBy (language_lent language.entry) rule_type locale.now
+    ensures { OnOk result (HasGrownBy (IsFoundInObjectBy (language_lent language.entry) (value_lent arguments.entry) rule_type locale.now
         (as_object (view part.now))) found.old found.new) }
 {
     match part.as_object() {
-        Some(members) => add_messages(alloc, language, rule_type, locale, members, found),
+        Some(members) => add_messages(
+            alloc, language, arguments, rule_type, locale, members, found,
+        ),
         None => found.add_fault(part_line(alloc, rule_type, locale)?),
     }
 }
@@ -87,19 +100,28 @@ fn part_place(alloc: Global, rule_type: PluralRuleType, locale: &str) -> Result<
 fn add_messages(
     alloc: Global,
     language: Option<&Language>,
+    arguments: Option<&Value>,
     rule_type: PluralRuleType,
     locale: &str,
     members: &Map<String, Value>,
     found: &mut Found,
 ) -> Result<(), AllocError>
-    ensures { OnOk result (HasGrownBy (IsFoundInMessagesBy (language_lent language.entry) rule_type locale.now
+    ensures { OnOk result (HasGrownBy (IsFoundInMessagesBy (language_lent language.entry) (value_lent arguments.entry) rule_type locale.now
         (members_view members.now.entries)) found.old found.new) }
 {
     if members.is_empty() {
         return Ok(());
     }
     let name = name_text(alloc, locale)?;
-    add_under(alloc, language, rule_type, name.as_str(), members, found)
+    add_under(
+        alloc,
+        language,
+        arguments,
+        rule_type,
+        name.as_str(),
+        members,
+        found,
+    )
 }
 
 // Adds what is found in messages of a language, if it is known, given the printed name of the
@@ -107,17 +129,19 @@ fn add_messages(
 fn add_under(
     alloc: Global,
     language: Option<&Language>,
+    arguments: Option<&Value>,
     rule_type: PluralRuleType,
     locale: &str,
     members: &Map<String, Value>,
     found: &mut Found,
 ) -> Result<(), AllocError>
-    ensures { OnOk result (HasGrownBy (IsFoundUnder (language_lent language.entry) rule_type locale.now
+    ensures { OnOk result (HasGrownBy (IsFoundUnder (language_lent language.entry) (value_lent arguments.entry) rule_type locale.now
         (members_view members.now.entries)) found.old found.new) }
 {
     add_no_rules(alloc, language, rule_type, locale, found)?;
     let check = MessageCheck {
         language,
+        arguments,
         rule_type,
         locale,
     };

@@ -12,6 +12,7 @@ use Rattle.message_report.specs.MessagesReport.{part_place, patterns_name, patte
 use Rattle.message_report.specs.MessagesReport.{HasLanguage, IsFoundInPattern, IsFoundUnder}
 use Rattle.message_report.specs.PatternFaults.{TwoLanguages, language_of}
 use Rattle.message_report.specs.RulesSource.{RulesSource}
+use Rattle.message_report.specs.SourceArguments.{source_name}
 
 -- an object with members
 abbrev pub is_filled : Option Members → Bool
@@ -36,25 +37,27 @@ pub record AreNeeded (source : RulesSource) (locale : List ℕ) (value : Data) (
 
 -- ---- Messages
 
-abbrev pub IsFoundInMessagesBy : Option Language → PluralRuleType → List ℕ → Members → Found → Type 0
-IsFoundInMessagesBy language type locale no_members found = found ≡ nothing_found
-IsFoundInMessagesBy language type locale (member key value members) found =
-    IsFoundUnder language type (name_text locale) (member key value members) found
+abbrev pub IsFoundInMessagesBy : Option Language → Option Data → PluralRuleType → List ℕ → Members → Found → Type 0
+IsFoundInMessagesBy language arguments type locale no_members found = found ≡ nothing_found
+IsFoundInMessagesBy language arguments type locale (member key value members) found =
+    IsFoundUnder language arguments type (name_text locale) (member key value members) found
 
-abbrev pub IsFoundInObjectBy : Option Language → PluralRuleType → List ℕ → Option Members → Found → Type 0
-IsFoundInObjectBy language type locale None found =
+abbrev pub IsFoundInObjectBy : Option Language → Option Data → PluralRuleType → List ℕ → Option Members → Found → Type 0
+IsFoundInObjectBy language arguments type locale None found =
     found ≡ one_fault (place_line (part_place type (name_text locale)) (codes "no object"))
-IsFoundInObjectBy language type locale (Some members) found = IsFoundInMessagesBy language type locale members found
+IsFoundInObjectBy language arguments type locale (Some members) found =
+    IsFoundInMessagesBy language arguments type locale members found
 
-abbrev pub IsFoundInPartBy : Option Language → PluralRuleType → List ℕ → Option Data → Found → Type 0
-IsFoundInPartBy language type locale None found = found ≡ nothing_found
-IsFoundInPartBy language type locale (Some part) found = IsFoundInObjectBy language type locale (as_object part) found
+abbrev pub IsFoundInPartBy : Option Language → Option Data → PluralRuleType → List ℕ → Option Data → Found → Type 0
+IsFoundInPartBy language arguments type locale None found = found ≡ nothing_found
+IsFoundInPartBy language arguments type locale (Some part) found =
+    IsFoundInObjectBy language arguments type locale (as_object part) found
 
 abbrev pub IsFoundInBothBy : TwoLanguages → List ℕ → Data → Found → Type 0
 IsFoundInBothBy two locale value found =
     (cardinal ordinal : Found)
-    × IsFoundInPartBy (language_of two Cardinal) Cardinal locale (get (type_name Cardinal) value) cardinal
-    × IsFoundInPartBy (language_of two Ordinal) Ordinal locale (get (type_name Ordinal) value) ordinal
+    × IsFoundInPartBy (language_of two Cardinal) (get source_name value) Cardinal locale (get (type_name Cardinal) value) cardinal
+    × IsFoundInPartBy (language_of two Ordinal) (get source_name value) Ordinal locale (get (type_name Ordinal) value) ordinal
     × (found ≡ together cardinal ordinal)
 
 -- ---- Patterns

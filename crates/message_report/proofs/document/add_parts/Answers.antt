@@ -7,6 +7,7 @@ use Rattle.plural_documents.specs.Found.{together}
 use Rattle.message_report.specs.FormFaults.{Language}
 use Rattle.message_report.specs.Inner.NeededRules.{IsFoundInPartBy}
 use Rattle.message_report.specs.MessagesReport.{type_name}
+use Rattle.message_report.specs.SourceArguments.{source_name}
 use Rattle.message_report.proofs.EachFound.{on_ok}
 use Rattle.plural_documents.proofs.FoundLemmas.{two_added}
 use Rattle.message_report.proofs.document.add_parts.Goals as goal
@@ -21,9 +22,9 @@ returns c =
       (
         cardinal.0,
         added.0,
-        subst (λ (l : Option Language). IsFoundInPartBy l Cardinal c.args.locale.now (get (type_name Cardinal) value) cardinal.0)
+        subst (λ (l : Option Language). IsFoundInPartBy l (get source_name value) Cardinal c.args.locale.now (get (type_name Cardinal) value) cardinal.0)
             c.of.ensures cardinal.1,
-        subst (λ (l : Option Language). IsFoundInPartBy l Ordinal c.args.locale.now (get (type_name Ordinal) value) added.0)
+        subst (λ (l : Option Language). IsFoundInPartBy l (get source_name value) Ordinal c.args.locale.now (get (type_name Ordinal) value) added.0)
             c.of-2.ensures added.1,
         refl,
       ),

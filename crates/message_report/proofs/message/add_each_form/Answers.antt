@@ -10,7 +10,7 @@ use Rattle.message_report.proofs.message.add_each_form.Goals as goal
 
 pub loop-form-init : goal.loop-form-init
 loop-form-init c = (
-  each_begins (IsFoundInForm (language_lent c.args.language) (place_text c.args.place.now) (view c.args.message.now)) form_order
+  each_begins (IsFoundInForm (language_lent c.args.needs.language) c.args.needs.number (place_text c.args.place.now) (view c.args.message.now)) form_order
       c.args.found.now,
   refl,
 )
@@ -18,7 +18,7 @@ loop-form-init c = (
 pub loop-form-preserved : goal.loop-form-preserved
 loop-form-preserved c =
     let same = c.loop-form.invariant.1 in (
-      each_goes_on (IsFoundInForm (language_lent c.args.language) (place_text c.args.place.now) (view c.args.message.now)) form_order
+      each_goes_on (IsFoundInForm (language_lent c.args.needs.language) c.args.needs.number (place_text c.args.place.now) (view c.args.message.now)) form_order
           c.args.found.now c.loop-form.form-index ExplicitZero c.loop-form.found c.add_form.new.found c.loop-form-test.true
           c.loop-form.invariant.0 (rw same at c.in_ok-add_form.ensures.found),
       c.in_ok-add_form.ensures.place ∙ same,
@@ -26,6 +26,6 @@ loop-form-preserved c =
 
 pub returns-clause-found : goal.returns-clause-found
 returns-clause-found c =
-    each_ends (IsFoundInForm (language_lent c.args.language) (place_text c.args.place.now) (view c.args.message.now)) form_order
+    each_ends (IsFoundInForm (language_lent c.args.needs.language) c.args.needs.number (place_text c.args.place.now) (view c.args.message.now)) form_order
     (drop c.loop-form.form-index form_order) c.args.found.now c.loop-form.found
     (drop_all c.loop-form.form-index form_order c.loop-form-test.false) c.loop-form.invariant.0

@@ -3,7 +3,7 @@ use Rattle.std.specs.Prelude.{Option}
 use Rattle.serde_json.specs.Data.{Members}
 use Rattle.plural_documents.specs.Found.{one_fault, together}
 use Rattle.message_report.specs.MessagesReport.{part_place, place_line}
-use Rattle.message_report.specs.Inner.FormSteps.{language_lent}
+use Rattle.message_report.specs.Inner.FormSteps.{language_lent, value_lent}
 use Rattle.message_report.specs.Inner.NeededRules.{IsFoundInObjectBy}
 use Rattle.plural_documents.specs.PrintedKeys.{name_text}
 use Rattle.message_report.proofs.EachFound.{on_ok}
@@ -16,7 +16,7 @@ returns-in_ok-part_line-in-None c =
     (λ added. (
       found,
       subst (λ (members : Option Members).
-          IsFoundInObjectBy (language_lent c.args.language) c.args.rule_type c.args.locale.now members found)
+          IsFoundInObjectBy (language_lent c.args.language) (value_lent c.args.arguments) c.args.rule_type c.args.locale.now members found)
           c.in-None.ensures refl,
       added ∙ ap (λ (line : List ℕ). together c.args.found.now (one_fault line)) c.in_ok-part_line-in-None.ensures,
     ))

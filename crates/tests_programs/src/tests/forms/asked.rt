@@ -30,18 +30,20 @@ pub(crate) const LINES: &[u8] = b"1\n2";
 
 const MESSAGES: &str = r#"{"en-GB":{"cardinal":{"files":{"one":"a file","other":"{} files"}}}}"#;
 
-// A message with two wrong forms, and a pattern with two plurals, each with two wrong branches.
+// A message with two wrong forms, whose source has no number, another source that is no list, and a
+// pattern with two plurals, each with two wrong branches.
 const WRONG_MESSAGES: &str =
-    r#"{"en-GB":{"cardinal":{"files":{"one":"a","two":"b","few":"c","other":"{}"}},"patterns":{"sent":"{a,plural,one{}two{}few{}other{#}}{b,plural,one{}two{}few{}other{#}}"}}}"#;
+    r#"{"en-GB":{"cardinal":{"files":{"one":"a","two":"b","few":"c","other":"c"}},"patterns":{"sent":"{a,plural,one{}two{}few{}other{#}}{b,plural,one{}two{}few{}other{#}}"},"source":{"files":[],"sent":5}}}"#;
 
 // Each of its faults has a line.
-const WRONG_LINES: &str = "a.json: en-GB files two: no number is two
+const WRONG_LINES: &str = "a.json: en-GB source sent: no list of texts
+a.json: en-GB files two: no number is two
 a.json: en-GB files few: no number is few
 a.json: en-GB pattern sent {a} two: no number is two
 a.json: en-GB pattern sent {a} few: no number is few
 a.json: en-GB pattern sent {b} two: no number is two
 a.json: en-GB pattern sent {b} few: no number is few
-messages: 2, forms: 4, faults: 6, numbers tried: 0 to 9999
+messages: 2, forms: 4, faults: 7, numbers tried: 0 to 9999
 ";
 
 // The calls that write an answer.

@@ -10,7 +10,7 @@ returns c =
     on_ok c.add_forms.result
     (λ added. (
       together one_message added.0,
-      (added.0, added.1, refl),
+      (c.needs_number.result, added.0, c.needs_number.ensures, added.1, refl),
       two_added c.args.found.now one_message added.0 c.add_checked.new.self c.add_forms.new.found c.in_ok-add_checked.ensures added.2,
     ))
     c.add_forms.ensures

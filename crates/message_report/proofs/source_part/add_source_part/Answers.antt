@@ -1,0 +1,7 @@
+use Rattle.std.proofs.Common.{refl}
+use Rattle.plural_documents.specs.Found.{nothing_found}
+use Rattle.plural_documents.proofs.FoundLemmas.{none_added}
+use Rattle.message_report.proofs.source_part.add_source_part.Goals as goal
+
+pub returns-in-None : goal.returns-in-None
+returns-in-None c = (nothing_found, rw c.in-None.is refl, none_added c.args.found.now)
