@@ -82,8 +82,9 @@ def texts_of_plurals(plurals, key):
     return texts
 
 
-# A folder of resources: the network's country and operator, the language, and the rest, as values-mcc310-mnc004-de-rAT-land.
-FOLDER = re.compile(r"values((?:-mcc[0-9]{3})?(?:-mnc[0-9]{1,3})?)(?:-(?:b\+([A-Za-z0-9+]+)|([a-z]{2,3})(?:-r([A-Z]{2}|[0-9]{3}))?))?((?:-.*)?)")
+# A folder of resources: the network's country and operator, the language, and the rest, as values-mcc310-mnc004-de-rAT-land. `car` is a
+# device.
+FOLDER = re.compile(r"values((?:-mcc[0-9]{3})?(?:-mnc[0-9]{1,3})?)(?:-(?:b\+([A-Za-z0-9+]+)|(?!car\b)([a-z]{2,3})(?:-r([A-Z]{2}|[0-9]{3}))?))?((?:-.*)?)")
 
 
 def read_android(document, data, path):

@@ -91,7 +91,7 @@ def add_pattern(document, locale, key, text, place):
 
 def add_suffixed(document, locale, key, ordinal, texts, place):
     """Adds a message of i18next: a `_zero` is for 0 alone where the language has no zero of its own."""
-    if "other" not in texts:
+    if len(texts) == 1 and "other" not in texts:
         document.leave_out(f"{place}: note: it has {', '.join(texts)} without other, so it may be no plural: left out", is_fault=False)
         return
     forms = {name: unmarked(COUNT.sub(MARK, text_of(text, name))) for name, text in texts.items()}
