@@ -11,8 +11,6 @@ from .plural_forms import forms_of, frequent_of, indices_of, is_portugals
 
 # How many lines of a file that can't be read are told one by one, and how many numbers a line names.
 TOLD, NAMED = 5, 3
-
-
 ESCAPES = {"n": "\n", "t": "\t", "r": "\r", "a": "\a", "b": "\b", "f": "\f", "v": "\v", "\\": "\\", '"': '"'}
 STRING = r'"[^"\\]*(?:\\.[^"\\]*)*"'
 STRINGS = re.compile(STRING)
@@ -210,6 +208,8 @@ def texts_of_forms(entry, count):
     """Returns the texts by their indices, those that aren't empty."""
     if entry.fault or "msgid" not in entry.fields:
         raise Fault(entry.fault or "it has no msgid: write one")
+    if "msgstr" in entry.fields:
+        raise Fault("it has msgid_plural and a msgstr without an index: write msgstr[0] and so on")
     texts = {int(name[7:-1]): entry.text(name) for name in entry.fields if name.startswith("msgstr[")}
     more = [it for it in texts if it >= count]
     if more:

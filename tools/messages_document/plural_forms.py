@@ -11,6 +11,7 @@ from .rules import TRIED
 # The most forms that a file has.
 MOST = 100
 
+
 class Forms(NamedTuple):
     """What a Plural-Forms and the rules of a language tell.
 
