@@ -5,7 +5,7 @@ from xml.parsers import expat
 
 from .document import CATEGORIES
 from .files import text_of
-from .formats import arguments, is_same, marked, note_of, number_of, source_of
+from .formats import arguments, marked, note_of, number_of, of_source, source_of
 from .lines import Fault, shown
 
 def android_text(text, name):
@@ -84,7 +84,8 @@ def texts_of_plurals(plurals, key):
 
 # A folder of resources: the network's country and operator, the language, and the rest, as values-mcc310-mnc004-de-rAT-land. `car` is a
 # device.
-FOLDER = re.compile(r"values((?:-mcc[0-9]{3})?(?:-mnc[0-9]{1,3})?)(?:-(?:b\+([A-Za-z0-9+]+)|(?!car\b)([a-z]{2,3})(?:-r([A-Z]{2}|[0-9]{3}))?))?((?:-.*)?)")
+NETWORK, LANGUAGE = r"(?:-mcc[0-9]{3})?(?:-mnc[0-9]{1,3})?", r"b\+([A-Za-z0-9+]+)|(?!car\b)([a-z]{2,3})(?:-r([A-Z]{2}|[0-9]{3}))?"
+FOLDER = re.compile(rf"values({NETWORK})(?:-(?:{LANGUAGE}))?((?:-.*)?)")
 
 
 def read_android(document, data, path):
@@ -116,6 +117,5 @@ def add_plurals(document, plurals, locale, more, place):
     number = number_of(longest, found.get("one", longest))
     # The source isn't known: if no form has the number, it has none, either.
     source = None if number else source_of(longest, number)
-    known = {it.name: it for it in longest}
-    forms = {name: marked(it, [one for one in found[name] if one.name in known and is_same(one, known[one.name])], number) for name, it in texts.items()}
+    forms = {name: marked(it, of_source(found[name], longest), number) for name, it in texts.items()}
     document.add(locale, "cardinal", key, forms, place, source, note_of(longest, longest, number))

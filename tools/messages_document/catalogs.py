@@ -5,7 +5,7 @@ from typing import NamedTuple
 
 from .document import EXPLICIT
 from .files import decoded
-from .formats import FORMATS, arguments, is_broken, is_same, marked, note_of, number_of, source_of, unique, unmarked
+from .formats import FORMATS, arguments, is_broken, is_same, marked, note_of, number_of, of_source, source_of, unique, unmarked
 from .lines import Fault, say, shown
 from .plural_forms import forms_of, frequent_of, indices_of, is_portugals
 
@@ -259,9 +259,8 @@ def compared(document, entry, count, frequent, place, is_number_checked=False):
             wrong = mistakes(name, sources, text, found[index], number if is_number_checked else None, index in frequent)
             if wrong:
                 document.tell(f"{place}: msgstr[{index}] {' and '.join(wrong)}: write the arguments of msgid_plural")
-    known = {it.name: it for it in kept}
-    same = {index: [it for it in them if it.name in known and is_same(it, known[it.name])] for index, them in found.items()}
-    return Compared({index: marked(it, same[index], number) for index, it in texts.items()}, source_of(kept, number), note_of(sources[1], kept, number))
+    made = {index: marked(it, of_source(found[index], kept), number) for index, it in texts.items()}
+    return Compared(made, source_of(kept, number), note_of(sources[1], kept, number))
 
 
 def add_po(document, entry, forms, place):

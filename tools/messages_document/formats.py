@@ -115,6 +115,12 @@ def is_same(one, other):
     return one.name == other.name and (one.kind == other.kind or "" in (one.kind, other.kind) or one.name.startswith("{"))
 
 
+def of_source(found, source):
+    """Returns the arguments of a form that the source has too."""
+    known = {it.name: it for it in source}
+    return [it for it in found if it.name in known and is_same(it, known[it.name])]
+
+
 def is_broken(name, text):
     """Tells whether a % begins no directive."""
     return name in STRICT and "%" in FORMATS[name].sub("", text)
