@@ -5,7 +5,7 @@ from xml.parsers import expat
 
 from .document import CATEGORIES
 from .files import text_of
-from .formats import arguments, marked, note_of, number_of, of_source, source_of
+from .formats import Text, arguments, marked, note_of, number_of, of_source, source_of
 from .lines import Fault, shown
 
 def android_text(text, name):
@@ -113,9 +113,10 @@ def add_plurals(document, plurals, locale, more, place):
         document.leave_out(f"{place}: note: {shown(key)} refers to another resource: left out", is_fault=False)
         return
     found = {name: arguments("Android", it) for name, it in texts.items()}
-    longest = max((found[name] for name in reversed(CATEGORIES) if name in found), key=len, default=[])
-    number = number_of(longest, found.get("one", longest))
+    pairs = [Text(texts[name], found[name]) for name in reversed(CATEGORIES) if name in texts]
+    longest = max(pairs, key=lambda it: len(it.found), default=Text("", []))
+    number = number_of(longest, Text(texts["one"], found["one"]) if "one" in texts else longest)
     # The source isn't known: if no form has the number, it has none, either.
-    source = None if number else source_of(longest, number)
-    forms = {name: marked(it, of_source(found[name], longest), number) for name, it in texts.items()}
-    document.add(locale, "cardinal", key, forms, place, source, note_of(longest, longest, number))
+    source = None if number else source_of(longest.found, number)
+    forms = {name: marked(it, of_source(found[name], longest.found), number) for name, it in texts.items()}
+    document.add(locale, "cardinal", key, forms, place, source, note_of(longest.found, longest.found, number))

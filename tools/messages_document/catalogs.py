@@ -1,16 +1,19 @@
 """gettext's catalogs, .po."""
 import codecs
 import re
+from collections import Counter
 from typing import NamedTuple
 
 from .document import EXPLICIT
 from .files import decoded
-from .formats import FORMATS, arguments, is_broken, is_same, marked, note_of, number_of, of_source, source_of, unique, unmarked
+from .formats import FORMATS, Text, arguments, is_broken, is_same, marked, note_of, number_of, of_source, source_of, unique, unmarked
 from .lines import Fault, say, shown
-from .plural_forms import forms_of, frequent_of, indices_of, is_portugals
+from .plural_forms import forms_of, indices_of, is_portugals
 
 # How many lines of a file that can't be read are told one by one, and how many numbers a line names.
 TOLD, NAMED = 5, 3
+# A form of more integers than so many has to have each argument.
+MANY = 2
 ESCAPES = {"n": "\n", "t": "\t", "r": "\r", "a": "\a", "b": "\b", "f": "\f", "v": "\v", "\\": "\\", '"': '"'}
 STRING = r'"[^"\\]*(?:\\.[^"\\]*)*"'
 STRINGS = re.compile(STRING)
@@ -185,7 +188,7 @@ def read_messages(document, catalog, entries, path):
     except Fault as fault:
         document.leave_out_all(fault, len(entries))
         for it in entries if count else ():
-            document.attempt(compared, it, count, frequent_of(indices), place=f"{path}:{it.line}", left_out=0)
+            document.attempt(compare_alone, it, count, Counter(indices), place=f"{path}:{it.line}", left_out=0)
         return
     for it in entries:
         document.attempt(add_po, it, forms, place=f"{path}:{it.line}")
@@ -223,7 +226,7 @@ def shared(plural, found):
     return [it for it in plural if (it.name, it.name.startswith("{") or it.kind) in known]
 
 
-def mistakes(name, sources, text, found, number, is_frequent):
+def mistakes(name, sources, text, found, number, is_for_many):
     """Returns what is wrong with the arguments of a form: it has to have those of the source, but for the number, which is the rules' matter."""
     singular, plural = sources
     known = {it.name: it for it in (*singular, *plural)}
@@ -234,7 +237,7 @@ def mistakes(name, sources, text, found, number, is_frequent):
         elif not is_same(it, known[it.name]):
             wrong.append(f"has {it.text} where msgid_plural has {known[it.name].text}")
     present = {it.name for it in found}
-    return wrong + [f"lacks {it.text}" for it in unique(plural) if is_frequent and it.name != number and it.name not in present]
+    return wrong + [f"lacks {it.text}" for it in unique(plural) if is_for_many and it.name != number and it.name not in present]
 
 
 class Compared(NamedTuple):
@@ -245,7 +248,7 @@ class Compared(NamedTuple):
     note: str
 
 
-def compared(document, entry, count, frequent, place, is_number_checked=False):
+def compared(document, entry, count, times, place, is_number_checked=False):
     """Compares the arguments of an entry, and says what is wrong with them. A form needs the number, too, if it isn't checked by rules."""
     texts, name = texts_of_forms(entry, count), format_of(entry.flags)
     if name is None:
@@ -253,22 +256,30 @@ def compared(document, entry, count, frequent, place, is_number_checked=False):
     sources = [arguments(name, entry.text(it)) for it in ("msgid", "msgid_plural")]
     found = {index: arguments(name, it) for index, it in texts.items()}
     kept = sources[1] if name else shared(sources[1], found)
-    number = number_of(kept, sources[0])
+    number = number_of(Text(entry.text("msgid_plural"), kept), Text(entry.text("msgid"), sources[0]))
     if name and not any(is_broken(name, entry.text(it)) for it in ("msgid", "msgid_plural")):
         for index, text in sorted(texts.items()):
-            wrong = mistakes(name, sources, text, found[index], number if is_number_checked else None, index in frequent)
+            wrong = mistakes(name, sources, text, found[index], number if is_number_checked else None, times[index] > MANY)
             if wrong:
                 document.tell(f"{place}: msgstr[{index}] {' and '.join(wrong)}: write the arguments of msgid_plural")
     made = {index: marked(it, of_source(found[index], kept), number) for index, it in texts.items()}
     return Compared(made, source_of(kept, number), note_of(sources[1], kept, number))
 
 
+def tell_missing(document, indices, place):
+    if indices:
+        document.tell(f"{place}: msgstr[{min(indices)}] has no text: translate it")
+
+
+def compare_alone(document, entry, count, times, place):
+    """Tells what is wrong with an entry that isn't in the document."""
+    tell_missing(document, set(times) - set(compared(document, entry, count, times, place).texts), place)
+
+
 def add_po(document, entry, forms, place):
-    texts, source, note = compared(document, entry, forms.count, forms.frequent, place, is_number_checked=True)
+    texts, source, note = compared(document, entry, forms.count, forms.times, place, is_number_checked=True)
     # A text that is missing and is the form of a category is told by the rules.
-    lacking = set(range(forms.count)) - set(texts) - {index for it, index in forms.indices.items() if it not in EXPLICIT}
-    if lacking:
-        document.tell(f"{place}: msgstr[{min(lacking)}] has no text: translate it")
+    tell_missing(document, set(forms.times) - set(texts) - {index for it, index in forms.indices.items() if it not in EXPLICIT}, place)
     key = "|".join(entry.text(it) for it in ("msgctxt", "msgid") if it in entry.fields)
     document.add(forms.locale, "cardinal", key, by_name(texts, forms), place, source, note)
 

@@ -143,19 +143,44 @@ def unique(found):
     return list(first.values())
 
 
+class Text(NamedTuple):
+    """A text of the source, and its arguments."""
+
+    text: str
+    found: list
+
+
+def words_behind(text, found):
+    """Returns the word behind each argument, by its name; none where there is no word before the next argument."""
+    starts = [*(it.start for it in found[1:]), len(text)]
+    return {it.name: re.findall(r"\w+", re.sub("<[^<>]*>", " ", text[it.end : start][:100]))[:1] for it, start in zip(found, starts)}
+
+
+def number_of_integers(integers, plural, singular):
+    """Returns the name of the one of several integers that is the number, and none if it isn't clear which.
+
+    It is the only one that the singular lacks, or whose next word is another one there; if there are both, a number's name decides.
+    """
+    words, others = words_behind(*singular), words_behind(*plural)
+    lacking = [it for it in integers if it.name not in words]
+    changing = [it for it in integers if it.name in words and words[it.name] != others[it.name]]
+    named = [it for it in integers if is_numbers_name(it.name)]
+    choices = [named] if lacking and changing else [lacking, changing, named, integers[:1]]
+    return next((it[0].name for it in choices if len(it) == 1), None)
+
+
 def number_of(plural, singular):
     """Returns the name of the argument that is the number, and none if there is none or it isn't clear which."""
-    distinct, present = unique(plural), {it.name for it in singular}
+    distinct = unique(plural.found)
     integers = [it for it in distinct if it.is_integer]
-    if len(integers) < 2:
-        choices = [integers]
-    else:
-        choices = [[it for it in integers if it.name not in present], [it for it in integers if is_numbers_name(it.name)], integers[:1]]
-    if distinct and not integers:
-        untyped = [it for it in distinct if not it.kind]
-        # The last: one argument alone, by its place.
-        alone = distinct if untyped and re.fullmatch(r"\{?[0-9]+", distinct[0].name) else []
-        choices = [[it for it in distinct if is_numbers_name(it.name)], [it for it in untyped if it.name not in present], alone]
+    if not distinct or len(integers) == 1:
+        return integers[0].name if integers else None
+    if integers:
+        return number_of_integers(integers, plural, singular)
+    present, untyped = {it.name for it in singular.found}, [it for it in distinct if not it.kind]
+    # The last: one argument alone, by its place.
+    alone = distinct if untyped and re.fullmatch(r"\{?[0-9]+", distinct[0].name) else []
+    choices = [[it for it in distinct if is_numbers_name(it.name)], [it for it in untyped if it.name not in present], alone]
     return next((it[0].name for it in choices if len(it) == 1), None)
 
 

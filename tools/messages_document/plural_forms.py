@@ -15,15 +15,15 @@ MOST = 100
 class Forms(NamedTuple):
     """What a Plural-Forms and the rules of a language tell.
 
-    The index of each form that has integers, the categories without, which indices more than two integers have, and the integers for
-    which the two differ.
+    The index of each form that has integers, the categories without, how many integers have each index, and those for which the two
+    differ.
     """
 
     locale: str
     count: int
     indices: dict
     unused: list
-    frequent: set
+    times: Counter
     differing: list
 
 
@@ -42,11 +42,6 @@ def indices_of(text, place):
             why = "no index: it divides by 0" if index is None else f"the index {index}, and nplurals is {count}"
             raise Fault(f"{place}: Plural-Forms: {number} has {why}: correct it (plural_forms gettext LOCALE prints one)")
     return count, indices
-
-
-def frequent_of(indices):
-    """Returns the indices that more than two integers have."""
-    return {index for index, times in Counter(indices).items() if times > 2}
 
 
 def take_explicit(index_of, times, groups):
@@ -82,7 +77,7 @@ def forms_of(count, indices, names, categories, locale, place):
                         f"{index_of[first]} and {index_of[second]}: correct it (plural_forms gettext {locale} prints one)")
     found = {name: index_of[numbers[0]] for name, numbers in groups.items()}
     differing = {EXPLICIT.index(name) for name, index in explicit.items() if times[index] > 1} | differing_in(groups, found, index_of)
-    return Forms(locale, count, {**explicit, **found}, unused, frequent_of(indices), sorted(differing))
+    return Forms(locale, count, {**explicit, **found}, unused, times, sorted(differing))
 
 
 def differing_in(groups, found, index_of):
