@@ -1,6 +1,5 @@
 """The arguments of texts, by gettext's formats, and which of them is the number."""
 import re
-from collections import Counter
 from typing import NamedTuple
 
 from .lines import Fault
@@ -94,13 +93,14 @@ def argument_of(name, parts, places):
     if not (parts.get("conversion") or parts.get("macro")) or parts["conversion"] == "m":
         return "", ""
     own = parts.get("name") or parts["place"]
-    places["%"] += [(parts[it] or "")[:1] for it in ("width", "precision")].count("*") + (not own)
+    stars = [it for it in (parts["width"], parts["precision"]) if it and it[0] == "*"]
+    places["%"] += len(stars) + (not own)
     return own or str(places["%"]), kind_of(parts, name in ("python", "javascript", ""))
 
 
 def arguments(name, text):
     """Returns the arguments of a text in a format; more than MOST aren't read."""
-    found, places = [], Counter()
+    found, places = [], {"%": 0, "{": 0}
     for it in FORMATS[name].finditer(text) if "%" in text or "{" in text else ():
         own, kind = argument_of(name, it.groupdict(), places)
         if own:

@@ -27,4 +27,4 @@ def say(text):
 
 def printable(text):
     """Returns a text as one line that a terminal can show."""
-    return "".join(it if it.isprintable() else ascii(it)[1:-1] for it in text)
+    return text if text.isprintable() else "".join(it if it.isprintable() else ascii(it)[1:-1] for it in text)
