@@ -8,6 +8,7 @@ from .files import text_of
 from .formats import Text, arguments, marked, note_of, number_of, of_source, source_of
 from .lines import Fault, shown
 
+
 def android_text(text, name):
     """Returns the text that Android shows: quotes and escapes are read, other white space is one space."""
     found, is_quoted = [], False

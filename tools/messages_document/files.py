@@ -4,6 +4,7 @@ import re
 
 from .lines import Fault, shown
 
+
 def data_of_file(path):
     try:
         with open(path, "rb") as file:

@@ -6,6 +6,7 @@ from .files import Members, json_of_data, text_of
 from .formats import MARK, unmarked
 from .lines import shown
 
+
 def texts_of_json(document, value, path):
     """Returns the texts of an object and of the objects in it, by their keys joined by dots; ARB's notes (`@key`) are none."""
     found, waiting = {}, [("", value)]

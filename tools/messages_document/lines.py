@@ -1,6 +1,7 @@
 """Lines on standard error, and what is wrong with a file or a message."""
 import os
 
+
 class Fault(Exception):
     """What is wrong with a file or a message: where, why, and what to do."""
 
