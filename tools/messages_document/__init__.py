@@ -1,0 +1,1 @@
+"""What tools/messages-document is made of."""

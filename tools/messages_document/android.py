@@ -1,0 +1,123 @@
+"""Android's resources: files of `plurals`."""
+import os
+import re
+from xml.parsers import expat
+
+from .document import CATEGORIES
+from .files import text_of
+from .formats import Text, arguments, marked, note_of, number_of, of_source, source_of
+from .lines import Fault, shown
+
+
+def android_text(text, name):
+    """Returns the text that Android shows: quotes and escapes are read, other white space is one space."""
+    found, is_quoted = [], False
+    for part in re.findall(r'\\u[0-9A-Fa-f]{4}|\\.|"|\s+|[^\\"\s]+|\\', text.strip(), re.DOTALL):
+        if part == '"':
+            is_quoted = not is_quoted
+        elif part == "\\":
+            raise Fault(f"{name}: a \\ escapes nothing: write \\\\, or remove it")
+        elif len(part) == 6 and part.startswith("\\u"):
+            found.append(chr(int(part[2:], 16)))
+        elif part.startswith("\\"):
+            found.append({"n": "\n", "t": "\t"}.get(part[1], part[1]))
+        else:
+            found.append(" " if part.isspace() and not is_quoted else part)
+    return text_of("".join(found), name)
+
+
+class Plurals:
+    """A `plurals`: its line, its name, and its items as pairs of a tag or a quantity and a text in parts."""
+
+    def __init__(self, line, name):
+        self.line, self.name, self.items = line, name, []
+
+
+class Resources:
+    """Reads the plurals of an Android file. A file with a document type, and so with entities of its own, is refused."""
+
+    def __init__(self, data, path):
+        self.found, self.path, self.depth, self.root, self.current = [], path, 0, None, None
+        self.parser = expat.ParserCreate()
+        self.parser.buffer_text = True
+        self.parser.StartElementHandler, self.parser.EndElementHandler = self.start, self.end
+        self.parser.CharacterDataHandler, self.parser.StartDoctypeDeclHandler = self.put, self.refuse
+        try:
+            self.parser.Parse(data, True)
+        except expat.ExpatError as fault:
+            raise Fault(f"{path}:{fault.lineno}: it is no XML, {expat.ErrorString(fault.code)}: correct it there") from None
+        except (ValueError, LookupError) as fault:
+            raise Fault(f"{path}: it is no XML that is read: {fault}") from None
+
+    def refuse(self, *_):
+        raise Fault(f"{self.path}:{self.parser.CurrentLineNumber}: it has a document type, which isn't read: remove it")
+
+    def start(self, tag, attributes):
+        self.depth += 1
+        self.root = self.root or tag
+        if self.current is None and tag == "plurals":
+            self.current, self.inside = Plurals(self.parser.CurrentLineNumber, attributes.get("name")), self.depth
+        elif self.current is not None and self.depth == self.inside + 1:
+            self.current.items.append((tag, attributes.get("quantity"), []))
+
+    def end(self, _):
+        if self.current is not None and self.depth == self.inside:
+            self.found.append(self.current)
+            self.current = None
+        self.depth -= 1
+
+    def put(self, text):
+        if self.current is not None and self.current.items and self.depth > self.inside:
+            self.current.items[-1][2].append(text)
+
+
+def texts_of_plurals(plurals, key):
+    """Returns the texts of a plurals by category."""
+    texts = {}
+    for tag, name, parts in plurals.items:
+        if tag != "item" or name not in CATEGORIES:
+            raise Fault(f"{key}: it has the {tag} {name}, which is no form: write one of {', '.join(CATEGORIES)}")
+        if name in texts:
+            raise Fault(f"{key}: {name} stands twice: remove one of them")
+        texts[name] = android_text("".join(parts), f"{key}, {name}")
+    return texts
+
+
+# A folder of resources: the network's country and operator, the language, and the rest, as values-mcc310-mnc004-de-rAT-land. `car` is a
+# device.
+NETWORK, LANGUAGE = r"(?:-mcc[0-9]{3})?(?:-mnc[0-9]{1,3})?", r"b\+([A-Za-z0-9+]+)|(?!car\b)([a-z]{2,3})(?:-r([A-Z]{2}|[0-9]{3}))?"
+FOLDER = re.compile(rf"values({NETWORK})(?:-(?:{LANGUAGE}))?((?:-.*)?)")
+
+
+def read_android(document, data, path):
+    resources = Resources(data, path)
+    if resources.root != "resources":
+        return False
+    folder = FOLDER.fullmatch(os.path.basename(os.path.dirname(os.path.abspath(path))))
+    own = folder and "-".join(it for it in (folder[2] or folder[3], folder[4]) if it).replace("+", "-")
+    more = folder and (folder[1] + folder[5])[1:]
+    if not resources.found:
+        return True
+    locale = document.locale_or_none(own, path, len(resources.found))
+    for it in resources.found if locale else ():
+        document.attempt(add_plurals, it, locale, more, place=f"{path}:{it.line}")
+    return True
+
+
+def add_plurals(document, plurals, locale, more, place):
+    """Adds a message; what is for some devices or networks alone has their qualifiers in its key."""
+    if plurals.name is None:
+        raise Fault("a plurals has no name: give it one")
+    key = text_of(plurals.name, "name") + (f" ({more})" if more else "")
+    texts = texts_of_plurals(plurals, shown(key))
+    if any(re.match("[@?][^ ]*/", it) for it in texts.values()):
+        document.leave_out(f"{place}: note: {shown(key)} refers to another resource: left out", is_fault=False)
+        return
+    found = {name: arguments("Android", it) for name, it in texts.items()}
+    pairs = [Text(texts[name], found[name]) for name in reversed(CATEGORIES) if name in texts]
+    longest = max(pairs, key=lambda it: len(it.found), default=Text("", []))
+    number = number_of(longest, Text(texts["one"], found["one"]) if "one" in texts else longest)
+    # The source isn't known: if no form has the number, it has none, either.
+    source = None if number else source_of(longest.found, number)
+    forms = {name: marked(it, of_source(found[name], longest.found), number) for name, it in texts.items()}
+    document.add(locale, "cardinal", key, forms, place, source, note_of(longest.found, longest.found, number))

@@ -1,0 +1,31 @@
+"""Lines on standard error, and what is wrong with a file or a message."""
+import os
+
+
+class Fault(Exception):
+    """What is wrong with a file or a message: where, why, and what to do."""
+
+
+def shown(text):
+    """Returns a text in quotes, cut if it is long."""
+    return repr(text if len(text) <= 60 else text[:57] + "..")
+
+
+def write(handle, text):
+    """Writes all of a text, without a buffer: what is wrong is known when it returns."""
+    left = memoryview(text.encode("utf-8", errors="backslashreplace"))
+    while left:
+        left = left[os.write(handle, left) :]
+
+
+def say(text):
+    """Writes a line on standard error."""
+    try:
+        write(2, f"{printable(text)}\n")
+    except OSError:
+        pass  # the status says it
+
+
+def printable(text):
+    """Returns a text as one line that a terminal can show."""
+    return text if text.isprintable() else "".join(it if it.isprintable() else ascii(it)[1:-1] for it in text)
