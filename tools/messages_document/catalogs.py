@@ -8,7 +8,7 @@ from .document import EXPLICIT
 from .files import decoded
 from .formats import FORMATS, Text, arguments, is_broken, is_same, marked, note_of, number_of, of_source, source_of, unique, unmarked
 from .lines import Fault, say, shown
-from .plural_forms import forms_of, indices_of, is_portugals
+from .plural_forms import MOST, forms_of, indices_of, is_portugals
 
 # How many lines of a file that can't be read are told one by one, and how many numbers a line names.
 TOLD, NAMED = 5, 3
@@ -187,7 +187,7 @@ def read_messages(document, catalog, entries, path):
         forms = forms_of_po(document, header, path, count, indices)
     except Fault as fault:
         document.leave_out_all(fault, len(entries))
-        for it in entries if count else ():
+        for it in entries:
             document.attempt(compare_alone, it, count, Counter(indices), place=f"{path}:{it.line}", left_out=0)
         return
     for it in entries:
@@ -272,8 +272,10 @@ def tell_missing(document, indices, place):
 
 
 def compare_alone(document, entry, count, times, place):
-    """Tells what is wrong with an entry that isn't in the document."""
-    tell_missing(document, set(times) - set(compared(document, entry, count, times, place).texts), place)
+    """Tells what is wrong with an entry that isn't in the document. Without a Plural-Forms, the first form is taken as that of 1."""
+    known = times or Counter({index: MANY + 1 for index in range(1, MOST)})
+    texts = compared(document, entry, count or MOST, known, place).texts
+    tell_missing(document, set(times) - set(texts), place)
 
 
 def add_po(document, entry, forms, place):
