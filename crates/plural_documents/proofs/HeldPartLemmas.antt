@@ -157,30 +157,6 @@ module _ (test : List ℕ → Bool) where
       ap (part_held test 0 true) (held_value j ∙ sym (none_after (held_tokens j)))
       ∙ of_value j [] ∙ none_after (held_tokens (json_part test j))
 
-  -- ---- One token after another
-
-  -- what is held so far comes before what is held of the rest, with one token more
-  pub one_more_held : (so_far after : List HeldToken) (token : HeldToken) (t : Token) (ts reader : List Token) (n m : ℕ) (b c : Bool) (all : List Held)
-      → reader ≡ t ∷ ts → held_token token ≡ held_of t → m ≡ opened_after n (held_of t)
-      → c ≡ is_held_after test (n == 1) (held_token token) b → after ≡ (if c then so_far ++ token ∷ [] else so_far)
-      → all ≡ map held_token so_far ++ part_held test n b (map held_of reader)
-      → all ≡ map held_token after ++ part_held test m c (map held_of ts)
-  one_more_held so_far after token t ts reader n m b c all reads is opened keeps adds held =
-      let same : c ≡ is_held_after test (n == 1) (held_of t) b = keeps ∙ ap (λ u. is_held_after test (n == 1) u b) is in
-      held
-      ∙ ap (λ us. map held_token so_far ++ part_held test n b (map held_of us)) reads
-      ∙ ap (λ d. map held_token so_far ++ with_held d (held_of t) (part_held test (opened_after n (held_of t)) d (map held_of ts))) (sym same)
-      ∙ by c (part_held test (opened_after n (held_of t)) c (map held_of ts))
-      ∙ ap (λ us. map held_token us ++ part_held test (opened_after n (held_of t)) c (map held_of ts)) (sym adds)
-      ∙ ap (λ k. map held_token after ++ part_held test k c (map held_of ts)) (sym opened)
-    where
-      by : (d : Bool) (rest : List Held) → map held_token so_far ++ with_held d (held_of t) rest
-          ≡ map held_token (if d then so_far ++ token ∷ [] else so_far) ++ rest
-      by true rest =
-          ap (λ u. map held_token so_far ++ u ∷ rest) (sym is)
-          ∙ sym (ap (λ us. us ++ rest) (map-append held_token so_far (token ∷ [])) ∙ joined (map held_token so_far) (held_token token ∷ []) rest)
-      by false rest = refl
-
   -- nothing is left
   pub all_held : (initial reader : List Token) (so_far : List Held) (n : ℕ) (b : Bool) → reader ≡ []
       → part_held test 0 true (map held_of initial) ≡ so_far ++ part_held test n b (map held_of reader)
@@ -188,14 +164,3 @@ module _ (test : List ℕ → Bool) where
   all_held initial reader so_far n b none held value is =
       sym (held ∙ ap (λ us. so_far ++ part_held test n b (map held_of us)) none ∙ none_after so_far)
       ∙ ap (λ us. part_held test 0 true (map held_of us)) is ∙ part_of_value value
-
--- a token more that fits
-pub all_fit : (t : Token) (ts reader initial : List Token) → reader ≡ t ∷ ts → fits t ≡ true → list_all fits initial ≡ list_all fits reader
-    → list_all fits initial ≡ list_all fits ts
-all_fit t ts reader initial reads fit all = all ∙ ap (list_all fits) reads ∙ rw fit refl
-
--- or doesn't
-pub none_fit : (t : Token) (ts reader initial : List Token) → reader ≡ t ∷ ts → fits t ≡ false → list_all fits initial ≡ list_all fits reader
-    → list_all fits initial ≡ true → ⊥
-none_fit t ts reader initial reads fit all is =
-    let never : list_all fits initial ≡ false = all ∙ ap (list_all fits) reads ∙ rw fit refl in true≢false (sym is ∙ never)

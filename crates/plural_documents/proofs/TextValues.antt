@@ -86,9 +86,6 @@ not_held : {A : Type 0} (o : Option A) → is_some o ≡ false → o ≡ None
 not_held None some = refl
 not_held (Some x) some = absurd (true≢false some)
 
-abbrev document : List ℕ → Option Json
-document text = option_and_then (λ p. if_last p.0 p.1) (value max_depth (tokens text))
-
 -- the tokens of a value, and what is held of them
 there : (text : List ℕ) (test : List ℕ → Bool) (ts : List Held) → AreHeld test (tokens text) ts
     → (j : Json) × (whole : Data) × (ts ≡ held_tokens (json_part test j)) × (of_json j ≡ Some whole) × (read text ≡ Some whole)

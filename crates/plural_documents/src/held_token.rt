@@ -12,15 +12,15 @@ use serde_json::Number;
 // A token of a text, and of a number in place of its text the number that this writes.
 #[derive(Clone, Copy, Drop)]
 pub(crate) enum HeldToken<'a> {
-    BeginObject,
-    EndObject,
+    Null,
+    Bool(bool),
+    Number(Number),
+    String(&'a str),
     BeginArray,
     EndArray,
+    BeginObject,
     Key(&'a str),
-    String(&'a str),
-    Number(Number),
-    Bool(bool),
-    Null,
+    EndObject,
 }
 
 impl<'a> HeldToken<'a> {
