@@ -24,7 +24,7 @@ absorbed false q follows = refl
 
 second_so : (x p : Bool) → (x && p) ≡ true → p ≡ true
 second_so true p both = both
-second_so false p both = absurd (cc)
+second_so false p both = let never : false ≡ true = both in absurd (cc)
 
 or_true : (p q : Bool) → p ≡ true → (p || q) ≡ true
 or_true p q is = rw is refl
@@ -62,11 +62,11 @@ module _ (a b : ℕ) where
 
   -- a name that is the same with one byte more is so without its first byte
   longer_so : (ones others : List ℕ) → is_same ones (b ∷ others) ≡ true → is_one_longer ones others ≡ true
-  longer_so [] others same = absurd (cc)
+  longer_so [] others same = let never : false ≡ true = same in absurd (cc)
   longer_so (one ∷ ones) others same = or_true (is_same ones others) _ (second_so (alike one b) (is_same ones others) same)
 
   shorter_so : (ones others : List ℕ) → is_same (a ∷ ones) others ≡ true → is_one_shorter ones others ≡ true
-  shorter_so ones [] same = absurd (cc)
+  shorter_so ones [] same = let never : false ≡ true = same in absurd (cc)
   shorter_so ones (other ∷ others) same = or_true (is_same ones others) _ (second_so (alike a other) (is_same ones others) same)
 
   -- the same first byte is passed over
@@ -128,12 +128,12 @@ none_begins byte (left ∷ lefts) = none_begins byte lefts
 pub one_left : (ones : List ℕ) → is_one_edit ones [] ≡ (length ones == 1)
 one_left [] = refl
 one_left (one ∷ []) = refl
-one_left (one ∷ next ∷ ones) = rw (none_ends one (without_one (next ∷ ones))) refl
+one_left (one ∷ next ∷ ones) = ap (λ (r : Bool). r || false || false) (none_ends one (without_one (next ∷ ones)))
 
 pub one_more : (others : List ℕ) → is_one_edit [] others ≡ (length others == 1)
 one_more [] = refl
 one_more (other ∷ []) = refl
-one_more (other ∷ next ∷ others) = rw (none_begins other (without_one (next ∷ others))) refl
+one_more (other ∷ next ∷ others) = ap (λ (r : Bool). r || false) (none_begins other (without_one (next ∷ others)))
 
 -- ---- The first three of a list
 

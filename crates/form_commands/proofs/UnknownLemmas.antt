@@ -1,12 +1,12 @@
 -- Languages that are unknown, by an outline and by the whole document.
 use Rattle.std.proofs.Common.{◌≡◌, ℕ, List, Bool, true, false, Option, Some, None, Result, Ok, Err, inl, inr, refl, sym, ap, subst, ◌∙◌}
-use Rattle.std.specs.Prelude.{codes, option_and_then, unwrap_or}
+use Rattle.std.specs.Prelude.{MatchBool, option_and_then, unwrap_or}
 use Rattle.plural_documents.specs.Inputs.{json_of}
 use Rattle.plural_documents.specs.Outlines.{GivesOutline, outline, outline_members}
 use Rattle.plural_documents.specs.declared.Portion.TheVariants as kept
 use Rattle.plural_fallback.specs.LocaleNames.{language}
 use Rattle.plural_fallback.specs.LocalesJson.{keys_in_object, keys_of, keys_under, part_name}
-use Rattle.plural_fallback.specs.declared.error.FallbackError.{FallbackError}
+use Rattle.plural_fallback.specs.UnknownLanguages.{is_unknown}
 use Rattle.plural_fallback.specs.declared.locales.Part.{Part}
 use Rattle.serde_json.specs.Data.{Data, null, boolean, number, string, array, object, Members, no_members, member}
 use Rattle.serde_json.specs.Find.{as_object, get}
@@ -14,7 +14,7 @@ use Rattle.serde_json.specs.View.{view}
 use Rattle.serde_json.specs.declared.Value.{Value}
 use Rattle.form_commands.specs.Inner.RulesOutline.{IsServedBy, keeps}
 use Rattle.form_commands.specs.Inner.RunSteps.{GivesRulesIn, GivesUnknown}
-use Rattle.form_commands.specs.Languages.{IsKnown, IsUnknown, unknown_error}
+use Rattle.form_commands.specs.Languages.{IsKeyOf, IsKnown, IsUnknown, unknown_error}
 use Rattle.form_commands.specs.SimilarKeys.{similar_keys}
 use Rattle.form_commands.specs.declared.error.FormsError.{FormsError}
 use Rattle.form_commands.specs.declared.error.FormsError.TheVariants.{Language}
@@ -23,6 +23,13 @@ use Rattle.form_commands.specs.declared.error.LanguageError.TheVariants.{Unknown
 use Rattle.form_commands.specs.declared.outline.KeptLocales.TheVariants.{All}
 use Rattle.form_commands.specs.declared.outline.RulesSieve.TheVariants.{Document, Keys}
 use Rattle.form_commands.proofs.OutlineFound.{part_found, part_named, part_of}
+
+-- ---- The first key
+
+pub told : (document : Data) (part : Part) (locale key : List ℕ) (unknown : Bool) → IsKeyOf document part locale key
+    → unknown ≡ is_unknown locale key → MatchBool unknown (IsUnknown document part locale) (IsKnown document part locale)
+told document part locale key true first is = (key, first, sym is)
+told document part locale key false first is = inl (key, first, sym is)
 
 -- ---- All keys of a part
 

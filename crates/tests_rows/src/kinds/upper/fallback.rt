@@ -4,9 +4,7 @@ use crate::call::Call;
 use crate::kinds::five_rules::print_rules;
 use crate::kinds::locales::{next_provider, next_type};
 use plural_base::PluralRuleType;
-use plural_fallback::{
-    FallbackProvider, MOST_LOCALES, Part, find_first, is_unknown, next_locale,
-};
+use plural_fallback::{FallbackProvider, MOST_LOCALES, Part, find_first, is_unknown, next_locale};
 use serde_json::Value;
 
 /// Makes the call of a kind of this file. Returns whether there is such a kind.

@@ -1,0 +1,3 @@
+use Rattle.std.proofs.Common.{◌∙◌, sym}
+use Rattle.form_commands.proofs.SimilarLemmas.{one_left, one_more, passed, told}
+use Rattle.form_commands.proofs.similar_keys.is_one_edit.Goals as goal
