@@ -55,7 +55,7 @@ impl fmt::Display for LanguageError {
             }
             LanguageError::Unknown(part, locale, similar) => write!(
                 f,
-                "{} {}: unknown language{}",
+                "{} {}: no rules but those of root{}",
                 part.as_str(),
                 locale.as_str(),
                 *similar
