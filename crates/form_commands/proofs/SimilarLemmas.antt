@@ -6,7 +6,7 @@ use Rattle.std.proofs.Math.Bool.{and-false, and-true, or-false}
 use Rattle.plural_fallback.specs.LocaleNames.{folded, is_same}
 use Rattle.plural_fallback.specs.LocalesJson.{keys_of}
 use Rattle.serde_json.specs.Data.{Members, no_members, member}
-use Rattle.form_commands.specs.Inner.SimilarSteps.{is_like, names_of}
+use Rattle.form_commands.specs.Inner.SimilarSteps.{is_like, names_of, told_in}
 use Rattle.form_commands.specs.SimilarKeys.{first_three, is_one_edit, is_one_longer, is_one_replaced, is_one_shorter, without_one}
 use Rattle.form_commands.specs.declared.similar_keys.Likeness.{Likeness}
 use Rattle.form_commands.specs.declared.similar_keys.SimilarKeys.{SimilarKeys}
@@ -158,10 +158,7 @@ one_added (One first) key more = refl
 one_added (Two first second) key more = refl
 one_added (Three first second third) key more = refl
 
--- what is told in the end, if these keys are left
-abbrev pub told_in : Likeness → List ℕ → SimilarKeys → List (List ℕ) → SimilarKeys
-told_in likeness language similar keys = first_three (names_of similar ++ filter (is_like likeness language) keys)
-
+-- a key that is like the language is told, and another one isn't
 pub like_told : (likeness : Likeness) (language : List ℕ) (now next : SimilarKeys) (key : List ℕ) (keys : List (List ℕ))
     → is_like likeness language key ≡ true → next ≡ first_three (names_of now ++ key ∷ [])
     → told_in likeness language now (key ∷ keys) ≡ told_in likeness language next keys

@@ -1,7 +1,7 @@
 //! The keys that are similar to an unknown language.
 
-ghost use Rattle.std.specs.Prelude.{◌≡◌, ◌++◌, ◌∷◌, [], IfOk, filter, take};
-ghost use Rattle.form_commands.specs.Inner.SimilarSteps.{is_like, names_of};
+ghost use Rattle.std.specs.Prelude.{◌≡◌, ◌++◌, ◌∷◌, [], IfOk, List, take, ℕ};
+ghost use Rattle.form_commands.specs.Inner.SimilarSteps.{is_like, names_of, told_in};
 ghost use Rattle.form_commands.specs.SimilarKeys.{begins_alike, first_three, is_one_edit, is_only_alike, similar_keys};
 ghost use Rattle.plural_fallback.specs.LocalesJson.{keys_of};
 ghost use Rattle.serde_json.specs.View.{members_view};
@@ -103,16 +103,31 @@ fn add_like(
     members: &Map<String, Value>,
     before: SimilarKeys,
 ) -> Result<SimilarKeys, AllocError>
-    ensures { IfOk result (λ similar. similar ≡ first_three (names_of before
-        ++ filter (is_like likeness language.now) (keys_of (members_view members.now.entries)))) }
+    ensures { IfOk result (λ similar. similar ≡ told_in likeness language.now before (keys_of (members_view members.now.entries))) }
 {
     let mut similar = before;
     for (key, _) in members.iter() {
-        if is_like(likeness, language, key.as_str().as_bytes()) {
-            similar = similar.with_key(alloc, key.as_str())?;
-        }
+        similar = add_key(alloc, likeness, language, key.as_str(), similar)?;
     }
     Ok(similar)
+}
+
+// Returns some keys, and behind them a further one, if it is like a language.
+fn add_key(
+    alloc: Global,
+    likeness: Likeness,
+    language: &[u8],
+    key: &str,
+    before: SimilarKeys,
+) -> Result<SimilarKeys, AllocError>
+    ensures { IfOk result (λ similar. (more : List (List ℕ))
+        → told_in likeness language.now before (key.now ∷ more) ≡ told_in likeness language.now similar more) }
+{
+    if is_like(likeness, language, key.as_bytes()) {
+        before.with_key(alloc, key)
+    } else {
+        Ok(before)
+    }
 }
 
 // Returns whether a key is like a language in this way.

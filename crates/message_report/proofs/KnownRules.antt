@@ -20,7 +20,7 @@ module _ (source : RulesSource) (type : PluralRuleType) (locale : List ℕ) wher
       by : (b : Bool) → is_unknown locale key ≡ b → HasRules source type locale given
       by true unknown =
           subst (HasRules source type locale) (sym (is ∙ ap (λ (b : Bool). if b then None else Some rules) unknown))
-          (NotLoaded, key, first, ap (λ (b : Bool). if b then None else source.under type key) unknown)
+          (NotLoaded, (key, first, ap (λ (b : Bool). if b then None else source.under type key) unknown))
       by false known =
           subst (HasRules source type locale) (sym (is ∙ ap (λ (b : Bool). if b then None else Some rules) known))
           (key, first, ap (λ (b : Bool). if b then None else source.under type key) known ∙ has)
@@ -38,4 +38,4 @@ module _ (source : RulesSource) (type : PluralRuleType) (locale : List ℕ) wher
       → HasRules source type locale None
   no_rules NotFound none = (NotFound, none)
   no_rules LongChain none = (LongChain, none)
-  no_rules NotLoaded none = (NotLoaded, none.0, none.1, none_under none.0 none.2)
+  no_rules NotLoaded none = (NotLoaded, (none.0, none.1, none_under none.0 none.2))

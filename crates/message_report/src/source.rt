@@ -46,7 +46,7 @@ impl<'a, P: PluralsProvider, L: Locales> RulesOfLocales for FallbackProvider<'a,
 
 // Returns what was loaded for a locale, unless its language is unknown.
 fn known<'a>(locale: &str, loaded: Loaded<'a, PluralRulesData<'a>>) -> Option<PluralRulesData<'a>>
-    ensures { option_map rules_of result ≡ (if is_unknown locale.now loaded.key.now then None else Some (rules_of loaded.value)) }
+    ensures { option_map rules_of result ≡ (if is_unknown locale.now loaded.entry.key.now then None else Some (rules_of loaded.entry.value)) }
 {
     if is_unknown(locale, loaded.key) {
         return None;

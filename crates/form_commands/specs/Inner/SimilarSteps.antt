@@ -1,6 +1,6 @@
 -- Not a definition of the subject: similar keys as a list, and how a key is like a language.
-use Rattle.std.specs.Prelude.{ℕ, List, [], ◌∷◌, Bool}
-use Rattle.form_commands.specs.SimilarKeys.{is_one_edit, is_only_alike}
+use Rattle.std.specs.Prelude.{ℕ, List, [], ◌∷◌, ◌++◌, Bool, filter}
+use Rattle.form_commands.specs.SimilarKeys.{first_three, is_one_edit, is_only_alike}
 use Rattle.form_commands.specs.declared.similar_keys.Likeness.{Likeness}
 use Rattle.form_commands.specs.declared.similar_keys.Likeness.TheVariants.{OneEdit, Beginning}
 use Rattle.form_commands.specs.declared.similar_keys.SimilarKeys.{SimilarKeys}
@@ -17,3 +17,7 @@ names_of (Three first second third) = first ∷ second ∷ third ∷ []
 abbrev pub is_like : Likeness → List ℕ → List ℕ → Bool
 is_like OneEdit language key = is_one_edit language key
 is_like Beginning language key = is_only_alike language key
+
+-- the first three of some keys and of those of a list that are like a language
+abbrev pub told_in : Likeness → List ℕ → SimilarKeys → List (List ℕ) → SimilarKeys
+told_in likeness language before keys = first_three (names_of before ++ filter (is_like likeness language) keys)

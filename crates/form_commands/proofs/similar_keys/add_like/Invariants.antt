@@ -1,7 +1,7 @@
 use Rattle.std.proofs.Common.{◌≡◌}
 use Rattle.serde_json.specs.View.{members_view}
 use Rattle.plural_fallback.specs.LocalesJson.{keys_of}
-use Rattle.form_commands.proofs.SimilarLemmas.{told_in}
+use Rattle.form_commands.specs.Inner.SimilarSteps.{told_in}
 use Rattle.form_commands.proofs.similar_keys.add_like.Given as goal
 
 -- the keys that are left complete those so far
