@@ -1,8 +1,9 @@
 -- Keys that are similar to a language.
-use Rattle.std.proofs.Common.{◌≡◌, ℕ, List, [], ◌∷◌, ◌++◌, Bool, true, false, length, map, refl, sym, ap, ◌∙◌}
+use Rattle.std.proofs.Common.{◌≡◌, ℕ, suc, ◌-◌, ◌<◌, ◌≤◌, List, [], ◌∷◌, ◌++◌, Bool, true, false, get_or, length, map, take, take_all, drop, refl, sym, ap, ◌∙◌, arith}
 use Rattle.std.specs.Prelude.{◌==◌, ◌&&◌, ◌||◌, filter, if◌then◌else◌}
 use Rattle.std.specs.List.{list_any}
 use Rattle.std.proofs.Math.Bool.{and-false, and-true, or-false}
+use Rattle.std.proofs.Math.Dec.{eqb, eqb-suc-suc, eqb-suc-zero}
 use Rattle.plural_fallback.specs.LocaleNames.{folded, is_same}
 use Rattle.plural_fallback.specs.LocalesJson.{keys_of}
 use Rattle.serde_json.specs.Data.{Members, no_members, member}
@@ -107,10 +108,10 @@ module _ (a b : ℕ) where
       replaced = ap (λ (x : Bool). if x then is_one_replaced ones others else is_same ones others) differs
 
   -- two first bytes as names of one byte
-  pub passed : (ones others : List ℕ) → is_same (a ∷ []) (b ∷ []) ≡ true → is_one_edit (a ∷ ones) (b ∷ others) ≡ is_one_edit ones others
+  passed : (ones others : List ℕ) → is_same (a ∷ []) (b ∷ []) ≡ true → is_one_edit (a ∷ ones) (b ∷ others) ≡ is_one_edit ones others
   passed ones others same = same_byte ones others (sym (and-true (alike a b)) ∙ same)
 
-  pub told : (ones others : List ℕ) → is_same (a ∷ []) (b ∷ []) ≡ false
+  told : (ones others : List ℕ) → is_same (a ∷ []) (b ∷ []) ≡ false
       → is_one_edit (a ∷ ones) (b ∷ others) ≡ (is_same ones (b ∷ others) || is_same (a ∷ ones) others || is_same ones others)
   told ones others differs = other_byte ones others (sym (and-true (alike a b)) ∙ differs)
 
@@ -124,16 +125,57 @@ none_begins : (byte : ℕ) (lefts : List (List ℕ)) → list_any (λ left. is_s
 none_begins byte [] = refl
 none_begins byte (left ∷ lefts) = none_begins byte lefts
 
+not_one : (n : ℕ) → eqb (suc (suc n)) 1 ≡ false
+not_one n = eqb-suc-suc (suc n) 0 ∙ eqb-suc-zero n
+
 -- one byte is left
-pub one_left : (ones : List ℕ) → is_one_edit ones [] ≡ (length ones == 1)
+one_left : (ones : List ℕ) → is_one_edit ones [] ≡ eqb (length ones) 1
 one_left [] = refl
 one_left (one ∷ []) = refl
-one_left (one ∷ next ∷ ones) = ap (λ (r : Bool). r || false || false) (none_ends one (without_one (next ∷ ones)))
+one_left (one ∷ next ∷ ones) =
+    ap (λ (r : Bool). r || false || false) (none_ends one (without_one (next ∷ ones))) ∙ sym (not_one (length ones))
 
-pub one_more : (others : List ℕ) → is_one_edit [] others ≡ (length others == 1)
+one_more : (others : List ℕ) → is_one_edit [] others ≡ eqb (length others) 1
 one_more [] = refl
 one_more (other ∷ []) = refl
-one_more (other ∷ next ∷ others) = ap (λ (r : Bool). r || false) (none_begins other (without_one (next ∷ others)))
+one_more (other ∷ next ∷ others) =
+    ap (λ (r : Bool). r || false) (none_begins other (without_one (next ∷ others))) ∙ sym (not_one (length others))
+
+pub ended_at : (ones others : List ℕ) → length others < 1 → is_one_edit ones others ≡ eqb (length ones) 1
+ended_at ones [] none = one_left ones
+ended_at ones (other ∷ others) none = absurd (omega (arith, none))
+
+pub begun_at : (ones others : List ℕ) → length ones < 1 → is_one_edit ones others ≡ eqb (length others) 1
+begun_at [] others none = one_more others
+begun_at (one ∷ ones) others none = absurd (omega (arith, none))
+
+-- ---- The first bytes, and what is behind them
+
+headed : (bytes : List ℕ) → 1 ≤ length bytes → bytes ≡ get_or bytes 0 0 ∷ take (length bytes - 1) (drop 1 bytes)
+headed [] some = absurd (omega (arith, some))
+headed (byte ∷ bytes) some =
+    ap (λ (l : List ℕ). byte ∷ l) (sym (take_all (length (byte ∷ bytes) - 1) bytes (omega arith)))
+
+module _ (ones others : List ℕ) (some : 1 ≤ length ones) (more : 1 ≤ length others) where
+  abbrev rest : List ℕ
+  rest = take (length ones - 1) (drop 1 ones)
+
+  abbrev after : List ℕ
+  after = take (length others - 1) (drop 1 others)
+
+  split : is_one_edit ones others ≡ is_one_edit (get_or ones 0 0 ∷ rest) (get_or others 0 0 ∷ after)
+  split = ap (λ (l : List ℕ). is_one_edit l others) (headed ones some)
+      ∙ ap (λ (l : List ℕ). is_one_edit (get_or ones 0 0 ∷ rest) l) (headed others more)
+
+  pub passed_at : is_same (get_or ones 0 0 ∷ []) (get_or others 0 0 ∷ []) ≡ true → is_one_edit ones others ≡ is_one_edit rest after
+  passed_at same = split ∙ passed (get_or ones 0 0) (get_or others 0 0) rest after same
+
+  pub told_at : is_same (get_or ones 0 0 ∷ []) (get_or others 0 0 ∷ []) ≡ false
+      → is_one_edit ones others ≡ (is_same rest others || is_same ones after || is_same rest after)
+  told_at differs =
+      split ∙ told (get_or ones 0 0) (get_or others 0 0) rest after differs
+      ∙ ap (λ (l : List ℕ). is_same rest l || is_same (get_or ones 0 0 ∷ rest) after || is_same rest after) (sym (headed others more))
+      ∙ ap (λ (l : List ℕ). is_same rest others || is_same l after || is_same rest after) (sym (headed ones some))
 
 -- ---- The first three of a list
 

@@ -1,5 +1,5 @@
 -- Languages that are unknown, by an outline and by the whole document.
-use Rattle.std.proofs.Common.{◌≡◌, ℕ, List, Bool, true, false, Option, Some, None, Result, Ok, Err, inl, inr, refl, sym, ap, subst, ◌∙◌}
+use Rattle.std.proofs.Common.{◌≡◌, ℕ, List, ◌∷◌, Bool, true, false, Option, Some, None, Result, Ok, Err, inl, inr, refl, sym, ap, subst, ◌∙◌}
 use Rattle.std.specs.Prelude.{MatchBool, option_and_then, unwrap_or}
 use Rattle.plural_documents.specs.Inputs.{json_of}
 use Rattle.plural_documents.specs.Outlines.{GivesOutline, outline, outline_members}

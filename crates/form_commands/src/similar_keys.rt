@@ -1,8 +1,9 @@
 //! The keys that are similar to an unknown language.
 
-ghost use Rattle.std.specs.Prelude.{◌≡◌, ◌++◌, ◌∷◌, [], IfOk, List, take, ℕ};
+ghost use Rattle.std.specs.Prelude.{◌≡◌, ◌||◌, ◌++◌, ◌∷◌, [], IfOk, List, take, ℕ};
 ghost use Rattle.form_commands.specs.Inner.SimilarSteps.{is_like, names_of, told_in};
 ghost use Rattle.form_commands.specs.SimilarKeys.{begins_alike, first_three, is_one_edit, is_only_alike, similar_keys};
+ghost use Rattle.plural_fallback.specs.LocaleNames.{is_same};
 ghost use Rattle.plural_fallback.specs.LocalesJson.{keys_of};
 ghost use Rattle.serde_json.specs.View.{members_view};
 
@@ -170,10 +171,18 @@ fn is_one_edit(one: &[u8], other: &[u8]) -> bool
             return ones.len() == 1;
         };
         if !is_same(&[*first], &[*second]) {
-            return is_same(rest, others) || is_same(ones, after) || is_same(rest, after);
+            return is_edited_here(ones, rest, others, after);
         }
         ones = rest;
         others = after;
     }
     others.len() == 1
+}
+
+// Returns whether a byte less on a side, or another one, makes two names the same, of which this is
+// the rest behind their first bytes.
+fn is_edited_here(ones: &[u8], rest: &[u8], others: &[u8], after: &[u8]) -> bool
+    ensures { result ≡ (is_same rest.now others.now || is_same ones.now after.now || is_same rest.now after.now) }
+{
+    is_same(rest, others) || is_same(ones, after) || is_same(rest, after)
 }
