@@ -16,7 +16,8 @@ use Rattle.form_commands.specs.declared.error.Verdict.TheVariants.{Complete, Fau
 -- similar: ru`
 abbrev pub language_error_text : LanguageError → List ℕ
 language_error_text (NotFound part locale reason) = part_name part ++ codes " " ++ locale ++ codes ": " ++ fallback_error_text reason
-language_error_text (Unknown part locale similar) = part_name part ++ codes " " ++ locale ++ codes ": no rules but those of root" ++ similar_text similar
+language_error_text (Unknown part locale similar) =
+    part_name part ++ (codes " " ++ (locale ++ (codes ": no rules but those of root" ++ similar_text similar)))
 language_error_text (Refused part key reason) = part_name part ++ codes " " ++ key ++ codes ": " ++ json_error_text reason
 
 -- the chain ends without a key, or the language is unknown: the locale has no rules
