@@ -58,7 +58,7 @@ impl fmt::Display for LanguageError {
                 "{} {}: no rules but those of root{}",
                 part.as_str(),
                 locale.as_str(),
-                *similar
+                similar
             ),
             LanguageError::Refused(part, key, reason) => {
                 write!(f, "{} {}: {}", part.as_str(), key.as_str(), *reason)
