@@ -5,8 +5,6 @@ use Rattle.std.specs.List.{list_any}
 use Rattle.std.proofs.Math.Bool.{and-false, and-true, or-false}
 use Rattle.std.proofs.Math.Dec.{eqb, eqb-suc-suc, eqb-suc-zero}
 use Rattle.plural_fallback.specs.LocaleNames.{folded, is_same}
-use Rattle.plural_fallback.specs.LocalesJson.{keys_of}
-use Rattle.serde_json.specs.Data.{Members, no_members, member}
 use Rattle.form_commands.specs.Inner.SimilarSteps.{is_like, names_of, told_in}
 use Rattle.form_commands.specs.SimilarKeys.{first_three, is_one_edit, is_one_longer, is_one_replaced, is_one_shorter, without_one}
 use Rattle.form_commands.specs.declared.similar_keys.Likeness.{Likeness}

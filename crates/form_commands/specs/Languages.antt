@@ -3,7 +3,7 @@
 --     IsFoundFor document part locale answer      the rules of the first key, or why there are none
 --     IsUnknown document part locale      the first key is `root`, which wasn't asked for
 --     IsLanguageFor document part locale answer      the rules, or why there are none
-use Rattle.std.specs.Prelude.{◌≡◌, ◌⊎◌, ℕ, List, Bool, true, false, Option, Some, None, Result, Ok, Err}
+use Rattle.std.specs.Prelude.{◌≡◌, ◌⊎◌, ℕ, List, true, false, Option, Some, None, Result, Ok, Err}
 use Rattle.std.specs.Option.{option_and_then}
 use Rattle.serde_json.specs.Data.{Data}
 use Rattle.serde_json.specs.Find.{get}

@@ -1,5 +1,4 @@
-use Rattle.std.proofs.Common.{Err, refl, subst}
-use Rattle.std.specs.Prelude.{MatchBool}
+use Rattle.std.proofs.Common.{refl}
 use Rattle.serde_json.specs.View.{view}
 use Rattle.form_commands.proofs.UnknownLemmas.{known_given, unknown_given}
 use Rattle.form_commands.proofs.run.known_rules.Goals as goal
