@@ -19,6 +19,7 @@ use Rattle.serde_json.specs.declared.Value.{Value}
 use Rattle.form_commands.specs.FormsAnswers.{IsAnsweredLines, IsAnsweredText, IsChecked, IsDocumentIn, IsStreamed}
 use Rattle.form_commands.specs.Inner.FormsInputFaults.{rules_input_fault, refused_rules}
 use Rattle.form_commands.specs.Inner.RunSteps.{AnswersLines, Checks, GivesDocument, GivesJsonValue, WritesAnswer, WritesText}
+use Rattle.form_commands.specs.Languages.{IsKnown}
 use Rattle.form_commands.specs.PrintedTexts.{PrintedText}
 use Rattle.form_commands.specs.declared.error.FormsError.{FormsError}
 use Rattle.form_commands.specs.declared.error.FormsError.TheVariants.{Rules, TooLong, Json, Refused, Language, Numbers, Write, Memory}
@@ -97,23 +98,23 @@ no_lines part locale input before old Numbers given = absurd given
 no_lines part locale input before old Write given = absurd given
 no_lines part locale input before old Memory given = inl (Keeps-refl before, Keeps-refl old)
 
--- the answers by the rules of a document
+-- the answers by the rules of a document by which the language is known
 pub lines_answered : (part : Part) (locale input : List ℕ) (document : Data) (before left old new : Option (List ℕ)) (r : Result Verdict FormsError)
-    → IsDocumentIn input document → AnswersLines document part locale before left old new r
+    → IsDocumentIn input document → IsKnown document part locale → AnswersLines document part locale before left old new r
     → IsAnsweredLines part locale input before left old new r
 unfolding IsAnsweredLines IsStreamed
-lines_answered part locale input document before left old new (Ok verdict) given (inl by) =
-    (document, by.0, given, by.1, by.2)
-lines_answered part locale input document before left old new (Err Rules) given (inl by) = absurd by.2
-lines_answered part locale input document before left old new (Err TooLong) given (inl by) = absurd by.2
-lines_answered part locale input document before left old new (Err Json) given (inl by) = absurd by.2
-lines_answered part locale input document before left old new (Err (Refused error)) given (inl by) = absurd by.2
-lines_answered part locale input document before left old new (Err (Language error)) given (inl by) = absurd by.2
-lines_answered part locale input document before left old new (Err Numbers) given (inl by) = (document, by.0, given, by.1, by.2)
-lines_answered part locale input document before left old new (Err Write) given (inl by) = (document, by.0, given, by.1, by.2)
-lines_answered part locale input document before left old new (Err Memory) given (inl by) = inr (document, by.0, given, by.1, by.2)
-lines_answered part locale input document before left old new r given (inr (inl none)) = rw none.2 (document, given, none.1, none.3)
-lines_answered part locale input document before left old new r given (inr (inr none)) = rw none.0 (inl none.1)
+lines_answered part locale input document before left old new (Ok verdict) given known (inl by) =
+    (document, by.0, given, inr (known, by.1), by.2)
+lines_answered part locale input document before left old new (Err Rules) given known (inl by) = absurd by.2
+lines_answered part locale input document before left old new (Err TooLong) given known (inl by) = absurd by.2
+lines_answered part locale input document before left old new (Err Json) given known (inl by) = absurd by.2
+lines_answered part locale input document before left old new (Err (Refused error)) given known (inl by) = absurd by.2
+lines_answered part locale input document before left old new (Err (Language error)) given known (inl by) = absurd by.2
+lines_answered part locale input document before left old new (Err Numbers) given known (inl by) = (document, by.0, given, inr (known, by.1), by.2)
+lines_answered part locale input document before left old new (Err Write) given known (inl by) = (document, by.0, given, inr (known, by.1), by.2)
+lines_answered part locale input document before left old new (Err Memory) given known (inl by) = inr (document, by.0, given, inr (known, by.1), by.2)
+lines_answered part locale input document before left old new r given known (inr (inl none)) = rw none.2 (document, given, inr (known, none.1), none.3)
+lines_answered part locale input document before left old new r given known (inr (inr none)) = rw none.0 (inl none.1)
 
 -- ---- Files of messages
 

@@ -14,6 +14,9 @@ pub mod SameNames
 pub mod OutlineFound
 pub mod OutlineStays
 pub mod OutlineServes
+-- unknown languages
+pub mod UnknownLemmas
+pub mod SimilarLemmas
 pub mod RulesServe
 -- what is read of the rules
 pub mod RulesRead

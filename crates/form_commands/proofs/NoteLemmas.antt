@@ -19,6 +19,7 @@ use Rattle.form_commands.specs.Inner.NoteSteps.{Notes, NotesAfter, Writes}
 use Rattle.form_commands.specs.Inner.RunSteps.{AnswersLines, Checks}
 use Rattle.form_commands.specs.Inner.PrintedSteps.{Grows}
 use Rattle.form_commands.specs.KeyNotes.{AreFileNotes, AreLocaleNotes, AreMemberNotes, AreNoted, IsFileNote, IsNote, IsNoted, IsNoteIf, has_members, is_asked}
+use Rattle.form_commands.specs.Languages.{IsKnown}
 use Rattle.form_commands.specs.PrintedTexts.{PrintedText}
 use Rattle.form_commands.specs.declared.error.FormsError.{FormsError}
 use Rattle.form_commands.specs.declared.error.FormsError.TheVariants.{Memory}
@@ -168,18 +169,18 @@ printed_noted IsAnswer AreNotes input document old new before after result given
 )
 
 pub lines_noted_by : (part : Part) (locale : List ℕ) (AreNotes : Data → List ℕ → Type 0) (input : List ℕ) (document : Data)
-    (taken left old new before after : Option (List ℕ)) (result : Result Verdict FormsError) → IsDocumentIn input document
+    (taken left old new before after : Option (List ℕ)) (result : Result Verdict FormsError) → IsDocumentIn input document → IsKnown document part locale
     → NotesAfter (AnswersLines document part locale taken left old new) (AreNotes document) before after result
     → IsNoted AreNotes (IsAnsweredLines part locale input taken left old new) input before after result
 unfolding AreNoted
-lines_noted_by part locale AreNotes input document taken left old new before after result given (inl n) =
-    let answer = lines_answered part locale input document taken left old new n.0 given n.2 in (
+lines_noted_by part locale AreNotes input document taken left old new before after result given known (inl n) =
+    let answer = lines_answered part locale input document taken left old new n.0 given known n.2 in (
       lines_noted part locale input n.1 taken left old new before after n.0 result answer n.4,
       noted AreNotes (IsAnsweredLines part locale input taken left old new) input document n.1 before after n.0 result given n.3 answer
           n.4,
     )
-lines_noted_by part locale AreNotes input document taken left old new before after result given (inr n) = (
-  rw n.1 (lines_answered part locale input document taken left old new (Err Memory) given n.0),
+lines_noted_by part locale AreNotes input document taken left old new before after result given known (inr n) = (
+  rw n.1 (lines_answered part locale input document taken left old new (Err Memory) given known n.0),
   rw n.1 (inl n.2),
 )
 

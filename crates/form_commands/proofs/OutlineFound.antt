@@ -54,7 +54,7 @@ module _ (locales : KeptLocales) where
       by false passes further =
           passed_over test key (outline keeps (keeps (Keys locales) key) value) (outline_members keeps (Keys locales) ms) passes ∙ further
 
-  abbrev part_of : Option Data → Option Data
+  abbrev pub part_of : Option Data → Option Data
   part_of whole = option_and_then (outline keeps (kept.Members (Keys locales))) whole
 
   find_in_part : (test : List ℕ → Bool) → ((key : List ℕ) → test key ≡ true → IsInside key) → (whole : Option Data)
@@ -118,7 +118,7 @@ module _ (part : Part) (locales : KeptLocales) (name : List ℕ) (named : is_par
   part_kept : (ms : Members) → get_member name (outline_members keeps top ms) ≡ part_of locales (get_member name ms)
   part_kept ms = found_kept RulesSieve keeps top name ms ∙ rw named refl
 
-  part_found : (whole document : Data) → outline keeps (kept.Members top) whole ≡ Some document
+  pub part_found : (whole document : Data) → outline keeps (kept.Members top) whole ≡ Some document
       → get name document ≡ part_of locales (get name whole)
   part_found null document is = rw (← some_same null document is) refl
   part_found (boolean truth) document is = rw (← some_same (boolean truth) document is) refl
@@ -127,7 +127,7 @@ module _ (part : Part) (locales : KeptLocales) (name : List ℕ) (named : is_par
   part_found (array items) document is = rw (← some_same (array items) document is) refl
   part_found (object ms) document is = rw (← some_same (object (outline_members keeps top ms)) document is) (part_kept ms)
 
-part_named : (part : Part) → is_part part (part_name part) ≡ true
+pub part_named : (part : Part) → is_part part (part_name part) ≡ true
 part_named part = rw ((bytes_eq-Decides (part_name part) (part_name part)).1 refl) refl
 
 parents_named : (part : Part) → is_part part (codes "parents") ≡ true

@@ -122,7 +122,7 @@ module _ (part : Part) (locale : List ℕ) (locales : KeptLocales) (whole docume
   noted place note (inr none) = inr (none.0, no_key none.0 none.1, none.2)
 
   pub outline_serves : Serves part locale document whole
-  outline_serves = (found_for, noted)
+  outline_serves = (found_for, noted, first_key, no_key)
 
 -- where all locales are kept, every chain stays
 pub all_stay : (document : Data) (part : Part) (locale : List ℕ) → StaysInside All document part locale

@@ -1,5 +1,5 @@
 -- What is read of the rules.
-use Rattle.std.proofs.Common.{◌≡◌, ℕ, ◌<◌, ◌≤◌, List, length, Option, Result, Ok, Err, refl, subst, arith}
+use Rattle.std.proofs.Common.{◌≡◌, ℕ, ◌<◌, ◌≤◌, List, length, Option, Result, Ok, Err, inl, inr, refl, subst, arith}
 use Rattle.message_report.specs.declared.file.MessageFile.{MessageFile}
 use Rattle.plural_documents.specs.Inputs.{IsRead, IsReadAfter, IsReadToEnd, input_origin, most_bytes}
 use Rattle.plural_documents.specs.declared.input.InputError.{InputError}
@@ -49,7 +49,11 @@ value_read left rest bytes r end given =
 pub rules_read : (part : Part) (locale : List ℕ) (left rest : Option (List ℕ)) (bytes : List ℕ) (r : Result Value FormsError)
     → IsReadToEnd left rest → GivesRulesIn part locale bytes r → IsRead forms_origin left rest r
 rules_read part locale left rest bytes r end given =
-    read_to_end left rest r end (λ is. subst (GivesRulesIn part locale bytes) is given)
+    read_to_end left rest r end (λ is. not_too_long (subst (GivesRulesIn part locale bytes) is given))
+  where
+    not_too_long : GivesRulesIn part locale bytes (Err TooLong) → ⊥
+    not_too_long (inl none) = none
+    not_too_long (inr unknown) = absurd (cc unknown.2.1)
 
 -- no input is both within the limit and above it
 not_both : (n most : ℕ) → n ≤ most → most < n → ⊥

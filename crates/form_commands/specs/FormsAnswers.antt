@@ -25,7 +25,7 @@ use Rattle.serde_json.specs.Data.{Data}
 use Rattle.form_commands.specs.FormLines.{IsFormList}
 use Rattle.form_commands.specs.GettextLines.{IsGettextLine}
 use Rattle.form_commands.specs.InputLines.{AreEndedIn, lines_of}
-use Rattle.form_commands.specs.Languages.{IsFoundFor}
+use Rattle.form_commands.specs.Languages.{IsLanguageFor}
 use Rattle.form_commands.specs.NumberAnswers.{AreLineAnswers, AreNumberAnswers}
 use Rattle.form_commands.specs.PrintedTexts.{PrintedText, only_text, verdict_of}
 use Rattle.form_commands.specs.declared.error.FormsError.{FormsError}
@@ -60,8 +60,8 @@ IsNumbersAnswer words language printed = AreNumberAnswers language.rules words p
 -- what is printed by the rules of a locale, or why there are none
 abbrev pub Answers : (code.Language → PrintedText → Type 0) → Part → List ℕ → Data → Result PrintedText LanguageError → Type 0
 Answers Prints part locale document (Ok printed) =
-    (language : code.Language) × IsFoundFor document part locale (Ok language) × Prints language printed
-Answers Prints part locale document (Err error) = IsFoundFor document part locale (Err error)
+    (language : code.Language) × IsLanguageFor document part locale (Ok language) × Prints language printed
+Answers Prints part locale document (Err error) = IsLanguageFor document part locale (Err error)
 
 -- ---- What is written
 
@@ -116,7 +116,7 @@ IsStreamed rules before left old new (Err Memory) = IsAnsweredInPart rules befor
 abbrev pub IsStreamedFor : Part → List ℕ → List ℕ → Option (List ℕ) → Option (List ℕ) → Option (List ℕ) → Option (List ℕ)
     → Result Verdict FormsError → Type 0
 IsStreamedFor part locale input before left old new result =
-    (document : Data) × (language : code.Language) × IsDocumentIn input document × IsFoundFor document part locale (Ok language)
+    (document : Data) × (language : code.Language) × IsDocumentIn input document × IsLanguageFor document part locale (Ok language)
     × IsStreamed language.rules before left old new result
 
 -- nothing is taken, and nothing is written
@@ -131,7 +131,7 @@ IsAnsweredLines part locale input before left old new (Err TooLong) = (most_byte
 IsAnsweredLines part locale input before left old new (Err Json) = IsNoJson input × IsUntouched before left old new
 IsAnsweredLines part locale input before left old new (Err (Refused error)) = ⊥
 IsAnsweredLines part locale input before left old new (Err (Language error)) =
-    (document : Data) × IsDocumentIn input document × IsFoundFor document part locale (Err error) × IsUntouched before left old new
+    (document : Data) × IsDocumentIn input document × IsLanguageFor document part locale (Err error) × IsUntouched before left old new
 IsAnsweredLines part locale input before left old new (Err Numbers) = IsStreamedFor part locale input before left old new (Err Numbers)
 IsAnsweredLines part locale input before left old new (Err Write) = IsStreamedFor part locale input before left old new (Err Write)
 IsAnsweredLines part locale input before left old new (Err Memory) =

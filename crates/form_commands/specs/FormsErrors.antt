@@ -7,18 +7,23 @@ use Rattle.plural_fallback.specs.declared.error.FallbackError.TheVariants as cha
 use Rattle.form_commands.specs.declared.error.FormsError.{FormsError}
 use Rattle.form_commands.specs.declared.error.FormsError.TheVariants as forms
 use Rattle.form_commands.specs.declared.error.LanguageError.{LanguageError}
-use Rattle.form_commands.specs.declared.error.LanguageError.TheVariants.{NotFound, Refused}
+use Rattle.form_commands.specs.SimilarKeys.{similar_text}
+use Rattle.form_commands.specs.declared.error.LanguageError.TheVariants.{NotFound, Refused, Unknown}
 use Rattle.form_commands.specs.declared.error.Verdict.{Verdict}
 use Rattle.form_commands.specs.declared.error.Verdict.TheVariants.{Complete, Faults}
 
--- the part, the locale or the key, and the reason
+-- the part, the locale or the key, and the reason: `cardinal russian: no rules but those of root;
+-- similar: ru`
 abbrev pub language_error_text : LanguageError → List ℕ
 language_error_text (NotFound part locale reason) = part_name part ++ codes " " ++ locale ++ codes ": " ++ fallback_error_text reason
+language_error_text (Unknown part locale similar) =
+    part_name part ++ (codes " " ++ (locale ++ (codes ": no rules but those of root" ++ similar_text similar)))
 language_error_text (Refused part key reason) = part_name part ++ codes " " ++ key ++ codes ": " ++ json_error_text reason
 
--- the chain ends without a key: the locale has no rules
+-- the chain ends without a key, or the language is unknown: the locale has no rules
 abbrev pub language_status : LanguageError → ℕ
 language_status (NotFound part locale chain.NotFound) = 1
+language_status (Unknown part locale similar) = 1
 language_status error = 2
 
 abbrev pub forms_status : FormsError → ℕ

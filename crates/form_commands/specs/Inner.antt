@@ -4,6 +4,7 @@ pub mod FormsInputFaults
 pub mod PrintedSteps
 pub mod RulesOutline
 pub mod RunSteps
+pub mod SimilarSteps
 pub mod LineSteps
 pub mod StreamSteps
 pub mod NoteSteps

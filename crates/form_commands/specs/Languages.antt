@@ -1,6 +1,9 @@
--- The rules that a document has for a locale: those of the first key along the locale's chain.
---     IsFoundFor document part locale answer      the rules, or why there are none
-use Rattle.std.specs.Prelude.{◌≡◌, ◌⊎◌, ℕ, List, Option, Some, None, Result, Ok, Err}
+-- The rules that a document has for a locale: those of the first key along the locale's chain,
+-- unless the language is unknown.
+--     IsFoundFor document part locale answer      the rules of the first key, or why there are none
+--     IsUnknown document part locale      the first key is `root`, which wasn't asked for
+--     IsLanguageFor document part locale answer      the rules, or why there are none
+use Rattle.std.specs.Prelude.{◌≡◌, ◌⊎◌, ℕ, List, true, false, Option, Some, None, Result, Ok, Err}
 use Rattle.std.specs.Option.{option_and_then}
 use Rattle.serde_json.specs.Data.{Data}
 use Rattle.serde_json.specs.Find.{get}
@@ -12,11 +15,14 @@ use Rattle.icu_plurals.specs.declared.JsonError.{JsonError}
 use Rattle.icu_plurals.specs.declared.JsonError.TheVariants.{Shape}
 use Rattle.plural_fallback.specs.Chain.{next_of}
 use Rattle.plural_fallback.specs.FirstKeys.{IsFirstKey, Misses, key_at, locale_at}
+use Rattle.plural_fallback.specs.LocaleNames.{language}
 use Rattle.plural_fallback.specs.LocalesJson.{keys_under, parent_in, part_name}
+use Rattle.plural_fallback.specs.UnknownLanguages.{is_unknown}
 use Rattle.plural_fallback.specs.declared.error.FallbackError.{FallbackError}
 use Rattle.plural_fallback.specs.declared.locales.Part.{Part}
 use Rattle.form_commands.specs.declared.error.LanguageError.{LanguageError}
-use Rattle.form_commands.specs.declared.error.LanguageError.TheVariants.{NotFound, Refused}
+use Rattle.form_commands.specs.SimilarKeys.{similar_keys}
+use Rattle.form_commands.specs.declared.error.LanguageError.TheVariants.{NotFound, Refused, Unknown}
 use Rattle.form_commands.specs.declared.language.Language.{Language}
 
 -- ---- The key
@@ -64,3 +70,26 @@ abbrev pub IsFoundFor : Data → Part → List ℕ → Result Language LanguageE
 IsFoundFor document part locale answer =
     ((key : List ℕ) × IsKeyOf document part locale key × IsFoundAt document part key answer)
     ⊎ ((reason : FallbackError) × HasNoKey document part locale reason × (answer ≡ Err (NotFound part locale reason)))
+
+-- ---- An unknown language
+
+-- the first key is `root`, and neither `root` nor `und` was asked for
+abbrev pub IsUnknown : Data → Part → List ℕ → Type 0
+IsUnknown document part locale = (key : List ℕ) × IsKeyOf document part locale key × (is_unknown locale key ≡ true)
+
+-- it is another one, or there is none
+abbrev pub IsKnown : Data → Part → List ℕ → Type 0
+IsKnown document part locale =
+    ((key : List ℕ) × IsKeyOf document part locale key × (is_unknown locale key ≡ false))
+    ⊎ ((reason : FallbackError) × HasNoKey document part locale reason)
+
+-- of an unknown language the error that names the keys of the part which are similar to it
+abbrev pub unknown_error : Data → Part → List ℕ → LanguageError
+unknown_error document part locale =
+    Unknown part locale (similar_keys (language locale) (keys_under (part_name part) document))
+
+-- the rules of a known language, or why there are none
+abbrev pub IsLanguageFor : Data → Part → List ℕ → Result Language LanguageError → Type 0
+IsLanguageFor document part locale answer =
+    (IsUnknown document part locale × (answer ≡ Err (unknown_error document part locale)))
+    ⊎ (IsKnown document part locale × IsFoundFor document part locale answer)

@@ -1,6 +1,7 @@
 -- the words of a command line
 pub mod Questions
 -- the rules of a locale, and what is printed of them and of numbers
+pub mod SimilarKeys
 pub mod Languages
 pub mod FormLines
 pub mod PrintedTexts

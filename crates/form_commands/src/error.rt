@@ -4,6 +4,7 @@ ghost use Rattle.std.specs.Prelude.{◌≡◌, Some};
 ghost use Rattle.form_commands.specs.FormsErrors.{forms_status, is_of_rules, language_error_text, language_status, verdict_status};
 
 use crate::name::Name;
+use crate::similar_keys::SimilarKeys;
 use icu_plurals::JsonError;
 use message_report::ReportError;
 use plural_documents::InputError;
@@ -37,6 +38,9 @@ impl Verdict {
 pub enum LanguageError {
     /// The chain of this locale gives no key in the part.
     NotFound(Part, Name, FallbackError),
+    /// The language of this locale is unknown: of the chain only `root` has a key in the part, and
+    /// neither `root` nor `und` was asked for. These keys of the part are similar to it.
+    Unknown(Part, Name, SimilarKeys),
     /// What the part has under this key is refused. The reason is never out of memory.
     Refused(Part, Name, JsonError),
 }
@@ -49,6 +53,13 @@ impl fmt::Display for LanguageError {
             LanguageError::NotFound(part, locale, reason) => {
                 write!(f, "{} {}: {}", part.as_str(), locale.as_str(), *reason)
             }
+            LanguageError::Unknown(part, locale, similar) => write!(
+                f,
+                "{} {}: no rules but those of root{}",
+                part.as_str(),
+                locale.as_str(),
+                similar
+            ),
             LanguageError::Refused(part, key, reason) => {
                 write!(f, "{} {}: {}", part.as_str(), key.as_str(), *reason)
             }
@@ -65,6 +76,7 @@ impl LanguageError {
     {
         match self {
             LanguageError::NotFound(_, _, FallbackError::NotFound) => 1,
+            LanguageError::Unknown(_, _, _) => 1,
             LanguageError::NotFound(_, _, FallbackError::LongChain)
             | LanguageError::NotFound(_, _, FallbackError::NotLoaded)
             | LanguageError::Refused(_, _, _) => 2,

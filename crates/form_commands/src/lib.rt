@@ -16,10 +16,13 @@ mod outline;
 mod printed;
 mod question;
 mod run;
+mod similar_keys;
 mod stream;
+mod unknown_language;
 
 pub use error::{FormsError, LanguageError, Verdict};
 pub use name::Name;
 pub use printed::{NumberFault, Place};
 pub use question::{Question, Wanted, question_of};
 pub use run::{answer_lines, answer_numbers, check_files, list_forms, write_gettext};
+pub use similar_keys::SimilarKeys;

@@ -11,7 +11,7 @@ ghost use Rattle.serde_json.specs.View.{members_view, view};
 use crate::error::{FormsError, Verdict};
 use message_report::MessageFile;
 use plural_documents::write_output;
-use plural_fallback::{Part, find_first};
+use plural_fallback::{Part, find_first, is_unknown};
 use serde_json::{Map, Value};
 use std::alloc::{AllocError, Global};
 use std::io::Write;
@@ -238,7 +238,7 @@ fn note_text(
 ) -> Result<String, AllocError>
     ensures { IfOk result (λ note. string_bytes note ≡ note_text place.now part locale.now key.now) }
 {
-    if key == locale {
+    if key == locale || is_unknown(locale, key) {
         return Ok(String::new(alloc));
     }
     let name = part.as_str();

@@ -6,7 +6,8 @@ ghost use Rattle.form_commands.specs.FormsErrors.{is_of_rules};
 ghost use Rattle.form_commands.specs.Inner.FormsInputFaults.{refused_rules};
 ghost use Rattle.form_commands.specs.Inner.NoteSteps.{NotesAfter, Writes};
 ghost use Rattle.form_commands.specs.Inner.QuestionViews.{words_view};
-ghost use Rattle.form_commands.specs.Inner.RunSteps.{AnswersLines, Checks, GivesDocument, GivesJsonValue, GivesRules, GivesRulesIn, Reports, WritesAnswer};
+ghost use Rattle.form_commands.specs.Inner.RulesOutline.{IsServedBy};
+ghost use Rattle.form_commands.specs.Inner.RunSteps.{AnswersFirst, AnswersLines, Checks, GivesDocument, GivesJsonValue, GivesRules, GivesRulesIn, Reports, WritesAnswer};
 ghost use Rattle.form_commands.specs.KeyNotes.{AreFileNotes, IsNote, IsNoted};
 ghost use Rattle.plural_documents.specs.Inputs.{IsInput, IsRead};
 ghost use Rattle.serde_json.specs.View.{view};
@@ -20,6 +21,7 @@ use crate::number::numbers_text;
 use crate::outline::rules_outline;
 use crate::printed::Printed;
 use crate::stream::answer_input;
+use crate::unknown_language::{is_unknown_in, unknown_language};
 use icu_plurals::{JsonError, JsonProvider};
 use message_report::run::run;
 use message_report::{Counts, MessageFile};
@@ -90,7 +92,7 @@ fn numbers_by<W: Write, E: Write>(
     writer: &mut W,
     notes: &mut E,
 ) -> Result<Verdict, FormsError>
-    ensures answers { NotesAfter (Writes (Answers (IsNumbersAnswer (words_view numbers.now)) part locale.now (view document.now)) (W.contents writer.old) (W.contents writer.new))
+    ensures answers { NotesAfter (Writes (AnswersFirst (IsNumbersAnswer (words_view numbers.now)) part locale.now (view document.now)) (W.contents writer.old) (W.contents writer.new))
         (IsNote (view document.now) [] part locale.now) (E.contents notes.old) (E.contents notes.new) result }
     ensures writes_nothing { IfErr result (λ e. e ≢ FormsError.Write → (writer.new ≡ writer.old) × (notes.new ≡ notes.old)) }
 {
@@ -196,7 +198,7 @@ fn gettext_by<W: Write, E: Write>(
     writer: &mut W,
     notes: &mut E,
 ) -> Result<Verdict, FormsError>
-    ensures answers { NotesAfter (Writes (Answers IsGettextAnswer part locale.now (view document.now)) (W.contents writer.old) (W.contents writer.new))
+    ensures answers { NotesAfter (Writes (AnswersFirst IsGettextAnswer part locale.now (view document.now)) (W.contents writer.old) (W.contents writer.new))
         (IsNote (view document.now) [] part locale.now) (E.contents notes.old) (E.contents notes.new) result }
     ensures writes_nothing { IfErr result (λ e. e ≢ FormsError.Write → (writer.new ≡ writer.old) × (notes.new ≡ notes.old)) }
 {
@@ -338,7 +340,7 @@ fn lines_by<N: Read, W: Write>(
     }
 }
 
-// Returns a document that serves a locale as the one in a reader does.
+// Returns a document that serves a locale as the one in a reader does, if its language is known.
 fn rules_of<R: Read>(
     alloc: Global,
     part: Part,
@@ -354,15 +356,31 @@ fn rules_of<R: Read>(
     }
 }
 
-// Returns what is kept of the JSON value of bytes for a locale.
+// Returns what is kept of the JSON value of bytes for a locale, if its language is known.
 fn rules_in(alloc: Global, part: Part, locale: &str, bytes: &[u8]) -> Result<Value, FormsError>
     ensures { GivesRulesIn part locale.now bytes.now result }
 {
     match rules_outline(alloc, part, locale, bytes) {
-        Ok(outline) => Ok(outline),
+        Ok(outline) => known_rules(alloc, part, locale, bytes, outline),
         Err(JsonTextError::Json) => Err(FormsError::Json),
         Err(JsonTextError::Memory) => Err(FormsError::Memory),
     }
+}
+
+// Returns what is kept of the JSON value of bytes, unless the language is unknown by it.
+fn known_rules(
+    alloc: Global,
+    part: Part,
+    locale: &str,
+    bytes: &[u8],
+    outline: Value,
+) -> Result<Value, FormsError>
+    ensures { IsServedBy part locale.now bytes.now (view outline) → GivesRulesIn part locale.now bytes.now result }
+{
+    if is_unknown_in(&outline, part, locale) {
+        return Err(unknown_language(alloc, part, locale, bytes));
+    }
+    Ok(outline)
 }
 
 // Returns the document in a reader.
@@ -394,7 +412,7 @@ fn list_of(
     part: Part,
     locale: &str,
 ) -> Result<Result<Printed, LanguageError>, AllocError>
-    ensures { IfOk result (λ answer. Answers (IsListAnswer part locale.now) part locale.now (view document.now) answer) }
+    ensures { IfOk result (λ answer. AnswersFirst (IsListAnswer part locale.now) part locale.now (view document.now) answer) }
 {
     match language_of(alloc, document, part, locale)? {
         Ok(language) => {
@@ -412,7 +430,7 @@ fn gettext_of(
     part: Part,
     locale: &str,
 ) -> Result<Result<Printed, LanguageError>, AllocError>
-    ensures { IfOk result (λ answer. Answers IsGettextAnswer part locale.now (view document.now) answer) }
+    ensures { IfOk result (λ answer. AnswersFirst IsGettextAnswer part locale.now (view document.now) answer) }
 {
     match language_of(alloc, document, part, locale)? {
         Ok(language) => {
@@ -431,7 +449,7 @@ fn categories_of(
     locale: &str,
     numbers: &[&str],
 ) -> Result<Result<Printed, LanguageError>, AllocError>
-    ensures { IfOk result (λ answer. Answers (IsNumbersAnswer (words_view numbers.now)) part locale.now (view document.now) answer) }
+    ensures { IfOk result (λ answer. AnswersFirst (IsNumbersAnswer (words_view numbers.now)) part locale.now (view document.now) answer) }
 {
     match language_of(alloc, document, part, locale)? {
         Ok(language) => Ok(Ok(numbers_text(alloc, &language.rules, numbers)?)),

@@ -5,6 +5,7 @@ pub mod ToldNumbers
 pub mod EachFound
 pub mod FormLemmas
 pub mod KeywordLemmas
+pub mod KnownRules
 pub mod LanguageLemmas
 pub mod PartLemmas
 -- rules that choose alike for whole numbers that leave the same by 100

@@ -1,5 +1,5 @@
 -- The tokens that are held of a value.
-use Rattle.std.proofs.Common.{◌≡◌, List, [], ◌∷◌, ◌++◌, ap, ◌∙◌}
+use Rattle.std.proofs.Common.{◌≡◌, List, [], ◌∷◌, ◌++◌, ◌∙◌}
 use Rattle.json.specs.Json as json
 use Rattle.plural_documents.specs.Inner.HeldTokens.{Held, held_items, held_members, held_tokens}
 use Rattle.plural_documents.proofs.OpenLemmas.{joined}

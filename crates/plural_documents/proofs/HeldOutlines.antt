@@ -1,5 +1,5 @@
 -- Outlines of what is held of a value, which are those of the value where nothing else is kept.
-use Rattle.std.proofs.Common.{◌≡◌, ℕ, List, Bool, true, false, Some, refl, sym, ap, ◌∙◌}
+use Rattle.std.proofs.Common.{◌≡◌, ℕ, List, Bool, true, false, Some, refl, sym, ap}
 use Rattle.std.specs.Prelude.{if◌then◌else◌}
 use Rattle.plural_documents.specs.Outlines.{is_named, named, outline, outline_members, with_member}
 use Rattle.plural_documents.specs.declared.outline.Portion.{Portion}

@@ -1,15 +1,13 @@
 -- What is held of the tokens of a text, one after another.
-use Rattle.std.proofs.Common.{◌≡◌, ℕ, zero, suc, ◌-◌, List, [], ◌∷◌, ◌++◌, map, Bool, true, false, true≢false, refl, sym, ap, ◌∙◌, arith}
+use Rattle.std.proofs.Common.{◌≡◌, ℕ, suc, ◌-◌, List, [], ◌∷◌, ◌++◌, map, Bool, true, false, refl, sym, ap, ◌∙◌, arith}
 use Rattle.std.proofs.lemmas.Bool.{ne_eqb}
 use Rattle.std.proofs.lemmas.List.{map-append}
 use Rattle.std.specs.Prelude.{◌==◌, if◌then◌else◌}
 use Rattle.json.specs.Json as json
 use Rattle.json.specs.Token.{Token}
 use Rattle.json.specs.Tree.{items_tokens, json_tokens, members_tokens}
-use Rattle.plural_documents.specs.Inner.HeldParts.{fits, is_held_after, json_part, members_part}
-use Rattle.plural_documents.specs.Inner.HeldTokens.{Held, held_items, held_members, held_of, held_token, held_tokens, opened_after}
-use Rattle.plural_documents.specs.declared.held_token.HeldToken.{HeldToken}
-use Rattle.std.specs.List.{list_all}
+use Rattle.plural_documents.specs.Inner.HeldParts.{is_held_after, json_part, members_part}
+use Rattle.plural_documents.specs.Inner.HeldTokens.{Held, held_items, held_members, held_of, held_tokens, opened_after}
 use Rattle.plural_documents.proofs.OpenLemmas.{joined}
 use Rattle.serde_json.specs.Read.{number_of}
 

@@ -4,3 +4,5 @@ pub mod Chain
 pub mod FirstKeys
 -- the keys and the parents in a document
 pub mod LocalesJson
+-- languages that have no rules of their own
+pub mod UnknownLanguages

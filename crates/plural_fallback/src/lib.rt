@@ -9,6 +9,7 @@ mod json;
 mod locale;
 mod locales;
 mod provider;
+mod unknown;
 
 pub use chain::next_locale;
 pub use error::FallbackError;
@@ -16,3 +17,4 @@ pub use first_key::{MOST_LOCALES, find_first};
 pub use locale::{is_same, language};
 pub use locales::{Locales, Part};
 pub use provider::{FallbackProvider, Loaded};
+pub use unknown::is_unknown;

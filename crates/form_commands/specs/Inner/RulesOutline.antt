@@ -13,12 +13,13 @@ use Rattle.plural_fallback.specs.Chain.{next_of}
 use Rattle.plural_fallback.specs.FirstKeys.{NoneBefore, locale_at}
 use Rattle.plural_fallback.specs.LocaleNames.{is_same}
 use Rattle.plural_fallback.specs.LocalesJson.{parent_in, part_name}
+use Rattle.plural_fallback.specs.declared.error.FallbackError.{FallbackError}
 use Rattle.plural_fallback.specs.declared.locales.Part.{Part}
 use Rattle.serde_json.specs.Data.{Data}
 use Rattle.serde_json.specs.View.{view}
 use Rattle.serde_json.specs.declared.Value.{Value}
 use Rattle.form_commands.specs.KeyNotes.{IsNote}
-use Rattle.form_commands.specs.Languages.{IsFoundFor, key_after, most_locales}
+use Rattle.form_commands.specs.Languages.{HasNoKey, IsFoundFor, IsKeyOf, key_after, most_locales}
 use Rattle.form_commands.specs.declared.error.LanguageError.{LanguageError}
 use Rattle.form_commands.specs.declared.language.Language.{Language}
 use Rattle.form_commands.specs.declared.outline.KeptLocales.{KeptLocales}
@@ -68,6 +69,8 @@ abbrev pub Serves : Part → List ℕ → Data → Data → Type 0
 Serves part locale document whole =
     ((answer : Result Language LanguageError) → IsFoundFor document part locale answer → IsFoundFor whole part locale answer)
     × ((place note : List ℕ) → IsNote document place part locale note → IsNote whole place part locale note)
+    × ((key : List ℕ) → IsKeyOf document part locale key → IsKeyOf whole part locale key)
+    × ((reason : FallbackError) → HasNoKey document part locale reason → HasNoKey whole part locale reason)
 
 -- the part and the parents are held of the text
 abbrev pub HoldsPart : Part → HeldText → Type 0

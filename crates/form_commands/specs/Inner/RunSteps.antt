@@ -15,8 +15,8 @@ use Rattle.serde_json.specs.View.{view}
 use Rattle.serde_json.specs.declared.Value.{Value}
 use Rattle.form_commands.specs.FormsAnswers.{IsDocumentIn, IsNoJson, IsStreamed, IsUntouched, rules_source, verdict_of_counts}
 use Rattle.form_commands.specs.Inner.FormsInputFaults.{report_fault}
-use Rattle.form_commands.specs.Inner.RulesOutline.{IsServedBy, Serves}
-use Rattle.form_commands.specs.Languages.{IsFoundFor}
+use Rattle.form_commands.specs.Inner.RulesOutline.{Serves}
+use Rattle.form_commands.specs.Languages.{IsFoundFor, IsKnown, IsUnknown, unknown_error}
 use Rattle.form_commands.specs.PrintedTexts.{PrintedText, verdict_of}
 use Rattle.form_commands.specs.declared.error.FormsError.{FormsError}
 use Rattle.form_commands.specs.declared.error.FormsError.TheVariants.{Rules, TooLong, Json, Refused, Language, Numbers, Write, Memory}
@@ -57,16 +57,37 @@ GivesDocument input (Err Memory) = ⊤
 
 -- ---- A document that serves a locale
 
--- an outline of the bytes' value, or the value; or that they have none
+-- the error of an unknown language by the bytes' value; or that they have none
+abbrev pub GivesUnknown : Part → List ℕ → List ℕ → FormsError → Type 0
+GivesUnknown part locale bytes error =
+    GivesJsonValue bytes (Err error)
+    ⊎ ((whole : Data) × (json_of bytes ≡ Some whole) × (error ≡ Language (unknown_error whole part locale)))
+
+-- the language of a locale is unknown by a document, and the error says so
+abbrev pub IsUnknownIn : Part → List ℕ → Data → FormsError → Type 0
+IsUnknownIn part locale whole error =
+    IsUnknown whole part locale × (error ≡ Language (unknown_error whole part locale))
+
+-- an outline of the bytes' value, or the value, where the language is known; or that it is unknown,
+-- or that they have none
 abbrev pub GivesRulesIn : Part → List ℕ → List ℕ → Result Value FormsError → Type 0
-GivesRulesIn part locale bytes (Ok value) = IsServedBy part locale bytes (view value)
-GivesRulesIn part locale bytes (Err error) = GivesJsonValue bytes (Err error)
+GivesRulesIn part locale bytes (Ok value) =
+    (whole : Data) × (json_of bytes ≡ Some whole) × Serves part locale (view value) whole × IsKnown whole part locale
+GivesRulesIn part locale bytes (Err error) =
+    GivesJsonValue bytes (Err error) ⊎ ((whole : Data) × (json_of bytes ≡ Some whole) × IsUnknownIn part locale whole error)
 
 -- the same of an input
 abbrev pub GivesRules : Part → List ℕ → List ℕ → Result Value FormsError → Type 0
 GivesRules part locale input (Ok value) =
-    (whole : Data) × IsDocumentIn input whole × Serves part locale (view value) whole
-GivesRules part locale input (Err error) = GivesDocument input (Err error)
+    (whole : Data) × IsDocumentIn input whole × Serves part locale (view value) whole × IsKnown whole part locale
+GivesRules part locale input (Err error) =
+    GivesDocument input (Err error) ⊎ ((whole : Data) × IsDocumentIn input whole × IsUnknownIn part locale whole error)
+
+-- what is printed by the rules of the first key, or why there are none
+abbrev pub AnswersFirst : (code.Language → PrintedText → Type 0) → Part → List ℕ → Data → Result PrintedText LanguageError → Type 0
+AnswersFirst Prints part locale document (Ok printed) =
+    (language : code.Language) × IsFoundFor document part locale (Ok language) × Prints language printed
+AnswersFirst Prints part locale document (Err error) = IsFoundFor document part locale (Err error)
 
 -- ---- What is written
 
@@ -84,7 +105,7 @@ WritesAnswer (Err error) old new result = (result ≡ Err Memory) × Keeps old n
 
 -- ---- The lines of another input
 
--- the answers by the rules of a locale, or that there are none
+-- the answers by the rules of the first key, or that there are none
 abbrev pub AnswersLines : Data → Part → List ℕ → Option (List ℕ) → Option (List ℕ) → Option (List ℕ) → Option (List ℕ)
     → Result Verdict FormsError → Type 0
 AnswersLines document part locale before left old new result =

@@ -3,17 +3,16 @@ use Rattle.serde_json.specs.View.{view}
 use Rattle.form_commands.specs.FormsAnswers.{Answers, IsAnsweredText, IsNumbersAnswer}
 use Rattle.form_commands.specs.Inner.QuestionViews.{words_view}
 use Rattle.form_commands.specs.KeyNotes.{IsNote}
-use Rattle.form_commands.proofs.AnswerLemmas.{no_answer}
 use Rattle.form_commands.proofs.NoteLemmas.{none_noted, printed_noted}
 use Rattle.form_commands.proofs.RulesRead.{answer_read}
-use Rattle.form_commands.proofs.RulesServe.{text_served}
+use Rattle.form_commands.proofs.RulesServe.{text_served, unknown_answer}
 use Rattle.form_commands.proofs.run.answer_numbers.Goals as goal
 
 pub returns-in-Ok-clause-answers : goal.returns-in-Ok-clause-answers
 returns-in-Ok-clause-answers g c =
     let d = c.in-Ok.ensures.document in
     let rules = d.2 in
-    let served = text_served c.args.part c.args.locale.now (view c.in-Ok.document) rules.0 rules.2 (IsNumbersAnswer (words_view c.args.numbers.now))
+    let served = text_served c.args.part c.args.locale.now (view c.in-Ok.document) rules.0 rules.2 rules.3 (IsNumbersAnswer (words_view c.args.numbers.now))
     (g.W.Write.contents c.args.writer.now) (g.W.Write.contents c.numbers_by.new.writer) (g.E.Write.contents c.args.notes.now)
     (g.E.Write.contents c.numbers_by.new.notes) c.numbers_by.result c.numbers_by.ensures.answers in
     let both = printed_noted (Answers (IsNumbersAnswer (words_view c.args.numbers.now)) c.args.part c.args.locale.now)
@@ -30,7 +29,7 @@ returns-in-Err-clause-answers g c =
       none_noted (λ document note. IsNote document [] c.args.part c.args.locale.now note)
           (IsAnsweredText (Answers (IsNumbersAnswer (words_view c.args.numbers.now)) c.args.part c.args.locale.now) d.0
           (g.W.Write.contents c.args.writer.now) (g.W.Write.contents c.args.writer.now)) d.0 (g.E.Write.contents c.args.notes.now) c.in-Err.error
-          (no_answer (Answers (IsNumbersAnswer (words_view c.args.numbers.now)) c.args.part c.args.locale.now) d.0
+          (unknown_answer (IsNumbersAnswer (words_view c.args.numbers.now)) c.args.part c.args.locale.now d.0
           (g.W.Write.contents c.args.writer.now) c.in-Err.error d.2),
     )
 
@@ -39,7 +38,7 @@ returns-in-Ok-clause-reads g c =
     let IsAnswer = Answers (IsNumbersAnswer (words_view c.args.numbers.now)) c.args.part c.args.locale.now in
     let d = c.in-Ok.ensures.document in
     let rules = d.2 in
-    let served = text_served c.args.part c.args.locale.now (view c.in-Ok.document) rules.0 rules.2 (IsNumbersAnswer (words_view c.args.numbers.now))
+    let served = text_served c.args.part c.args.locale.now (view c.in-Ok.document) rules.0 rules.2 rules.3 (IsNumbersAnswer (words_view c.args.numbers.now))
     (g.W.Write.contents c.args.writer.now) (g.W.Write.contents c.numbers_by.new.writer) (g.E.Write.contents c.args.notes.now)
     (g.E.Write.contents c.numbers_by.new.notes) c.numbers_by.result c.numbers_by.ensures.answers in
     let old = g.W.Write.contents c.args.writer.now in

@@ -1,4 +1,4 @@
-use Rattle.std.proofs.Common.{Err, ap}
+use Rattle.std.proofs.Common.{Err, ap, inl}
 use Rattle.serde_json.specs.declared.Value.{Value}
 use Rattle.form_commands.specs.declared.error.FormsError.{FormsError}
 use Rattle.form_commands.proofs.AnswerLemmas.{no_document}
@@ -16,8 +16,9 @@ returns-in-Ok-clause-document g c = (
 
 pub returns-in-Err-clause-document : goal.returns-in-Err-clause-document
 returns-in-Err-clause-document g c =
-    no_document (g.R.Read.remaining c.args.reader.now) c.in-Err.reason (Err c.from.result) (ap (λ (e : FormsError). Err e) c.from.ensures)
-    c.in-Err.ensures.input
+    let none = no_document (g.R.Read.remaining c.args.reader.now) c.in-Err.reason (Err c.from.result)
+    (ap (λ (e : FormsError). Err e) c.from.ensures) c.in-Err.ensures.input in
+    (none.0, none.1, inl none.2)
 
 pub returns-in-Ok-clause-reads : goal.returns-in-Ok-clause-reads
 returns-in-Ok-clause-reads g c =

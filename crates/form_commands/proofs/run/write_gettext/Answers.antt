@@ -2,17 +2,16 @@ use Rattle.std.proofs.Common.{[]}
 use Rattle.serde_json.specs.View.{view}
 use Rattle.form_commands.specs.FormsAnswers.{Answers, IsAnsweredText, IsGettextAnswer}
 use Rattle.form_commands.specs.KeyNotes.{IsNote}
-use Rattle.form_commands.proofs.AnswerLemmas.{no_answer}
 use Rattle.form_commands.proofs.NoteLemmas.{none_noted, printed_noted}
 use Rattle.form_commands.proofs.RulesRead.{answer_read}
-use Rattle.form_commands.proofs.RulesServe.{text_served}
+use Rattle.form_commands.proofs.RulesServe.{text_served, unknown_answer}
 use Rattle.form_commands.proofs.run.write_gettext.Goals as goal
 
 pub returns-in-Ok-clause-answers : goal.returns-in-Ok-clause-answers
 returns-in-Ok-clause-answers g c =
     let d = c.in-Ok.ensures.document in
     let rules = d.2 in
-    let served = text_served c.args.part c.args.locale.now (view c.in-Ok.document) rules.0 rules.2 IsGettextAnswer
+    let served = text_served c.args.part c.args.locale.now (view c.in-Ok.document) rules.0 rules.2 rules.3 IsGettextAnswer
     (g.W.Write.contents c.args.writer.now) (g.W.Write.contents c.gettext_by.new.writer) (g.E.Write.contents c.args.notes.now)
     (g.E.Write.contents c.gettext_by.new.notes) c.gettext_by.result c.gettext_by.ensures.answers in
     let both = printed_noted (Answers IsGettextAnswer c.args.part c.args.locale.now)
@@ -29,7 +28,7 @@ returns-in-Err-clause-answers g c =
       none_noted (λ document note. IsNote document [] c.args.part c.args.locale.now note)
           (IsAnsweredText (Answers IsGettextAnswer c.args.part c.args.locale.now) d.0
           (g.W.Write.contents c.args.writer.now) (g.W.Write.contents c.args.writer.now)) d.0 (g.E.Write.contents c.args.notes.now) c.in-Err.error
-          (no_answer (Answers IsGettextAnswer c.args.part c.args.locale.now) d.0
+          (unknown_answer IsGettextAnswer c.args.part c.args.locale.now d.0
           (g.W.Write.contents c.args.writer.now) c.in-Err.error d.2),
     )
 
@@ -38,7 +37,7 @@ returns-in-Ok-clause-reads g c =
     let IsAnswer = Answers IsGettextAnswer c.args.part c.args.locale.now in
     let d = c.in-Ok.ensures.document in
     let rules = d.2 in
-    let served = text_served c.args.part c.args.locale.now (view c.in-Ok.document) rules.0 rules.2 IsGettextAnswer
+    let served = text_served c.args.part c.args.locale.now (view c.in-Ok.document) rules.0 rules.2 rules.3 IsGettextAnswer
     (g.W.Write.contents c.args.writer.now) (g.W.Write.contents c.gettext_by.new.writer) (g.E.Write.contents c.args.notes.now)
     (g.E.Write.contents c.gettext_by.new.notes) c.gettext_by.result c.gettext_by.ensures.answers in
     let old = g.W.Write.contents c.args.writer.now in

@@ -4,9 +4,9 @@ use crate::tests::assertion::holds;
 use crate::tests::awaits::awaiting;
 use crate::tests::forms::asked::{
     Asked, BESIDE_A_NUMBER, LINES, NOTE_OF_ANOTHER_LANGUAGE, OF_A_LONG_CHAIN, OF_ANOTHER_LANGUAGE,
-    RULES, answer,
+    RULES, WITHOUT_THE_LANGUAGE, answer,
 };
-use form_commands::FormsError;
+use form_commands::{FormsError, LanguageError, SimilarKeys};
 use std::alloc::Global;
 use std::process::Abort;
 
@@ -92,4 +92,49 @@ fn growth_where_a_second_outline_serves(rt: HostRuntime) {
 #[test]
 fn growth_where_all_of_the_part_serves(rt: HostRuntime) {
     hold_again(&rt, rt.alloc(), OF_A_LONG_CHAIN, &OF_FRENCH)
+}
+
+// Returns whether the language is told as unknown, with the first three keys, and nothing is written.
+// `None` if memory ran out and nothing was written.
+fn tells_unknown(alloc: Global, asked: Asked) -> Option<bool> {
+    let (mut rules, mut lines) = (WITHOUT_THE_LANGUAGE, LINES);
+    let (mut writer, mut notes) = (awaiting(""), awaiting(""));
+    let answer = answer(
+        alloc,
+        asked,
+        &mut rules,
+        &mut lines,
+        &mut writer,
+        &mut notes,
+    );
+    let untouched = writer.is_untouched(0) && notes.is_untouched(0);
+    match answer {
+        Err(FormsError::Memory) if untouched => None,
+        Err(FormsError::Language(LanguageError::Unknown(_, locale, similar))) => {
+            Some(untouched && locale.as_str() == "en-GB" && are_first_three(&similar))
+        }
+        _ => Some(false),
+    }
+}
+
+// Returns whether these are the first three keys.
+fn are_first_three(similar: &SimilarKeys) -> bool {
+    match similar {
+        SimilarKeys::Three(first, second, third) => {
+            first.as_str() == "e" && second.as_str() == "eng" && third.as_str() == "enx"
+        }
+        _ => false,
+    }
+}
+
+#[test]
+fn growth_of_an_unknown_language(rt: HostRuntime) {
+    let asked = [Asked::List, Asked::Gettext, Asked::Numbers, Asked::Lines];
+    let mut refused = 0u32;
+    for one in asked {
+        let told = tells_unknown(rt.alloc(), one);
+        holds!(rt; told.unwrap_or(true), at one);
+        refused = refused.saturating_add(u32::from(told.is_none()));
+    }
+    holds!(rt; refused <= 1, at refused);
 }

@@ -4,7 +4,7 @@ use crate::call::Call;
 use crate::kinds::five_rules::print_rules;
 use crate::kinds::locales::{next_provider, next_type};
 use plural_base::PluralRuleType;
-use plural_fallback::{FallbackProvider, MOST_LOCALES, Part, find_first, next_locale};
+use plural_fallback::{FallbackProvider, MOST_LOCALES, Part, find_first, is_unknown, next_locale};
 use serde_json::Value;
 
 /// Makes the call of a kind of this file. Returns whether there is such a kind.
@@ -14,6 +14,7 @@ pub fn make(kind: &str, call: &mut Call) -> bool {
         "fallback_key" => fallback_key(call),
         "fallback_rules" => fallback_rules(call),
         "fallback_ranges" => fallback_ranges(call),
+        "fallback_unknown" => fallback_unknown(call),
         _ => return false,
     }
     true
@@ -119,5 +120,16 @@ fn fallback_ranges(call: &mut Call) {
             }
         }
         Err(error) => call.print_error(&error),
+    }
+}
+
+// Whether the language of a locale is unknown, by the first key of its chain.
+fn fallback_unknown(call: &mut Call) {
+    let locale = call.text();
+    let key = call.text();
+    if is_unknown(locale.as_str(), key.as_str()) {
+        call.print("unknown");
+    } else {
+        call.print("known");
     }
 }
