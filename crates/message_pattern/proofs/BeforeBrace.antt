@@ -1,11 +1,12 @@
 -- What is read from a text, is read from it before a brace.
-use Rattle.std.proofs.Common.{◌≡◌, ◌==◌, ◌≤◌, ◌-◌, ℕ, zero, suc, List, [], ◌∷◌, ◌++◌, Bool, true, false, ◌&&◌, ◌||◌, length, refl, ap, subst, arith, ◌∙◌, if◌then◌else◌}
+use Rattle.std.proofs.Common.{◌≡◌, ◌==◌, ◌≤◌, ◌-◌, ℕ, zero, suc, List, [], ◌∷◌, ◌++◌, Bool, true, false, ◌&&◌, ◌||◌, length, refl, sym, ap, subst, arith, ◌∙◌, if◌then◌else◌}
+use Rattle.std.proofs.lemmas.List.{append_cancel_right}
 use Rattle.message_pattern.specs.declared.bytes.Class.{Class}
 use Rattle.message_pattern.specs.declared.bytes.Class.TheVariants.{Name, Letter}
 use Rattle.message_pattern.specs.PatternBytes.{closing, is_between, is_in, begins, class_front, behind_run, white_width, skip, after_white}
 use Rattle.message_pattern.specs.PatternGrammar.{IsLongest}
 use Rattle.message_pattern.proofs.Longest.{is_longest, longest_run, longest_rest}
-use Rattle.message_pattern.proofs.HeadsBack.{closing_stays}
+use Rattle.message_pattern.proofs.HeadsBack.{closing_stays, closing_ends, name_moved}
 
 -- ---- white space
 
@@ -104,3 +105,15 @@ longest_before k f s w t r l =
     subst (λ (u : List ℕ). IsLongest k z u (t ++ closing ∷ r)) (front_before k f s r ∙ longest_run k s w t l)
     (subst (λ (u : List ℕ). IsLongest k z (class_front k z) u)
     (behind_before k f s r ∙ ap (λ (u : List ℕ). u ++ closing ∷ r) (longest_rest k s w t l)) (is_longest k z))
+
+-- a name that stands alone
+pub name_alone : (s name t : List ℕ) → IsLongest Name s name t → class_front Name name ≡ name
+name_alone s name t l =
+    sym (front_before Name name_ends name [])
+    ∙ longest_run Name (name ++ closing ∷ []) name (closing ∷ []) (name_moved closing s name t [] closing_ends l)
+
+pub name_whole : (s name t : List ℕ) → IsLongest Name s name t → behind_run Name name ≡ []
+name_whole s name t l =
+    append_cancel_right (behind_run Name name) [] (closing ∷ [])
+    (sym (behind_before Name name_ends name [])
+    ∙ longest_rest Name (name ++ closing ∷ []) name (closing ∷ []) (name_moved closing s name t [] closing_ends l))

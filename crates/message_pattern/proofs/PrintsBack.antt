@@ -1,8 +1,8 @@
 -- The parts of a pattern have a printed text, which is read as a pattern that says the same.
 use Rattle.std.proofs.Common.{◌≡◌, ◌⊎◌, ◌+◌, ◌<◌, ◌==◌, ℕ, List, [], ◌∷◌, ◌++◌, Bool, true, false, ◌&&◌, ◌||◌, Option, Some, None, inl, inr, refl, sym, ap, subst, ◌∙◌, append_assoc, if◌then◌else◌}
-use Rattle.std.proofs.lemmas.List.{append-nil}
+use Rattle.std.proofs.lemmas.List.{append-nil, map-append}
 use Rattle.message_pattern.specs.declared.head.Formats.{Formats}
-use Rattle.message_pattern.specs.declared.head.Formats.TheVariants.{Allowed}
+use Rattle.message_pattern.specs.declared.head.Formats.TheVariants.{Refused, Allowed}
 use Rattle.message_pattern.specs.declared.part.ArgumentKind.{ArgumentKind}
 use Rattle.message_pattern.specs.declared.part.ArgumentKind.TheVariants.{Plural, Ordinal, Select}
 use Rattle.message_pattern.specs.declared.reader.TheConstants.{DEPTH_LIMIT}
@@ -19,6 +19,10 @@ use Rattle.message_pattern.specs.PatternGrammar.{IsSimpleText, IsReadAt, IsSelec
 use Rattle.message_pattern.specs.PatternPrinting.{letters, spelled, end_of_quote, text_text, quoted_behind, kind_text, offset_text, selector_text, IsPrinted, PrintsAs, IsReadAlike}
 use Rattle.message_pattern.specs.PatternPrinting as prints
 use Rattle.message_pattern.specs.PatternAnswers.{IsTextOf}
+use Rattle.message_pattern.specs.StyledParts.{name_of, unstyled_part, unstyled, UnstyledPrintsBack}
+use Rattle.message_pattern.specs.declared.bytes.Class.TheVariants.{Name}
+use Rattle.message_pattern.proofs.Longest.{longest_run}
+use Rattle.message_pattern.proofs.BeforeBrace.{name_alone}
 use Rattle.message_pattern.proofs.Spelled.{spelled-append}
 use Rattle.message_pattern.proofs.TextBack.{IsReadAs, quotes, text_back, quote_back}
 use Rattle.message_pattern.proofs.SimpleHeads.{simple_first}
@@ -276,3 +280,45 @@ pub prints_back : {formats : Formats} (source : List ℕ) (parts : List Part) �
 prints_back {formats = formats} source parts h =
     let b = back h false [] [] (inl (refl, refl, refl)) in
     (b.0, b.1, (b.2.0, subst (λ (u : List ℕ). IsReadAt formats (InMessage Whole 0 false) u b.2.0 []) (append-nil b.0) b.2.1, b.2.2))
+
+-- ---- without simple formats
+
+unstyled_piece_is : (c : Context) (d : ℕ) (p : Option PatternPiece) (r : Bool) (t : List ℕ) → IsMessagePiece c (Takes p r t)
+    → unstyled (at_most_one d p) ≡ at_most_one d p
+unstyled_piece_is c d None r t e = refl
+unstyled_piece_is c d (Some (Text s)) r t e = refl
+unstyled_piece_is c d (Some Hash) r t e = refl
+unstyled_piece_is c d (Some (Argument name)) r t e = absurd e
+unstyled_piece_is c d (Some (Begin kind name offset)) r t e = absurd e
+unstyled_piece_is c d (Some (Branch sel)) r t e = absurd e
+unstyled_piece_is c d (Some piece.End) r t e = absurd e
+
+name_back_as : (d : ℕ) (s name t n : List ℕ) → IsNameOrNumber s name t → n ≡ name → IsBack Refused (InArgument d) (one d (Argument n))
+name_back_as d s name t n h e = subst (λ (l : List ℕ). IsBack Refused (InArgument d) (one d (Argument l))) (sym e) (none_back d s name t h)
+
+unstyled_back : {place : PatternPlace} {s rest : List ℕ} {parts : List Part} → IsReadAt Allowed place s parts rest → IsBack Refused place (unstyled parts)
+unstyled_back (message_ends c d q s e w) = λ k. ends_back c d k
+unstyled_back (message_closes c d q s rest e) = λ k. ends_back c d k
+unstyled_back (message_text c d q r s t rest p more e h) = λ k.
+    let is = piece_is c q r s t p e in
+    subst (λ (l : List Part). MessageBack Refused c d k l)
+    (sym (map-append unstyled_part (at_most_one d p) more ∙ ap (λ (l : List Part). l ++ unstyled more) (unstyled_piece_is c d p r t is)))
+    (pieces_back c d p r t (unstyled more) is (unstyled_back h) k)
+unstyled_back (message_argument c d q s t u rest inner more e h k) = λ j.
+    subst (λ (l : List Part). MessageBack Refused c d j l) (sym (map-append unstyled_part inner more))
+    (argument_part c d j (unstyled inner) (unstyled more) (unstyled_back h) (unstyled_back k false))
+unstyled_back (none_arg d s name t rest i e) = name_back_as d (after_white s) name t (name_of name) i (name_alone (after_white s) name t i.bytes)
+unstyled_back (simple_arg d s text name word rest style a w h) =
+    name_back_as d text name h.behind_name (name_of text) h.named (longest_run Name text name h.behind_name h.named.bytes)
+unstyled_back (complex_arg d kind offset s name t u v w x rest more i e j f o h) =
+    complex_back d kind offset (after_white s) name t w x (unstyled more) i o (unstyled_back h)
+unstyled_back (style_branch d kind other sel s t u v rest inner more i e room h k) =
+    subst (λ (l : List Part). IsBack Refused (InBranches kind d other) (one d (Branch sel) ++ l)) (sym (map-append unstyled_part inner more))
+    (branch_part d kind other sel (after_white s) t (unstyled inner) (unstyled more) i room (unstyled_back h false) (unstyled_back k))
+unstyled_back (style_ends d kind s rest e) = style_end d kind
+
+-- without simple formats, the parts are printed as a text that is read back
+pub unstyled_prints : UnstyledPrintsBack
+unstyled_prints source parts h =
+    let b = unstyled_back h false [] [] (inl (refl, refl, refl)) in
+    (b.0, b.1, (b.2.0, subst (λ (u : List ℕ). IsReadAt Refused (InMessage Whole 0 false) u b.2.0 []) (append-nil b.0) b.2.1, b.2.2))

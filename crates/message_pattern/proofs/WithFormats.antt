@@ -10,9 +10,9 @@ use Rattle.message_pattern.specs.declared.styled_argument.SimpleFormat as format
 use Rattle.message_pattern.specs.PatternParts.{Part, part_view, parts_view}
 use Rattle.message_pattern.specs.PatternReading.{PatternPlace}
 use Rattle.message_pattern.specs.PatternGrammar.{IsReadAt, IsNameOrNumber, IsSimpleText, IsStyleBehind, message_ends, message_closes, message_text, message_argument, none_arg, simple_arg, complex_arg, style_branch, style_ends}
-use Rattle.message_pattern.specs.StyledParts.{SpecFormat, name_of, style_behind, format_behind, format_of, unstyled_part, unstyled}
-use Rattle.message_pattern.specs.Inner.StyledViews.{style_view, format_view}
+use Rattle.message_pattern.specs.StyledParts.{SpecFormat, name_of, style_behind, format_behind, format_of, style_view, format_view, unstyled_part, unstyled}
 use Rattle.message_pattern.proofs.Longest.{longest_run, longest_rest}
+use Rattle.message_pattern.proofs.BeforeBrace.{name_alone, name_whole}
 
 -- what is read without simple formats, is read with them
 pub styled_too : {place : PatternPlace} {s rest : List ℕ} {parts : List Part} → IsReadAt Refused place s parts rest → IsReadAt Allowed place s parts rest
@@ -28,8 +28,8 @@ styled_too (style_branch d kind other sel s t u v rest inner more i e room h k) 
 styled_too (style_ends d kind s rest e) = style_ends d kind s rest e
 
 -- a name alone has no format
-pub name_apart : (name : List ℕ) → IsNameOrNumber name name [] → (name_of name ≡ name) × (format_of name ≡ None)
-name_apart name h = (longest_run Name name name [] h.bytes, ap (λ (l : List ℕ). format_behind (after_white l)) (longest_rest Name name name [] h.bytes))
+pub name_apart : (s name rest : List ℕ) → IsNameOrNumber s name rest → (name_of name ≡ name) × (format_of name ≡ None)
+name_apart s name rest h = (name_alone s name rest h.bytes, ap (λ (l : List ℕ). format_behind (after_white l)) (name_whole s name rest h.bytes))
 
 style_apart : (s : List ℕ) (style : Option (List ℕ)) → IsStyleBehind s style → style_behind s ≡ style
 style_apart s None h = ap style_behind h

@@ -2,7 +2,7 @@
 
 ghost use Rattle.message_pattern.specs.PatternAnswers.{EveryTextIsRead, AreReadOneWay, PatternsAreStyled};
 ghost use Rattle.message_pattern.specs.PatternPrinting.{HaveOnePrintedText, PatternsPrintBack};
-ghost use Rattle.message_pattern.specs.StyledParts.{TextsAreTakenApart};
+ghost use Rattle.message_pattern.specs.StyledParts.{TextsAreTakenApart, UnstyledPrintsBack};
 
 /// A text is read in at most one way: it has one list of parts, or one first fault, and never both;
 /// likewise where simple formats are read.
@@ -35,4 +35,10 @@ pub fn patterns_are_styled()
 /// argument is what the grammar finds there: its name, and the type and the style of its format.
 pub fn texts_are_taken_apart()
     ensures { TextsAreTakenApart }
+{}
+
+/// Without its simple formats, a pattern prints as a text that is read as a pattern that says the
+/// same: what [`StyledPattern::into_pattern`](crate::StyledPattern::into_pattern) returns is one.
+pub fn unstyled_prints_back()
+    ensures { UnstyledPrintsBack }
 {}

@@ -3,8 +3,7 @@
 ghost use Rattle.std.specs.Prelude.{◌≡◌};
 ghost use Rattle.message_pattern.specs.declared.bytes.Class.TheVariants.{Letter};
 ghost use Rattle.message_pattern.specs.PatternBytes.{after_white, behind_run, class_front};
-ghost use Rattle.message_pattern.specs.StyledParts.{format_behind, format_of, name_of, style_behind};
-ghost use Rattle.message_pattern.specs.Inner.StyledViews.{format_view, style_view};
+ghost use Rattle.message_pattern.specs.StyledParts.{format_behind, format_of, format_view, name_of, style_behind, style_view};
 
 use crate::bytes::{Class, after_white, split_run};
 
