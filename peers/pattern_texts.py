@@ -12,7 +12,10 @@ BLANKS_ABOVE_ASCII = ("\u2028", "\u2029", "\u200e", "\u200f", "\x85")
 # What only one side reads, or neither.
 SIMPLE = ("number", "date", "time", "spellout", "x", "NUMBER", "pluralx", "plura")
 STYLES = ("short", "::currency/EUR", "#,##0.00", "{x}", "'}'", "a'b'c", "")
-STYLE_PIECES = ("short", "#,##0.00", "::currency/EUR", " ", " ", "{", "}", "{x}", "{a{b}c}", "'", "''", "'{'", "'}'", "'a b'", "h 'o''clock' a", "é", "имя", "\n", ",", "#", "|", "")
+STYLE_PIECES = (
+    "short", "#,##0.00", "::currency/EUR", " ", " ", "{", "}", "{x}", "{a{b}c}", "'", "''", "'{'", "'}'", "'a b'", "h 'o''clock' a", "é",
+    "имя", "\n", ",", "#", "|", "",
+)  # fmt: skip
 CHOICES = ("0#a|1#b", "0#none|1<some {n}", "0\u2264a", "-1#x|\u221e#y", "0#a|", "|", "")
 ODD_NUMBERS = ("+1", "+1", "1e3", "1E3", "1e3", ".5", ".5", "5.", "5.", "-.5", "1.5e-1", "1e", "--1", "+-1", "1e400", "1.2.3", "\u221e", "-", "", "0x1", "1" * 127, "1" * 128, "0" * 200, "1_0", "32768")
 ODD_NAMES = ("«n»", "n\u2028", "a\x01", "\x7f", "n\x00", "40000", "32767", "32768", "00", "01", "a-b", "a.b", "n\x85n", "×", "a–b", "\u3000", "", "9" * 30, "\ufd3e")
