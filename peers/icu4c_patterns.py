@@ -13,6 +13,7 @@ from library import BUILD, TOP, Missing, compiler, output
 HEADER = "#include <unicode/messagepattern.h>\n"
 UNEXPLAINED = "unexplained"
 SEVERAL = "several of these"
+ONLY_CHOICE = "choice"
 TOGETHER = 10000
 LONGEST_EXAMPLE = 300
 # What a part of MessagePattern is (UMessagePatternPartType), and its arguments (UMessagePatternArgType).
@@ -54,9 +55,10 @@ class Simple(Exception):
 
 
 class Walk:
-    """Walks over MessagePattern's parts. What is text isn't among them: it is what stands between."""
+    """Walks over MessagePattern's parts. What is text isn't among them: it is what stands between. styled: over simple arguments, too."""
 
-    def __init__(self, text, line):
+    def __init__(self, text, line, styled):
+        self.styled = styled
         self.units = text.encode("utf-16-le")
         self.given = [tuple(map(int, it.split(":"))) for it in line.split(" ")[1:]]
         self.next, self.parts = 0, []
@@ -91,10 +93,12 @@ class Walk:
     def argument(self, depth, kind, begins):
         """Walks over an argument, and returns the unit behind it."""
         name = self.shown(self.taken())
-        if kind in (SIMPLE, CHOICE):
+        if kind == CHOICE or kind == SIMPLE and not self.styled:
             raise Simple(self.parts, begins)
         if kind == PLAIN:
             self.parts.append((depth, ("argument", name)))
+        elif kind == SIMPLE:
+            self.parts.append((depth, ("styled", name, *self.format())))
         else:
             self.parts.append((depth, ("begin", KINDS[kind], name, self.number())))
             while self.given[self.next][0] == SELECTOR:
@@ -103,6 +107,12 @@ class Walk:
         part = self.taken()
         assert part[0] == ARGUMENT_ENDS
         return part[1] + part[2]
+
+    def format(self):
+        """Returns the type and the style that come next, or None for no style."""
+        kind, word = self.given[self.next][0], self.shown(self.taken())
+        assert kind == TYPE
+        return word, self.shown(self.taken()) if self.given[self.next][0] == STYLE else None
 
     def number(self):
         """Returns the number that comes next, or None."""
@@ -115,11 +125,12 @@ class Walk:
         self.message(depth + 1)
 
 
-def icu4c_reading(text, line):
-    """Returns ICU4C's parts, or None where it refuses the text, and the unit where a simple argument begins, behind which no part is told."""
+def icu4c_reading(text, line, styled):
+    """Returns ICU4C's parts, or None where it refuses the text, and the unit where an argument begins that isn't read here, behind which no
+    part is told."""
     if not line.startswith("parts"):
         return None, None
-    walk = Walk(text, line)
+    walk = Walk(text, line, styled)
     try:
         walk.message(0)
     except Simple as simple:
@@ -137,33 +148,39 @@ def is_simple(text, fault, at):
     return "{" not in text[len(text.encode("utf-16-le")[: 2 * at + 2].decode("utf-16-le")) : fault.at]
 
 
-def is_as_icu4c(text, changes, theirs, at):
+def compared(parts):
+    """Returns the parts as ICU4C tells of them: a simple argument by its name, its type and its style."""
+    return patterns.joined([(depth, piece[:4] if piece[0] == "styled" else piece) for depth, piece in parts])
+
+
+def is_as_icu4c(text, changes, theirs, at, styled):
     """Returns whether the reader with these changes does with a text what ICU4C does."""
-    parts, fault = patterns.read(text, changes)
+    parts, fault = patterns.read(text, changes, styled)
     if patterns.SIMPLE in changes and is_simple(text, fault, at):
-        return patterns.joined(parts) == theirs
+        return compared(parts) == theirs
     if theirs is None or at is not None:
         return theirs is None and fault is not None
-    return fault is None and patterns.joined(parts) == theirs
+    return fault is None and compared(parts) == theirs
 
 
-def difference(text, theirs, at):
+def difference(text, theirs, at, styled):
     """Returns the class of the difference of a pattern, or None: the least changes of the reader that make ICU4C's reading of it."""
-    if is_as_icu4c(text, (), theirs, at):
+    if is_as_icu4c(text, (), theirs, at, styled):
         return None
     for count in range(1, len(patterns.CHANGES) + 1):
         for changes in itertools.combinations(patterns.CHANGES, count):
-            if is_as_icu4c(text, changes, theirs, at):
-                return changes[0] if count == 1 else SEVERAL
+            if is_as_icu4c(text, changes, theirs, at, styled):
+                return (ONLY_CHOICE if styled and changes[0] == patterns.SIMPLE else changes[0]) if count == 1 else SEVERAL
     return UNEXPLAINED
 
 
 class Comparison:
     """Counts of patterns and of differences by class, and the shortest pattern of each."""
 
-    def __init__(self):
+    def __init__(self, styled):
         self.counts = Counter()
         self.shortest = {}
+        self.styled = styled
 
     def add(self, name, text):
         self.counts["different"] += 1
@@ -172,28 +189,41 @@ class Comparison:
             self.shortest[name] = text
 
     def compare(self, text, line):
-        theirs, at = icu4c_reading(text, line)
-        _, fault = patterns.read(text)
+        theirs, at = icu4c_reading(text, line, self.styled)
+        parts, fault = patterns.read(text, styled=self.styled)
+        self.counts["simple formats"] += 0 if fault else sum(piece[0] == "styled" for _, piece in parts)
         self.counts["compared"] += 1
         self.counts["both read" if theirs is not None and not fault else "both refuse" if theirs is None and fault else "one refuses"] += 1
-        name = difference(text, theirs, at)
+        name = difference(text, theirs, at, self.styled)
         if name:
             self.add(name, text)
 
 
-def rows(texts):
+def rows(texts, styled):
     """Returns rows that want of the library what docs/PATTERNS.md says of these patterns."""
-    return [cases_program.row("pattern", json.dumps(it), patterns.row_result(it)) for it in texts]
+    if not styled:
+        return [cases_program.row("pattern", json.dumps(it), patterns.row_result(it)) for it in texts]
+    return [
+        cases_program.row(kind, json.dumps(it), result(it))
+        for it in texts
+        for kind, result in (
+            ("styled_pattern", lambda text: patterns.row_result(text, True)),
+            ("styled_print", lambda text: patterns.printed_result(text, True)),
+            ("unstyled_pattern", patterns.unstyled_result),
+        )
+    ]
 
 
-def compare(cases, seed, count, say):
-    """Returns the counts of random patterns: what docs/PATTERNS.md says is compared with ICU4C, and the library with what it says."""
-    path, random, comparison, run = program(), Random(seed), Comparison(), cases_program.Run(cases)
+def compare(cases, seed, count, say, styled=False):
+    """Returns the counts of random patterns: what docs/PATTERNS.md says is compared with ICU4C, and the library with what it says. styled:
+    with simple formats."""
+    path, random, comparison, run = program(), Random(seed), Comparison(styled), cases_program.Run(cases)
+    draw = pattern_texts.styled_text if styled else pattern_texts.text
     for first in range(0, count, TOGETHER):
-        texts = [pattern_texts.text(random) for _ in range(min(TOGETHER, count - first))]
+        texts = [draw(random) for _ in range(min(TOGETHER, count - first))]
         for text, line in zip(texts, asked(path, [f"parse\t{digits(it)}" for it in texts])):
             comparison.compare(text, line)
-        run.add(rows(texts))
+        run.add(rows(texts, styled))
     for said in run.wrong_rows().values():
         comparison.add(UNEXPLAINED, said)
     for name, text in comparison.shortest.items():

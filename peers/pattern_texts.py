@@ -12,6 +12,10 @@ BLANKS_ABOVE_ASCII = ("\u2028", "\u2029", "\u200e", "\u200f", "\x85")
 # What only one side reads, or neither.
 SIMPLE = ("number", "date", "time", "spellout", "x", "NUMBER", "pluralx", "plura")
 STYLES = ("short", "::currency/EUR", "#,##0.00", "{x}", "'}'", "a'b'c", "")
+STYLE_PIECES = (
+    "short", "#,##0.00", "::currency/EUR", " ", " ", "{", "}", "{x}", "{a{b}c}", "'", "''", "'{'", "'}'", "'a b'", "h 'o''clock' a", "é",
+    "имя", "\n", ",", "#", "|", "",
+)  # fmt: skip
 CHOICES = ("0#a|1#b", "0#none|1<some {n}", "0\u2264a", "-1#x|\u221e#y", "0#a|", "|", "")
 ODD_NUMBERS = ("+1", "+1", "1e3", "1E3", "1e3", ".5", ".5", "5.", "5.", "-.5", "1.5e-1", "1e", "--1", "+-1", "1e400", "1.2.3", "\u221e", "-", "", "0x1", "1" * 127, "1" * 128, "0" * 200, "1_0", "32768")
 ODD_NAMES = ("«n»", "n\u2028", "a\x01", "\x7f", "n\x00", "40000", "32767", "32768", "00", "01", "a-b", "a.b", "n\x85n", "×", "a–b", "\u3000", "", "9" * 30, "\ufd3e")
@@ -26,10 +30,10 @@ TOKENS = (
 
 
 class Made:
-    """Makes patterns from random choices; is_odd: with what only one side reads."""
+    """Makes patterns from random choices; is_odd: with what only one side reads; is_styled: with many simple formats."""
 
-    def __init__(self, random, is_odd, words=WORDS):
-        self.random, self.is_odd, self.words = random, is_odd, words
+    def __init__(self, random, is_odd, words=WORDS, is_styled=False):
+        self.random, self.is_odd, self.words, self.is_styled = random, is_odd, words, is_styled
 
     def pick(self, words, odd=()):
         if odd and self.is_odd and self.random.random() < 0.25:
@@ -68,12 +72,19 @@ class Made:
         return "{" + self.wide_blank() + self.pick(NAMES, ODD_NAMES) + self.blank_after_name()
 
     def argument(self):
+        if self.is_styled and self.random.random() < 0.7:
+            return self.simple()
         if not self.is_odd or self.random.random() < 0.7:
             return self.head() + "}"
         if self.random.random() < 0.3:
             return f"{self.head()},{self.wide_blank()}choice{self.blank()},{self.pick(CHOICES)}}}"
         style = "," + self.pick(STYLES) if self.random.random() < 0.5 else ""
         return f"{self.head()},{self.blank()}{self.pick(SIMPLE)}{self.blank()}{style}}}"
+
+    def simple(self):
+        word = self.pick(SIMPLE, TYPES)
+        style = "" if self.random.random() < 0.3 else "," + "".join(self.pick(STYLE_PIECES) for _ in range(self.random.randrange(4)))
+        return f"{self.head()},{self.wide_blank()}{word}{self.wide_blank()}{style}}}"
 
     def choice(self, depth):
         kind = self.pick(TYPES)
@@ -139,8 +150,8 @@ def without_mark(random, text):
 DAMAGES = (cut, without, with_token, with_copy, replaced, without_mark, without_mark)
 
 
-def damaged(random):
-    text = (odd if random.random() < 0.2 else valid)(random)
+def damaged(random, text=None):
+    text = text or (odd if random.random() < 0.2 else valid)(random)
     for _ in range(random.choice((1, 1, 1, 2, 3))):
         text = random.choice(DAMAGES)(random, text)
     return text
@@ -200,3 +211,15 @@ KINDS = (*[valid] * 8, *[odd] * 3, *[damaged] * 5, *[hostile] * 4)
 def text(random):
     """Returns a random pattern of any of these."""
     return random.choice(KINDS)(random)
+
+
+def styled(random):
+    return Made(random, random.random() < 0.2, is_styled=True).message(0)
+
+
+def styled_text(random):
+    """Returns a random pattern of any of these, many of which have simple formats."""
+    kind = random.random()
+    if kind < 0.5:
+        return styled(random)
+    return damaged(random, styled(random)) if kind < 0.85 else text(random)

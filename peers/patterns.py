@@ -1,7 +1,8 @@
 """Patterns of messages as docs/PATTERNS.md has them: a reader that shares nothing with the library's, and what ICU4C reads otherwise.
 
 A pattern is read into parts, pairs of a depth and a piece. A piece is a text; HASH; or a tuple: ("argument", name),
-("begin", type, name, offset or None), ("exactly", number), ("keyword", word) or ("end",)."""
+("begin", type, name, offset or None), ("exactly", number), ("keyword", word) or ("end",). Where simple formats are read, too, an argument
+with one is ("styled", name, type, style or None, all that stands between its braces)."""
 import re
 
 DEPTH_LIMIT = 32
@@ -37,6 +38,7 @@ DOUBLE_RUN = re.compile("[-+.0-9eE\u221e]*")
 DOUBLE = re.compile(r"[-+]?([0-9]+\.?[0-9]*|\.[0-9]+)([eE][-+]?[0-9]+)?")
 PLAIN = re.compile("[^'{}#]+")
 UNQUOTED = re.compile("[^']+")
+STYLE_PIECE = re.compile("'[^']*'|[^'{}]+|[{}]")
 LARGEST_ARGUMENT = 32767
 LONGEST_WORD = 65535
 LONGEST_DOUBLE = 127
@@ -64,9 +66,9 @@ def units(text):
 class Reader:
     """Reads a pattern, with changes of what it reads as ICU4C does."""
 
-    def __init__(self, text, changes=()):
+    def __init__(self, text, changes=(), styled=False):
         self.text, self.at, self.parts = text, 0, []
-        self.changes = changes
+        self.changes, self.styled = changes, styled
         self.name_form = name_form(changes)
 
     def take(self, form):
@@ -141,7 +143,7 @@ class Reader:
     def argument(self, depth):
         """Reads an argument from behind its brace."""
         self.skip_blanks()
-        name = self.name()
+        begins, name = self.at, self.name()
         self.skip_blanks()
         mark = self.next()
         if mark == "}":
@@ -149,7 +151,7 @@ class Reader:
             self.add(depth, ("argument", name))
         elif mark == ",":
             self.at += 1
-            self.choice(name, depth)
+            self.typed(begins, name, depth)
         else:
             self.fail("ExpectedEnd")
 
@@ -164,15 +166,45 @@ class Reader:
             self.fail("BadNumber", at)
         return name
 
-    def choice(self, name, depth):
-        """Reads an argument that chooses, from its type on."""
+    def typed(self, begins, name, depth):
+        """Reads an argument with a type, from this on."""
         self.skip_blanks()
         at, word = self.at, self.take(LETTERS)
         if not word:
             self.fail("ExpectedType")
-        if word.lower() not in TYPES:
+        if word.lower() in TYPES:
+            self.choice(TYPES[word.lower()], name, depth)
+        elif self.styled and word.lower() != "choice":
+            self.simple(begins, name, word, depth)
+        else:
             self.fail("UnsupportedType", at)
-        kind = TYPES[word.lower()]
+
+    def simple(self, begins, name, word, depth):
+        """Reads an argument with a simple format, from behind its type on."""
+        self.skip_blanks()
+        mark = self.next()
+        if mark not in ",}":
+            self.fail("ExpectedEnd")
+        self.at += 1
+        style = self.style() if mark == "," else None
+        if SIZES in self.changes and max(units(word), units(style or "")) > LONGEST_WORD:
+            self.fail("Unclosed", begins)
+        self.add(depth, ("styled", name, word, style, self.text[begins : self.at - 1]))
+
+    def style(self):
+        """Reads a style, up to behind the brace that ends it."""
+        begins, opened = self.at, 0
+        while True:
+            found = STYLE_PIECE.match(self.text, self.at)
+            if not found:
+                self.fail("Unclosed", len(self.text))
+            self.at = found.end()
+            if found.group() == "}" and not opened:
+                return self.text[begins : self.at - 1]
+            opened += {"{": 1, "}": -1}.get(found.group(), 0)
+
+    def choice(self, kind, name, depth):
+        """Reads an argument that chooses, from behind its type on."""
         self.skip_blanks()
         if self.next() != ",":
             self.fail("ExpectedStyle")
@@ -260,9 +292,9 @@ class Reader:
                 self.fail("ExpectedValue", at)
 
 
-def read(text, changes=()):
-    """Returns the parts of a pattern and None, or the parts before its first fault and this fault."""
-    reader = Reader(text, changes)
+def read(text, changes=(), styled=False):
+    """Returns the parts of a pattern and None, or the parts before its first fault and this fault. styled: with simple formats."""
+    reader = Reader(text, changes, styled)
     try:
         reader.message(WHOLE, 0)
     except Fault as fault:
@@ -305,6 +337,8 @@ def printed(parts):
             found.append("#")
         elif word == "argument":
             found.append(f"{{{piece[1]}}}")
+        elif word == "styled":
+            found.append(f"{{{piece[4]}}}")
         elif word == "begin":
             _, kind, name, offset = piece
             kinds.append(kind)
@@ -333,6 +367,9 @@ def piece_text(piece):
     if word == "begin":
         _, kind, name, offset = piece
         return f"{kind}({name})" + ("" if offset is None else f"-{offset}")
+    if word == "styled":
+        _, name, kind, style, _ = piece
+        return f"{{{name}|{kind}" + ("" if style is None else f"|{quoted(style)}") + "}"
     return {"hash": "#", "end": "/", "argument": "{%s}", "exactly": "=%s", "keyword": "%s"}[word].replace("%s", "".join(piece[1:]))
 
 
@@ -340,15 +377,24 @@ def error_text(text, fault):
     return f"error Fault({fault.kind}, {len(text[: fault.at].encode())})"
 
 
-def row_result(text):
+def row_result(text, styled=False):
     """Returns what the row of a pattern wants."""
-    parts, fault = read(text)
+    parts, fault = read(text, styled=styled)
     if fault:
         return error_text(text, fault)
     return " ".join(f"{depth}:{piece_text(piece)}" for depth, piece in parts) or "none"
 
 
-def printed_result(text):
+def printed_result(text, styled=False):
     """Returns what the row of a pattern that is printed wants."""
-    parts, fault = read(text)
+    parts, fault = read(text, styled=styled)
     return error_text(text, fault) if fault else quoted(printed(parts))
+
+
+def unstyled_result(text):
+    """Returns what the row of a pattern without its simple formats wants."""
+    parts, fault = read(text, styled=True)
+    if fault:
+        return error_text(text, fault)
+    plain = [(depth, ("argument", piece[1]) if not isinstance(piece, str) and piece[0] == "styled" else piece) for depth, piece in parts]
+    return " ".join(f"{depth}:{piece_text(piece)}" for depth, piece in plain) or "none"

@@ -1,18 +1,24 @@
 -- What the grammar says of heads is read so.
-use Rattle.std.proofs.Common.{◌≡◌, ◌≢◌, ◌==◌, ℕ, List, [], ◌∷◌, ◌++◌, Bool, true, false, ◌&&◌, Option, Some, None, Result, Ok, Err, codes, refl, sym, ap, subst, ◌∙◌, if◌then◌else◌}
+use Rattle.std.proofs.Common.{◌≡◌, ◌≢◌, ◌==◌, ℕ, List, [], ◌∷◌, ◌++◌, Bool, true, false, not, ◌&&◌, Option, Some, None, is_none, Result, Ok, Err, codes, refl, sym, ap, subst, ◌∙◌, if◌then◌else◌}
 use Rattle.std.proofs.lemmas.Bool.{eqb-true}
+use Rattle.std.specs.Str.{str_eq_ignore_ascii_case}
 use Rattle.message_pattern.specs.declared.bytes.Class.TheVariants.{Name, Number, Digit, Letter}
 use Rattle.message_pattern.specs.declared.error.Fault.{Fault}
 use Rattle.message_pattern.specs.declared.error.FaultKind.TheVariants.{ExpectedName, BadNumber, ExpectedType, ExpectedOffset, ExpectedSelector, ExpectedValue, MissingOther}
+use Rattle.message_pattern.specs.declared.head.Formats.{Formats}
+use Rattle.message_pattern.specs.declared.head.Formats.TheVariants.{Refused, Allowed}
 use Rattle.message_pattern.specs.declared.part.ArgumentKind.{ArgumentKind}
 use Rattle.message_pattern.specs.declared.part.ArgumentKind.TheVariants.{Plural, Ordinal, Select}
-use Rattle.message_pattern.specs.PatternBytes.{comma, equals, opening, closing, is_empty_text, begins, behind_run, after_white, after_word}
+use Rattle.message_pattern.specs.PatternBytes.{comma, equals, opening, closing, is_empty_text, begins, class_front, behind_run, after_white, after_word}
 use Rattle.message_pattern.specs.PatternParts.{Selector, Exactly, Keyword}
-use Rattle.message_pattern.specs.PatternHeads.{and_then, fault_at, missing, Head, Plain, Choice, is_bad_number, name_front, kind_named, kind_before, kind_front, offset_behind, offset_front, behind_name, head_front, is_counting, is_number, exact_front, keyword_front, selector_front, branch_opens, next_branch, branch_front, BranchFront}
+use Rattle.message_pattern.specs.PatternHeads.{and_then, fault_at, missing, Head, Plain, Choice, is_bad_number, name_front, kind_named, kind_before, kind_front, offset_behind, offset_front, choice_front, is_simple_type, styled_front, simple_front, typed_front, behind_name, head_front, is_counting, is_number, exact_front, keyword_front, selector_front, branch_opens, next_branch, branch_front, BranchFront}
 use Rattle.message_pattern.specs.PatternHeads as branch
-use Rattle.message_pattern.specs.PatternGrammar.{IsLongest, IsNameOrNumber, IsArgumentType, IsOffsetValue, IsOffset, IsSelector}
+use Rattle.message_pattern.specs.PatternGrammar.{IsSimpleType, IsSimpleText, IsStyleBehind, IsLongest, IsNameOrNumber, IsArgumentType, IsOffsetValue, IsOffset, IsSelector}
 use Rattle.message_pattern.proofs.Longest.{longest_run, longest_rest, longest_begins}
 use Rattle.message_pattern.proofs.GrammarHeads.{empty_false}
+use Rattle.message_pattern.proofs.Styles.{style_complete}
+use Rattle.message_pattern.proofs.BeforeBrace.{white_before, name_ends, letters_end, longest_before}
+use Rattle.message_pattern.proofs.SimpleHeads.{before_is}
 
 abbrev after_name : List ℕ → List ℕ → List ℕ → Bool → Bool → Result (List ℕ × List ℕ) Fault
 after_name s w u a b = if a then Err (missing ExpectedName s) else if b then Err (fault_at BadNumber s) else Ok (w, after_white u)
@@ -58,22 +64,88 @@ offset_again Select s offset rest h =
 offset_again Plural s offset rest h = value_again (after_white s) offset rest h
 offset_again Ordinal s offset rest h = value_again (after_white s) offset rest h
 
-pub plain_again : (s name t rest : List ℕ) → IsNameOrNumber (after_white s) name t → after_white t ≡ closing ∷ rest
-    → head_front s ≡ Ok (Plain name, rest)
-plain_again s name t rest h e =
-    ap (λ (r : Result (List ℕ × List ℕ) Fault). and_then r (λ n. behind_name n.0 n.1)) (name_again (after_white s) name t h)
-    ∙ ap (λ (r : List ℕ). behind_name name r) e
+pub plain_again : (formats : Formats) (s name t rest : List ℕ) → IsNameOrNumber (after_white s) name t → after_white t ≡ closing ∷ rest
+    → head_front formats s ≡ Ok (Plain name, rest)
+plain_again formats s name t rest h e =
+    ap (λ (r : Result (List ℕ × List ℕ) Fault). and_then r (λ n. behind_name formats (after_white s) n.0 n.1)) (name_again (after_white s) name t h)
+    ∙ ap (λ (r : List ℕ). behind_name formats (after_white s) name r) e
 
-pub choice_again : (kind : ArgumentKind) (offset : Option (List ℕ)) (s name t u v w x : List ℕ)
+-- ---- with a type
+
+none_of : (a b : Bool) → (a && (false && b)) ≡ false
+none_of true b = refl
+none_of false b = refl
+
+-- a type that chooses isn't that of a simple format
+chooses : (word : List ℕ) (kind : ArgumentKind) → kind_named word ≡ Some kind → is_simple_type word ≡ false
+chooses word kind e =
+    ap (λ (k : Option ArgumentKind). not (is_empty_text word) && (is_none k && not (str_eq_ignore_ascii_case word (codes "choice")))) e
+    ∙ none_of (not (is_empty_text word)) (not (str_eq_ignore_ascii_case word (codes "choice")))
+
+typed_again : (formats : Formats) (argument name u : List ℕ) (kind : ArgumentKind) (v : List ℕ) → IsArgumentType (after_white u) kind v
+    → typed_front formats argument name u ≡ choice_front name u
+typed_again Refused argument name u kind v h = refl
+typed_again Allowed argument name u kind v h =
+    ap (λ (b : Bool). if b then simple_front argument (after_white (behind_run Letter (after_white u))) else choice_front name u)
+    (ap is_simple_type (longest_run Letter (after_white u) h.word v h.letters) ∙ chooses h.word kind h.named)
+
+pub choice_again : (formats : Formats) (kind : ArgumentKind) (offset : Option (List ℕ)) (s name t u v w x : List ℕ)
     → IsNameOrNumber (after_white s) name t → after_white t ≡ comma ∷ u → IsArgumentType (after_white u) kind v → after_white v ≡ comma ∷ w
-    → IsOffset kind w offset x → head_front s ≡ Ok (Choice kind name offset, x)
-choice_again kind offset s name t u v w x h e i f o =
-    ap (λ (r : Result (List ℕ × List ℕ) Fault). and_then r (λ n. behind_name n.0 n.1)) (name_again (after_white s) name t h)
-    ∙ (ap (λ (r : List ℕ). behind_name name r) e
+    → IsOffset kind w offset x → head_front formats s ≡ Ok (Choice kind name offset, x)
+choice_again formats kind offset s name t u v w x h e i f o =
+    ap (λ (r : Result (List ℕ × List ℕ) Fault). and_then r (λ n. behind_name formats (after_white s) n.0 n.1)) (name_again (after_white s) name t h)
+    ∙ (ap (λ (r : List ℕ). behind_name formats (after_white s) name r) e
+    ∙ (typed_again formats (after_white s) name u kind v i
     ∙ (ap
     (λ (r : Result (ArgumentKind × List ℕ) Fault). and_then r (λ k. and_then (offset_front k.0 k.1) (λ y. Ok (Choice k.0 name y.0, y.1))))
     (kind_again (after_white u) kind v w i f)
-    ∙ ap (λ (r : Result (Option (List ℕ) × List ℕ) Fault). and_then r (λ y. Ok (Choice kind name y.0, y.1))) (offset_again kind w offset x o)))
+    ∙ ap (λ (r : Result (Option (List ℕ) × List ℕ) Fault). and_then r (λ y. Ok (Choice kind name y.0, y.1))) (offset_again kind w offset x o))))
+
+-- ---- with a simple format
+
+abbrev plain_of : List ℕ → List ℕ → Result (Head × List ℕ) Fault
+plain_of text rest = Ok (Plain text, rest)
+
+-- behind the type
+style_again : (argument text rest s : List ℕ) (style : Option (List ℕ)) → argument ≡ text ++ closing ∷ rest → IsStyleBehind s style
+    → simple_front argument (s ++ closing ∷ rest) ≡ Ok (Plain text, rest)
+style_again argument text rest s None e h =
+    ap (λ (l : List ℕ). simple_front argument (l ++ closing ∷ rest)) h ∙ ap (λ (l : List ℕ). plain_of l rest) (before_is argument text rest e)
+style_again argument text rest s (Some style) e h =
+    ap (λ (l : List ℕ). simple_front argument (l ++ closing ∷ rest)) h.0
+    ∙ (ap (λ (o : Option (List ℕ)). styled_front argument o) (style_complete rest h.1) ∙ ap (λ (l : List ℕ). plain_of l rest) (before_is argument text rest e))
+
+typed_simple : (argument name u text word v rest : List ℕ) (style : Option (List ℕ)) → argument ≡ text ++ closing ∷ rest
+    → IsSimpleType (after_white u) word v → IsStyleBehind (after_white v) style
+    → typed_front Allowed argument name (u ++ closing ∷ rest) ≡ Ok (Plain text, rest)
+typed_simple argument name u text word v rest style e h k =
+    let white = white_before u rest in
+    let l = longest_before Letter letters_end (after_white u) word v rest h.letters in
+    ap (λ (s : List ℕ). if is_simple_type (class_front Letter s) then simple_front argument (after_white (behind_run Letter s)) else choice_front name (u ++ closing ∷ rest)) white
+    ∙ (ap
+    (λ (w : List ℕ).
+    if is_simple_type w then simple_front argument (after_white (behind_run Letter (after_white u ++ closing ∷ rest))) else choice_front name (u ++ closing ∷ rest))
+    (longest_run Letter (after_white u ++ closing ∷ rest) word (v ++ closing ∷ rest) l)
+    ∙ (ap
+    (λ (b : Bool). if b then simple_front argument (after_white (behind_run Letter (after_white u ++ closing ∷ rest))) else choice_front name (u ++ closing ∷ rest))
+    h.simple
+    ∙ (ap (λ (s : List ℕ). simple_front argument (after_white s)) (longest_rest Letter (after_white u ++ closing ∷ rest) word (v ++ closing ∷ rest) l)
+    ∙ (ap (λ (s : List ℕ). simple_front argument s) (white_before v rest) ∙ style_again argument text rest (after_white v) style e k))))
+
+allowed_again : (s text name word rest : List ℕ) (style : Option (List ℕ)) → after_white s ≡ text ++ closing ∷ rest
+    → IsSimpleText text name word style → head_front Allowed s ≡ Ok (Plain text, rest)
+allowed_again s text name word rest style e h =
+    let n : IsNameOrNumber (after_white s) name (h.behind_name ++ closing ∷ rest) =
+    subst (λ (l : List ℕ). IsNameOrNumber l name (h.behind_name ++ closing ∷ rest)) (sym e)
+    (record { bytes = longest_before Name name_ends text name h.behind_name rest h.named.bytes; nonempty = h.named.nonempty; no_zeros = h.named.no_zeros }) in
+    ap (λ (r : Result (List ℕ × List ℕ) Fault). and_then r (λ x. behind_name Allowed (after_white s) x.0 x.1)) (name_again (after_white s) name (h.behind_name ++ closing ∷ rest) n)
+    ∙ (ap (λ (r : List ℕ). behind_name Allowed (after_white s) name r) (white_before h.behind_name rest ∙ ap (λ (l : List ℕ). l ++ closing ∷ rest) h.comma_there)
+    ∙ typed_simple (after_white s) name h.behind_comma text word h.behind_type rest style e h.typed h.styled)
+
+pub simple_again : {formats : Formats} (s text name word rest : List ℕ) (style : Option (List ℕ)) → formats ≡ Allowed → after_white s ≡ text ++ closing ∷ rest
+    → IsSimpleText text name word style → head_front formats s ≡ Ok (Plain text, rest)
+simple_again {formats = formats} s text name word rest style a e h =
+    ap (λ (f : Formats). head_front f s) a ∙ allowed_again s text name word rest style e h
 
 -- ---- and before a branch
 

@@ -1,18 +1,21 @@
 -- The heads of arguments and branches are those of the grammar.
-use Rattle.std.proofs.Common.{◌≡◌, ◌≢◌, ◌==◌, ℕ, List, [], ◌∷◌, Bool, true, false, ◌&&◌, Option, Some, None, Result, Ok, Err, codes, refl, ap, subst, ◌∙◌, if◌then◌else◌}
+use Rattle.std.proofs.Common.{◌≡◌, ◌≢◌, ◌⊎◌, inl, inr, ◌==◌, ℕ, List, [], ◌∷◌, ◌++◌, Bool, true, false, ◌&&◌, Option, Some, None, Result, Ok, Err, codes, refl, ap, subst, ◌∙◌, if◌then◌else◌}
 use Rattle.std.proofs.lemmas.Bool.{eqb-true}
 use Rattle.message_pattern.specs.declared.bytes.Class.TheVariants.{Name, Number, Digit, Letter}
 use Rattle.message_pattern.specs.declared.error.Fault.{Fault}
 use Rattle.message_pattern.specs.declared.error.FaultKind.TheVariants.{ExpectedName, BadNumber, ExpectedEnd, ExpectedType, ExpectedStyle, ExpectedOffset, ExpectedSelector, ExpectedValue, ExpectedBranch, MissingOther}
+use Rattle.message_pattern.specs.declared.head.Formats.{Formats}
+use Rattle.message_pattern.specs.declared.head.Formats.TheVariants.{Refused, Allowed}
 use Rattle.message_pattern.specs.declared.part.ArgumentKind.{ArgumentKind}
 use Rattle.message_pattern.specs.declared.part.ArgumentKind.TheVariants.{Plural, Ordinal, Select}
 use Rattle.message_pattern.specs.PatternBytes.{comma, equals, opening, closing, is_empty_text, class_front}
 use Rattle.message_pattern.specs.PatternBytes.{behind_run, after_white, after_word}
 use Rattle.message_pattern.specs.PatternParts.{Selector, Exactly}
-use Rattle.message_pattern.specs.PatternHeads.{and_then, fault_at, unclosed, missing, Head, Plain, Choice, is_bad_number, name_front, kind_named, style_front, kind_before, kind_front, digits_front, offset_behind, offset_front, choice_front, behind_name, head_front, is_counting, is_number, exact_front, keyword_front, selector_front, branch_opens, next_branch, branch_front, BranchFront}
+use Rattle.message_pattern.specs.PatternHeads.{and_then, fault_at, unclosed, missing, Head, Plain, Choice, is_bad_number, name_front, kind_named, style_front, kind_before, kind_front, digits_front, offset_behind, offset_front, choice_front, is_simple_type, simple_front, typed_front, behind_name, head_front, is_counting, is_number, exact_front, keyword_front, selector_front, branch_opens, next_branch, branch_front, BranchFront}
 use Rattle.message_pattern.specs.PatternHeads as branch
-use Rattle.message_pattern.specs.PatternGrammar.{IsNameOrNumber, IsArgumentType, IsOffsetValue, IsOffset, IsSelector}
+use Rattle.message_pattern.specs.PatternGrammar.{IsSimpleText, IsNameOrNumber, IsArgumentType, IsOffsetValue, IsOffset, IsSelector}
 use Rattle.message_pattern.proofs.Longest.{is_longest}
+use Rattle.message_pattern.proofs.SimpleHeads.{IsSimpleHead, simple_sound}
 
 -- ---- results
 
@@ -85,56 +88,85 @@ offset_sound Select s x e = subst (λ (y : Option (List ℕ) × List ℕ). (y.0 
 offset_sound Plural s x e = offset_step (after_white s) (after_word (codes "offset:") (after_white s)) x refl e
 offset_sound Ordinal s x e = offset_step (after_white s) (after_word (codes "offset:") (after_white s)) x refl e
 
--- what the grammar says of the head of an argument
-abbrev pub HeadIs : List ℕ → Head → List ℕ → Type 0
-HeadIs s (Plain name) rest = (t : List ℕ) × IsNameOrNumber (after_white s) name t × (after_white t ≡ closing ∷ rest)
-HeadIs s (Choice kind name offset) rest =
+-- what the grammar says of the text between the braces of an argument
+abbrev pub IsSimple : Formats → List ℕ → List ℕ → List ℕ → Type 0
+IsSimple formats s text rest =
+    (formats ≡ Allowed) × (s ≡ text ++ closing ∷ rest) × (name : List ℕ) × (word : List ℕ) × (style : Option (List ℕ)) × IsSimpleText text name word style
+
+-- what it says of the head of an argument
+abbrev pub HeadIs : Formats → List ℕ → Head → List ℕ → Type 0
+HeadIs formats s (Plain name) rest =
+    ((t : List ℕ) × IsNameOrNumber (after_white s) name t × (after_white t ≡ closing ∷ rest)) ⊎ IsSimple formats (after_white s) name rest
+HeadIs formats s (Choice kind name offset) rest =
     (t : List ℕ) × (u : List ℕ) × (v : List ℕ) × (w : List ℕ)
     × IsNameOrNumber (after_white s) name t × (after_white t ≡ comma ∷ u) × IsArgumentType (after_white u) kind v × (after_white v ≡ comma ∷ w)
     × IsOffset kind w offset rest
 
 -- what it says behind the name
-abbrev pub BehindName : List ℕ → List ℕ → Head → List ℕ → Type 0
-BehindName name s (Plain n) rest = (name ≡ n) × (s ≡ closing ∷ rest)
-BehindName name s (Choice kind n offset) rest =
+abbrev pub BehindName : Formats → List ℕ → List ℕ → List ℕ → Head → List ℕ → Type 0
+BehindName formats argument name s (Plain n) rest = ((name ≡ n) × (s ≡ closing ∷ rest)) ⊎ IsSimple formats argument n rest
+BehindName formats argument name s (Choice kind n offset) rest =
     (u : List ℕ) × (v : List ℕ) × (w : List ℕ)
     × (name ≡ n) × (s ≡ comma ∷ u) × IsArgumentType (after_white u) kind v × (after_white v ≡ comma ∷ w) × IsOffset kind w offset rest
 
-choice_sound : (name : List ℕ) (c : ℕ) (s : List ℕ) (x : Head × List ℕ) → c ≡ comma → choice_front name s ≡ Ok x → BehindName name (c ∷ s) x.0 x.1
-choice_sound name c s x h e =
+choice_sound : (formats : Formats) (argument name : List ℕ) (c : ℕ) (s : List ℕ) (x : Head × List ℕ) → c ≡ comma → choice_front name s ≡ Ok x
+    → BehindName formats argument name (c ∷ s) x.0 x.1
+choice_sound formats argument name c s x h e =
     let k = bind_ok (kind_front (after_white s)) _ x e in
     let o = bind_ok (offset_front k.0.0 k.0.1) _ x k.2 in
     let t = kind_sound (after_white s) k.0 k.1 in
-    subst (λ (y : Head × List ℕ). BehindName name (c ∷ s) y.0 y.1) (same_ok o.2)
+    subst (λ (y : Head × List ℕ). BehindName formats argument name (c ∷ s) y.0 y.1) (same_ok o.2)
     (s, t.0, k.0.1, refl, ap (λ (b : ℕ). b ∷ s) h, t.1, t.2, offset_sound k.0.0 k.0.1 o.0 o.1)
 
-behind_comma : (name : List ℕ) (b : ℕ) (s : List ℕ) (v : Bool) (x : Head × List ℕ) → (b == comma) ≡ v
-    → (if v then choice_front name s else Err (fault_at ExpectedEnd (b ∷ s))) ≡ Ok x → BehindName name (b ∷ s) x.0 x.1
-behind_comma name b s true x t e = choice_sound name b s x (eqb-true b comma t) e
-behind_comma name b s false x t e = absurd (no_ok e)
+simple_is : (argument name s : List ℕ) (x : Head × List ℕ) → IsSimpleHead argument x.0 x.1 → BehindName Allowed argument name s x.0 x.1
+simple_is argument name s (Plain text, rest) h = inr (refl, h.0, h.1, h.2, h.3, h.4)
+simple_is argument name s (Choice kind n offset, rest) h = absurd h
 
-behind_closing : (name : List ℕ) (b : ℕ) (s : List ℕ) (v : Bool) (x : Head × List ℕ) → (b == closing) ≡ v
-    → (if v then Ok (Plain name, s) else if b == comma then choice_front name s else Err (fault_at ExpectedEnd (b ∷ s))) ≡ Ok x
-    → BehindName name (b ∷ s) x.0 x.1
-behind_closing name b s true x t e =
-    subst (λ (y : Head × List ℕ). BehindName name (b ∷ s) y.0 y.1) (same_ok e) (refl, ap (λ (c : ℕ). c ∷ s) (eqb-true b closing t))
-behind_closing name b s false x t e = behind_comma name b s (b == comma) x refl e
+typed_step : (argument name t : List ℕ) (c : ℕ) (s : List ℕ) (v : Bool) (x : Head × List ℕ) → IsNameOrNumber argument name t → after_white t ≡ c ∷ s → c ≡ comma
+    → is_simple_type (class_front Letter (after_white s)) ≡ v
+    → (if v then simple_front argument (after_white (behind_run Letter (after_white s))) else choice_front name s) ≡ Ok x
+    → BehindName Allowed argument name (c ∷ s) x.0 x.1
+typed_step argument name t c s true x i e h w k =
+    simple_is argument name (c ∷ s) x (simple_sound argument name t s x i (e ∙ ap (λ (b : ℕ). b ∷ s) h) w k)
+typed_step argument name t c s false x i e h w k = choice_sound Allowed argument name c s x h k
 
-behind_sound : (name s : List ℕ) (x : Head × List ℕ) → behind_name name s ≡ Ok x → BehindName name s x.0 x.1
-behind_sound name [] x e = absurd (no_ok e)
-behind_sound name (b ∷ s) x e = behind_closing name b s (b == closing) x refl e
+typed_sound : (formats : Formats) (argument name t : List ℕ) (c : ℕ) (s : List ℕ) (x : Head × List ℕ) → IsNameOrNumber argument name t → after_white t ≡ c ∷ s → c ≡ comma
+    → typed_front formats argument name s ≡ Ok x → BehindName formats argument name (c ∷ s) x.0 x.1
+typed_sound Refused argument name t c s x i e h k = choice_sound Refused argument name c s x h k
+typed_sound Allowed argument name t c s x i e h k = typed_step argument name t c s (is_simple_type (class_front Letter (after_white s))) x i e h refl k
 
-joined : (s name t r : List ℕ) (h : Head) (rest : List ℕ) → IsNameOrNumber (after_white s) name t → after_white t ≡ r → BehindName name r h rest → HeadIs s h rest
-joined s name t r (Plain n) rest i e b =
-    (t, subst (λ (m : List ℕ). IsNameOrNumber (after_white s) m t) b.0 i, e ∙ b.1)
-joined s name t r (Choice kind n offset) rest i e b =
+behind_comma : (formats : Formats) (argument name t : List ℕ) (b : ℕ) (s : List ℕ) (v : Bool) (x : Head × List ℕ) → IsNameOrNumber argument name t → after_white t ≡ b ∷ s
+    → (b == comma) ≡ v → (if v then typed_front formats argument name s else Err (fault_at ExpectedEnd (b ∷ s))) ≡ Ok x
+    → BehindName formats argument name (b ∷ s) x.0 x.1
+behind_comma formats argument name t b s true x i w h e = typed_sound formats argument name t b s x i w (eqb-true b comma h) e
+behind_comma formats argument name t b s false x i w h e = absurd (no_ok e)
+
+behind_closing : (formats : Formats) (argument name t : List ℕ) (b : ℕ) (s : List ℕ) (v : Bool) (x : Head × List ℕ) → IsNameOrNumber argument name t → after_white t ≡ b ∷ s
+    → (b == closing) ≡ v
+    → (if v then Ok (Plain name, s) else if b == comma then typed_front formats argument name s else Err (fault_at ExpectedEnd (b ∷ s))) ≡ Ok x
+    → BehindName formats argument name (b ∷ s) x.0 x.1
+behind_closing formats argument name t b s true x i w h e =
+    subst (λ (y : Head × List ℕ). BehindName formats argument name (b ∷ s) y.0 y.1) (same_ok e) (inl (refl, ap (λ (c : ℕ). c ∷ s) (eqb-true b closing h)))
+behind_closing formats argument name t b s false x i w h e = behind_comma formats argument name t b s (b == comma) x i w refl e
+
+behind_sound : (formats : Formats) (argument name t s : List ℕ) (x : Head × List ℕ) → IsNameOrNumber argument name t → after_white t ≡ s
+    → behind_name formats argument name s ≡ Ok x → BehindName formats argument name s x.0 x.1
+behind_sound formats argument name t [] x i w e = absurd (no_ok e)
+behind_sound formats argument name t (b ∷ s) x i w e = behind_closing formats argument name t b s (b == closing) x i w refl e
+
+joined : (formats : Formats) (s name t r : List ℕ) (h : Head) (rest : List ℕ) → IsNameOrNumber (after_white s) name t → after_white t ≡ r
+    → BehindName formats (after_white s) name r h rest → HeadIs formats s h rest
+joined formats s name t r (Plain n) rest i e (inl b) =
+    inl (t, subst (λ (m : List ℕ). IsNameOrNumber (after_white s) m t) b.0 i, e ∙ b.1)
+joined formats s name t r (Plain n) rest i e (inr b) = inr b
+joined formats s name t r (Choice kind n offset) rest i e b =
     (t, b.0, b.1, b.2, subst (λ (m : List ℕ). IsNameOrNumber (after_white s) m t) b.3 i, e ∙ b.4, b.5, b.6, b.7)
 
-pub head_sound : (s : List ℕ) (x : Head × List ℕ) → head_front s ≡ Ok x → HeadIs s x.0 x.1
-head_sound s x e =
+pub head_sound : (formats : Formats) (s : List ℕ) (x : Head × List ℕ) → head_front formats s ≡ Ok x → HeadIs formats s x.0 x.1
+head_sound formats s x e =
     let n = bind_ok (name_front (after_white s)) _ x e in
     let i = name_sound (after_white s) n.0 n.1 in
-    joined s n.0.0 i.0 n.0.1 x.0 x.1 i.1 i.2 (behind_sound n.0.0 n.0.1 x n.2)
+    joined formats s n.0.0 i.0 n.0.1 x.0 x.1 i.1 i.2 (behind_sound formats (after_white s) n.0.0 i.0 n.0.1 x i.1 i.2 n.2)
 
 -- ---- and before a branch
 

@@ -140,7 +140,7 @@ name_stays x r t n b v e =
     let h = both_true (is_in Name b) (white_width (b ∷ (v ++ t)) == 0) e in
     ap (λ (a : Bool). a && white_width (b ∷ (v ++ x ∷ r)) == 0) h.0 ∙ width_stays x r t b v n h.1
 
-name_moved : (x : ℕ) (s w t r : List ℕ) → EndsName x → IsLongest Name s w t → IsLongest Name (w ++ x ∷ r) w (x ∷ r)
+pub name_moved : (x : ℕ) (s w t r : List ℕ) → EndsName x → IsLongest Name s w t → IsLongest Name (w ++ x ∷ r) w (x ∷ r)
 name_moved x s w t r n l =
     moved Name s w t (x ∷ r) (name_stays x r t n) (ap (λ (a : Bool). a && white_width (x ∷ r) == 0) n.no_name) l
 

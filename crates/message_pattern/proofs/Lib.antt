@@ -6,6 +6,10 @@ pub mod Heads
 pub mod Answered
 pub mod Outcomes
 pub mod Longest
+pub mod HeadsBack
+pub mod BeforeBrace
+pub mod Styles
+pub mod SimpleHeads
 pub mod GrammarHeads
 pub mod GrammarAgain
 pub mod GrammarReads
@@ -14,6 +18,6 @@ pub mod Total
 pub mod WholeTexts
 pub mod Spelled
 pub mod TextBack
-pub mod HeadsBack
 pub mod PrintsBack
 pub mod PrintedFold
+pub mod WithFormats

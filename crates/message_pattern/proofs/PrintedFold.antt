@@ -1,6 +1,7 @@
 -- The text that parts are printed as is the text of the parts, one after the other.
 use Rattle.std.proofs.Common.{◌≡◌, ℕ, List, [], ◌∷◌, ◌++◌, Bool, false, ◌||◌, Result, Ok, Err, IfOk, refl, sym, ap, subst, ◌∙◌, append_assoc}
 use Rattle.std.proofs.lemmas.List.{append-nil}
+use Rattle.message_pattern.specs.declared.head.Formats.{Formats}
 use Rattle.message_pattern.specs.declared.print.Spot.TheVariants.{Message, Branches}
 use Rattle.message_pattern.specs.declared.text.Context.{Context}
 use Rattle.message_pattern.specs.declared.text.Context.TheVariants.{Whole}
@@ -8,7 +9,7 @@ use Rattle.message_pattern.specs.PatternBytes.{hash, comma, opening, closing}
 use Rattle.message_pattern.specs.PatternText.{is_quotable}
 use Rattle.message_pattern.specs.PatternParts.{Part, Branch}
 use Rattle.message_pattern.specs.PatternReading.{PatternPlace, InMessage, InArgument, InBranches, one, context_of}
-use Rattle.message_pattern.specs.PatternPrinting.{letters, spelled, SayTheSame, end_of_quote, byte_text, text_text, quoted_behind, kind_text, offset_text, selector_text, IsPrinted, message_ends, message_text, message_hash, message_argument, none_arg, complex_arg, style_branch, style_ends, PrintsAs, PrintsExactly, IsReadAlike}
+use Rattle.message_pattern.specs.PatternPrinting.{letters, spelled, SayTheSame, end_of_quote, byte_text, text_text, quoted_behind, kind_text, offset_text, selector_text, IsPrinted, message_ends, message_text, message_hash, message_argument, none_arg, complex_arg, style_branch, style_ends, PrintsAs, PrintsBackExactly, IsReadAlike}
 use Rattle.message_pattern.specs.Inner.PatternFold.{fold}
 use Rattle.message_pattern.proofs.Spelled.{spelled-append}
 use Rattle.message_pattern.proofs.PrintsBack.{prints_back}
@@ -90,11 +91,11 @@ printed_whole parts text h =
     ap (λ (l : List Part). whole_text l) (sym (append-nil parts))
     ∙ (folds h [] [] [] (λ k. sym (append-nil (end_of_quote k))) ∙ append-nil text)
 
-read_alike : (parts : List Part) (s t : List ℕ) → s ≡ t → IsReadAlike t parts → IsReadAlike s parts
-read_alike parts s t e h = subst (λ (u : List ℕ). IsReadAlike u parts) (sym e) h
+read_alike : {formats : Formats} (parts : List Part) (s t : List ℕ) → s ≡ t → IsReadAlike formats t parts → IsReadAlike formats s parts
+read_alike {formats = formats} parts s t e h = subst (λ (u : List ℕ). IsReadAlike formats u parts) (sym e) h
 
 -- the whole text is exactly what the parts are printed as
-pub prints_exactly : (parts : List Part) (text : List ℕ) → text ≡ whole_text parts → PrintsExactly parts text
+pub prints_exactly : {formats : Formats} (parts : List Part) (text : List ℕ) → text ≡ whole_text parts → PrintsBackExactly formats parts text
 prints_exactly parts text e = record {
   only = λ t h. e ∙ printed_whole parts t h;
   printed = λ source h.
@@ -105,10 +106,10 @@ prints_exactly parts text e = record {
       read_alike parts text b.0 (e ∙ printed_whole parts b.0 b.1) b.2;
 }
 
-pub ok_exactly : {A E : Type 0} (view : A → List ℕ) (parts : List Part) (r : Result A E) → IfOk r (λ x. view x ≡ whole_text parts)
-    → IfOk r (λ x. PrintsExactly parts (view x))
-ok_exactly view parts (Ok x) h = prints_exactly parts (view x) h
-ok_exactly view parts (Err e) h = h
+pub ok_exactly : (formats : Formats) {A E : Type 0} (view : A → List ℕ) (parts : List Part) (r : Result A E) → IfOk r (λ x. view x ≡ whole_text parts)
+    → IfOk r (λ x. PrintsBackExactly formats parts (view x))
+ok_exactly formats view parts (Ok x) h = prints_exactly parts (view x) h
+ok_exactly formats view parts (Err e) h = h
 
 -- ---- parts that say the same
 

@@ -1,9 +1,10 @@
 -- What follows a step is shorter than the text.
-use Rattle.std.proofs.Common.{◌≡◌, ◌==◌, ◌<◌, ◌≤◌, ◌-◌, ℕ, zero, suc, List, [], ◌∷◌, Bool, true, false, not, ◌&&◌, ◌||◌, Option, Some, None, codes, length, ap, arith, if◌then◌else◌}
+use Rattle.std.proofs.Common.{◌≡◌, ◌==◌, inl, inr, ◌<◌, ◌≤◌, ◌-◌, ℕ, zero, suc, List, [], ◌∷◌, Bool, true, false, not, ◌&&◌, ◌||◌, Option, Some, None, codes, length, ap, arith, if◌then◌else◌}
 use Rattle.std.proofs.lemmas.List.{length-append}
 use Rattle.message_pattern.specs.declared.bytes.Class.{Class}
 use Rattle.message_pattern.specs.declared.bytes.Class.TheVariants.{Name, Number, Digit, Letter, Unquoted}
 use Rattle.message_pattern.specs.declared.bytes.Class.TheVariants as class
+use Rattle.message_pattern.specs.declared.head.Formats.{Formats}
 use Rattle.message_pattern.specs.declared.part.ArgumentKind.{ArgumentKind}
 use Rattle.message_pattern.specs.declared.part.ArgumentKind.TheVariants.{Plural, Ordinal, Select}
 use Rattle.message_pattern.specs.declared.text.Context.{Context}
@@ -116,10 +117,11 @@ offset_le Ordinal s offset rest h = omega (arith, value_le (after_white s) offse
 letters_le : (s v : List ℕ) (kind : ArgumentKind) → IsArgumentType (after_white s) kind v → length v ≤ length (after_white s)
 letters_le s v kind i = longest_le Letter (after_white s) i.word v i.letters
 
-pub head_le : (s : List ℕ) (h : Head) (rest : List ℕ) → HeadIs s h rest → length rest ≤ length s
-head_le s (Plain name) rest i =
+pub head_le : (formats : Formats) (s : List ℕ) (h : Head) (rest : List ℕ) → HeadIs formats s h rest → length rest ≤ length s
+head_le formats s (Plain text) rest (inr i) = omega (arith, white_le s, ap length i.1, length-append text (closing ∷ rest))
+head_le formats s (Plain name) rest (inl i) =
     omega (arith, white_le s, white_le i.0, longest_le Name (after_white s) name i.0 i.1.bytes, ap length i.2)
-head_le s (Choice kind name offset) rest i =
+head_le formats s (Choice kind name offset) rest i =
     omega (arith, white_le s, longest_le Name (after_white s) name i.0 i.4.bytes, white_le i.0, ap length i.5, white_le i.1, letters_le i.1 i.2 kind i.6, white_le i.2, ap length i.7, offset_le kind i.3 offset rest i.8)
 
 selector_le : (kind : ArgumentKind) (s : List ℕ) (sel : Selector) (t : List ℕ) → IsSelector kind s sel t → length t ≤ length s

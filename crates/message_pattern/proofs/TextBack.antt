@@ -1,6 +1,7 @@
 -- A text that is printed is read as its bytes.
 use Rattle.std.proofs.Common.{◌≡◌, ◌==◌, ℕ, List, [], ◌∷◌, ◌++◌, Bool, true, false, not, ◌&&◌, ◌||◌, Option, Some, None, refl, sym, ap, subst, ◌∙◌, append_assoc, if◌then◌else◌}
 use Rattle.std.proofs.lemmas.Bool.{eqb-true}
+use Rattle.message_pattern.specs.declared.head.Formats.{Formats}
 use Rattle.message_pattern.specs.declared.bytes.Class.{Class}
 use Rattle.message_pattern.specs.declared.bytes.Class.TheVariants.{Plain, Unquoted}
 use Rattle.message_pattern.specs.declared.text.Context.{Context}
@@ -8,21 +9,21 @@ use Rattle.message_pattern.specs.PatternBytes.{apostrophe, hash, opening, closin
 use Rattle.message_pattern.specs.PatternText.{Front, End, Closes, Opens, Takes, takes_text, front, is_nested, is_counted, is_quotable, apostrophe_front, quoted_apostrophe}
 use Rattle.message_pattern.specs.PatternParts.{Part, PatternPiece, Text, Hash}
 use Rattle.message_pattern.specs.PatternReading.{PatternPlace, InMessage, InArgument, InBranches, one, at_most_one}
-use Rattle.message_pattern.specs.PatternGrammar.{IsReadAt, message_ends, message_closes, message_text, message_argument, none_arg, complex_arg, style_branch, style_ends}
+use Rattle.message_pattern.specs.PatternGrammar.{IsReadAt, message_ends, message_closes, message_text, message_argument, none_arg, simple_arg, complex_arg, style_branch, style_ends}
 use Rattle.message_pattern.specs.PatternPrinting.{letters, spelled, end_of_quote, byte_text, text_text, quoted_behind}
 
 -- what is read says the same as these parts
-abbrev pub IsReadAs : PatternPlace → List ℕ → List Part → List ℕ → Type 0
-IsReadAs place s parts rest = (again : List Part) × IsReadAt place s again rest × (spelled again ≡ parts)
+abbrev pub IsReadAs : Formats → PatternPlace → List ℕ → List Part → List ℕ → Type 0
+IsReadAs formats place s parts rest = (again : List Part) × IsReadAt formats place s again rest × (spelled again ≡ parts)
 
 -- ---- a message that begins with a piece
 
 -- a message whose front is a piece is that piece and the message behind it
-abbrev pub BeginsWith : PatternPlace → List ℕ → List Part → List ℕ → Type 0
-BeginsWith (InMessage c d q) s parts rest =
-    (p : Option PatternPiece) (r : Bool) (t : List ℕ) → front c q s ≡ Takes p r t → (more : List Part) × IsReadAt (InMessage c d r) t more rest × (parts ≡ at_most_one d p ++ more)
-BeginsWith (InArgument d) s parts rest = Unit {0}
-BeginsWith (InBranches k d o) s parts rest = Unit {0}
+abbrev pub BeginsWith : Formats → PatternPlace → List ℕ → List Part → List ℕ → Type 0
+BeginsWith formats (InMessage c d q) s parts rest =
+    (p : Option PatternPiece) (r : Bool) (t : List ℕ) → front c q s ≡ Takes p r t → (more : List Part) × IsReadAt formats (InMessage c d r) t more rest × (parts ≡ at_most_one d p ++ more)
+BeginsWith formats (InArgument d) s parts rest = Unit {0}
+BeginsWith formats (InBranches k d o) s parts rest = Unit {0}
 
 no_piece : {f : Front} (p : Option PatternPiece) (r : Bool) (t : List ℕ) → f ≡ End → f ≡ Takes p r t → ⊥
 no_piece p r t e h = let x : End ≡ Takes p r t = sym e ∙ h in cc
@@ -33,24 +34,25 @@ no_piece_closes p r t s e h = let x : Closes s ≡ Takes p r t = sym e ∙ h in 
 no_piece_opens : {f : Front} (p : Option PatternPiece) (r : Bool) (t s : List ℕ) → f ≡ Opens s → f ≡ Takes p r t → ⊥
 no_piece_opens p r t s e h = let x : Opens s ≡ Takes p r t = sym e ∙ h in cc
 
-same_piece : (c : Context) (d : ℕ) (p p' : Option PatternPiece) (r r' : Bool) (t t' rest : List ℕ) (more : List Part)
-    → Takes p r t ≡ Takes p' r' t' → IsReadAt (InMessage c d r) t more rest
-    → (again : List Part) × IsReadAt (InMessage c d r') t' again rest × (at_most_one d p ++ more ≡ at_most_one d p' ++ again)
-same_piece c d p p' r r' t t' rest more e h =
+same_piece : {formats : Formats} (c : Context) (d : ℕ) (p p' : Option PatternPiece) (r r' : Bool) (t t' rest : List ℕ) (more : List Part)
+    → Takes p r t ≡ Takes p' r' t' → IsReadAt formats (InMessage c d r) t more rest
+    → (again : List Part) × IsReadAt formats (InMessage c d r') t' again rest × (at_most_one d p ++ more ≡ at_most_one d p' ++ again)
+same_piece {formats = formats} c d p p' r r' t t' rest more e h =
     let f : p ≡ p' = cc in
     let g : r ≡ r' = cc in
     let k : t ≡ t' = cc in (
       more,
-      subst (λ (v : Bool). IsReadAt (InMessage c d v) t' more rest) g (subst (λ (u : List ℕ). IsReadAt (InMessage c d r) u more rest) k h),
+      subst (λ (v : Bool). IsReadAt formats (InMessage c d v) t' more rest) g (subst (λ (u : List ℕ). IsReadAt formats (InMessage c d r) u more rest) k h),
       ap (λ (x : Option PatternPiece). at_most_one d x ++ more) f,
     )
 
-begins_with : {place : PatternPlace} {s rest : List ℕ} {parts : List Part} → IsReadAt place s parts rest → BeginsWith place s parts rest
+begins_with : {formats : Formats} {place : PatternPlace} {s rest : List ℕ} {parts : List Part} → IsReadAt formats place s parts rest → BeginsWith formats place s parts rest
 begins_with (message_ends c d q s e w) = λ p r t h. absurd (no_piece p r t e h)
 begins_with (message_closes c d q s rest e) = λ p r t h. absurd (no_piece_closes p r t rest e h)
 begins_with (message_text c d q r s t rest p more e h) = λ p' r' t' f. same_piece c d p p' r r' t t' rest more (sym e ∙ f) h
 begins_with (message_argument c d q s t u rest inner more e h k) = λ p r t' f. absurd (no_piece_opens p r t' t e f)
 begins_with (none_arg d s name t rest i e) = tt
+begins_with (simple_arg d s text name word rest style a w h) = tt
 begins_with (complex_arg d kind offset s name t u v w x rest more i e j f o h) = tt
 begins_with (style_branch d kind other sel s t u v rest inner more i e room h k) = tt
 begins_with (style_ends d kind s rest e) = tt
@@ -74,8 +76,8 @@ behind_none k [] e = refl
 behind_none k (b ∷ t) e = ap (λ (v : Bool). if v then behind_run k t else b ∷ t) e
 
 -- the byte is a piece, or it stands before one
-byte_before : (c : Context) (d : ℕ) (q : Bool) (k : Class) (b : ℕ) (t : List ℕ) (parts : List Part) (rest : List ℕ) (v : Bool) → IsRunFront c q k
-    → begins k (b ∷ t) ≡ true → begins k t ≡ v → IsReadAs (InMessage c d q) t parts rest → IsReadAs (InMessage c d q) (b ∷ t) (letters d (b ∷ []) ++ parts) rest
+byte_before : {formats : Formats} (c : Context) (d : ℕ) (q : Bool) (k : Class) (b : ℕ) (t : List ℕ) (parts : List Part) (rest : List ℕ) (v : Bool) → IsRunFront c q k
+    → begins k (b ∷ t) ≡ true → begins k t ≡ v → IsReadAs formats (InMessage c d q) t parts rest → IsReadAs formats (InMessage c d q) (b ∷ t) (letters d (b ∷ []) ++ parts) rest
 byte_before c d q k b t parts rest false runs e f h = (
   one d (Text (b ∷ [])) ++ h.0,
   message_text c d q q (b ∷ t) t rest (Some (Text (b ∷ []))) h.0
@@ -115,8 +117,8 @@ quoted_runs : (c : Context) → IsRunFront c true Unquoted
 quoted_runs c b s e = quoted_by (b == apostrophe) s (class_front Unquoted (b ∷ s)) (behind_run Unquoted (b ∷ s)) e
 
 -- a byte that is quoted
-in_quotes : (c : Context) (d b : ℕ) (t : List ℕ) (parts : List Part) (rest : List ℕ) → (b == apostrophe) ≡ false
-    → IsReadAs (InMessage c d true) t parts rest → IsReadAs (InMessage c d true) (b ∷ t) (letters d (b ∷ []) ++ parts) rest
+in_quotes : {formats : Formats} (c : Context) (d b : ℕ) (t : List ℕ) (parts : List Part) (rest : List ℕ) → (b == apostrophe) ≡ false
+    → IsReadAs formats (InMessage c d true) t parts rest → IsReadAs formats (InMessage c d true) (b ∷ t) (letters d (b ∷ []) ++ parts) rest
 in_quotes c d b t parts rest e h = byte_before c d true Unquoted b t parts rest (begins Unquoted t) (quoted_runs c) (ap not e) refl h
 
 -- an apostrophe begins quoted text
@@ -126,14 +128,14 @@ opens_by true o c b s e f = absurd (let x : true ≡ false = e in cc)
 opens_by false true c b s e f = refl
 opens_by false false c b s e f = absurd (let x : false ≡ true = f in cc)
 
-opens_quote : (c : Context) (d b : ℕ) (t : List ℕ) (parts : List Part) (rest : List ℕ) → (b == apostrophe) ≡ false → is_quotable c b ≡ true
-    → IsReadAs (InMessage c d true) (b ∷ t) parts rest → IsReadAs (InMessage c d false) (apostrophe ∷ b ∷ t) parts rest
+opens_quote : {formats : Formats} (c : Context) (d b : ℕ) (t : List ℕ) (parts : List Part) (rest : List ℕ) → (b == apostrophe) ≡ false → is_quotable c b ≡ true
+    → IsReadAs formats (InMessage c d true) (b ∷ t) parts rest → IsReadAs formats (InMessage c d false) (apostrophe ∷ b ∷ t) parts rest
 opens_quote c d b t parts rest e f h =
     (h.0, message_text c d false true (apostrophe ∷ b ∷ t) (b ∷ t) rest None h.0 (opens_by (b == apostrophe) (is_quotable c b) c b t e f) h.1, h.2)
 
 -- two apostrophes are one
-doubled : (c : Context) (d : ℕ) (q : Bool) (t : List ℕ) (parts : List Part) (rest : List ℕ)
-    → IsReadAs (InMessage c d q) t parts rest → IsReadAs (InMessage c d q) (apostrophe ∷ apostrophe ∷ t) (letters d (apostrophe ∷ []) ++ parts) rest
+doubled : {formats : Formats} (c : Context) (d : ℕ) (q : Bool) (t : List ℕ) (parts : List Part) (rest : List ℕ)
+    → IsReadAs formats (InMessage c d q) t parts rest → IsReadAs formats (InMessage c d q) (apostrophe ∷ apostrophe ∷ t) (letters d (apostrophe ∷ []) ++ parts) rest
 doubled c d true t parts rest h = (
   one d (Text (apostrophe ∷ [])) ++ h.0,
   message_text c d true true (apostrophe ∷ apostrophe ∷ t) t rest (Some (Text (apostrophe ∷ []))) h.0 refl h.1,
@@ -149,8 +151,8 @@ doubled c d false t parts rest h = (
 hash_alone : (c : Context) (s : List ℕ) → is_counted c ≡ false → front c false (hash ∷ s) ≡ takes_text (hash ∷ []) false s
 hash_alone c s e = ap (λ (n : Bool). if n then Takes (Some Hash) false s else takes_text (hash ∷ []) false s) e
 
-bare_hash : (c : Context) (d b : ℕ) (t : List ℕ) (parts : List Part) (rest : List ℕ) → b ≡ hash → is_counted c ≡ false
-    → IsReadAs (InMessage c d false) t parts rest → IsReadAs (InMessage c d false) (b ∷ t) (letters d (b ∷ []) ++ parts) rest
+bare_hash : {formats : Formats} (c : Context) (d b : ℕ) (t : List ℕ) (parts : List Part) (rest : List ℕ) → b ≡ hash → is_counted c ≡ false
+    → IsReadAs formats (InMessage c d false) t parts rest → IsReadAs formats (InMessage c d false) (b ∷ t) (letters d (b ∷ []) ++ parts) rest
 bare_hash c d b t parts rest e f h = (
   one d (Text (b ∷ [])) ++ h.0,
   message_text c d false false (b ∷ t) t rest (Some (Text (b ∷ []))) h.0
@@ -168,8 +170,8 @@ bare_counted true e n x = absurd (let y : true ≡ false = x in cc)
 bare_counted false true n x = absurd (let y : true ≡ false = x in cc)
 bare_counted false false n x = x
 
-bare_by : (c : Context) (d b : ℕ) (t : List ℕ) (parts : List Part) (rest : List ℕ) (h : Bool) → (b == hash) ≡ h → (b == apostrophe) ≡ false
-    → is_quotable c b ≡ false → IsReadAs (InMessage c d false) t parts rest → IsReadAs (InMessage c d false) (b ∷ t) (letters d (b ∷ []) ++ parts) rest
+bare_by : {formats : Formats} (c : Context) (d b : ℕ) (t : List ℕ) (parts : List Part) (rest : List ℕ) (h : Bool) → (b == hash) ≡ h → (b == apostrophe) ≡ false
+    → is_quotable c b ≡ false → IsReadAs formats (InMessage c d false) t parts rest → IsReadAs formats (InMessage c d false) (b ∷ t) (letters d (b ∷ []) ++ parts) rest
 bare_by c d b t parts rest true e f g r =
     bare_hash c d b t parts rest (eqb-true b hash e)
     (bare_counted (b == opening) (b == closing) (is_counted c) (subst (λ (x : Bool). (b == opening || b == closing || (x && is_counted c)) ≡ false) e g)) r
@@ -190,24 +192,24 @@ or_false false = refl
 abbrev byte_as : Bool → Bool → Bool → ℕ → List ℕ
 byte_as a o q b = if a then apostrophe ∷ apostrophe ∷ [] else if o && not q then apostrophe ∷ b ∷ [] else b ∷ []
 
-byte_by : (c : Context) (d b : ℕ) (t : List ℕ) (parts : List Part) (rest : List ℕ) (a o q : Bool) → (b == apostrophe) ≡ a → is_quotable c b ≡ o
-    → IsReadAs (InMessage c d (q || o)) t parts rest → IsReadAs (InMessage c d q) (byte_as a o q b ++ t) (letters d (b ∷ []) ++ parts) rest
-byte_by c d b t parts rest true o q e f h =
+byte_by : {formats : Formats} (c : Context) (d b : ℕ) (t : List ℕ) (parts : List Part) (rest : List ℕ) (a o q : Bool) → (b == apostrophe) ≡ a → is_quotable c b ≡ o
+    → IsReadAs formats (InMessage c d (q || o)) t parts rest → IsReadAs formats (InMessage c d q) (byte_as a o q b ++ t) (letters d (b ∷ []) ++ parts) rest
+byte_by {formats = formats} c d b t parts rest true o q e f h =
     let same : b ≡ apostrophe = eqb-true b apostrophe e in
     let none : o ≡ false = sym f ∙ ap (λ (x : ℕ). is_quotable c x) same in
-    subst (λ (x : ℕ). IsReadAs (InMessage c d q) (apostrophe ∷ apostrophe ∷ t) (letters d (x ∷ []) ++ parts) rest) (sym same)
-    (doubled c d q t parts rest (subst (λ (v : Bool). IsReadAs (InMessage c d v) t parts rest) (ap (λ (v : Bool). q || v) none ∙ or_false q) h))
+    subst (λ (x : ℕ). IsReadAs formats (InMessage c d q) (apostrophe ∷ apostrophe ∷ t) (letters d (x ∷ []) ++ parts) rest) (sym same)
+    (doubled c d q t parts rest (subst (λ (v : Bool). IsReadAs formats (InMessage c d v) t parts rest) (ap (λ (v : Bool). q || v) none ∙ or_false q) h))
 byte_by c d b t parts rest false true true e f h = in_quotes c d b t parts rest e h
 byte_by c d b t parts rest false false true e f h = in_quotes c d b t parts rest e h
 byte_by c d b t parts rest false true false e f h = opens_quote c d b t _ rest e f (in_quotes c d b t parts rest e h)
 byte_by c d b t parts rest false false false e f h = bare_by c d b t parts rest (b == hash) refl e f h
 
 -- a text that is printed is read as its bytes
-pub text_back : (c : Context) (d : ℕ) (q : Bool) (s t : List ℕ) (parts : List Part) (rest : List ℕ)
-    → IsReadAs (InMessage c d (quoted_behind c q s)) t parts rest → IsReadAs (InMessage c d q) (text_text c q s ++ t) (letters d s ++ parts) rest
+pub text_back : {formats : Formats} (c : Context) (d : ℕ) (q : Bool) (s t : List ℕ) (parts : List Part) (rest : List ℕ)
+    → IsReadAs formats (InMessage c d (quoted_behind c q s)) t parts rest → IsReadAs formats (InMessage c d q) (text_text c q s ++ t) (letters d s ++ parts) rest
 text_back c d q [] t parts rest h = h
-text_back c d q (b ∷ s) t parts rest h =
-    subst (λ (u : List ℕ). IsReadAs (InMessage c d q) u (letters d (b ∷ s) ++ parts) rest) (sym (append_assoc (byte_text c q b) (text_text c (q || is_quotable c b) s) t))
+text_back {formats = formats} c d q (b ∷ s) t parts rest h =
+    subst (λ (u : List ℕ). IsReadAs formats (InMessage c d q) u (letters d (b ∷ s) ++ parts) rest) (sym (append_assoc (byte_text c q b) (text_text c (q || is_quotable c b) s) t))
     (byte_by c d b (text_text c (q || is_quotable c b) s ++ t) (letters d s ++ parts) rest (b == apostrophe) (is_quotable c b) q refl refl
     (text_back c d (q || is_quotable c b) s t parts rest h))
 
@@ -223,7 +225,7 @@ ends_quote c [] e = refl
 ends_quote c (b ∷ s) e = ap (λ (v : Bool). if v then takes_text (apostrophe ∷ []) true s else Takes None false (b ∷ s)) e
 
 -- what isn't text, behind quoted text or not
-pub quote_back : (c : Context) (d : ℕ) (q : Bool) (t : List ℕ) (parts : List Part) (rest : List ℕ) → quotes t ≡ false
-    → IsReadAs (InMessage c d false) t parts rest → IsReadAs (InMessage c d q) (end_of_quote q ++ t) parts rest
+pub quote_back : {formats : Formats} (c : Context) (d : ℕ) (q : Bool) (t : List ℕ) (parts : List Part) (rest : List ℕ) → quotes t ≡ false
+    → IsReadAs formats (InMessage c d false) t parts rest → IsReadAs formats (InMessage c d q) (end_of_quote q ++ t) parts rest
 quote_back c d true t parts rest e h = (h.0, message_text c d true false (apostrophe ∷ t) t rest None h.0 (ends_quote c t e) h.1, h.2)
 quote_back c d false t parts rest e h = h

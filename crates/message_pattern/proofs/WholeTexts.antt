@@ -1,5 +1,6 @@
 -- A whole pattern ends with its text.
 use Rattle.std.proofs.Common.{◌≡◌, ◌==◌, ℕ, List, [], ◌∷◌, Bool, true, false, ◌&&◌, ◌||◌, Some, None, refl, subst, if◌then◌else◌}
+use Rattle.message_pattern.specs.declared.head.Formats.{Formats}
 use Rattle.message_pattern.specs.declared.bytes.Class.TheVariants as class
 use Rattle.message_pattern.specs.declared.text.Context.{Context}
 use Rattle.message_pattern.specs.declared.text.Context.TheVariants.{Whole}
@@ -7,7 +8,7 @@ use Rattle.message_pattern.specs.PatternBytes.{apostrophe, hash, opening, closin
 use Rattle.message_pattern.specs.PatternText.{Front, Closes, Opens, Takes, takes_text, front, is_quotable, apostrophe_front, quoted_apostrophe}
 use Rattle.message_pattern.specs.PatternParts.{Part, Hash}
 use Rattle.message_pattern.specs.PatternReading.{PatternPlace, InMessage, InArgument, InBranches}
-use Rattle.message_pattern.specs.PatternGrammar.{IsReadAt, message_ends, message_closes, message_text, message_argument, none_arg, complex_arg, style_branch, style_ends}
+use Rattle.message_pattern.specs.PatternGrammar.{IsReadAt, message_ends, message_closes, message_text, message_argument, none_arg, simple_arg, complex_arg, style_branch, style_ends}
 
 -- a brace ends no message there
 abbrev NoClose : Front → Type 0
@@ -54,13 +55,14 @@ EndsWhole (InMessage c d q) rest = c ≡ Whole → rest ≡ []
 EndsWhole (InArgument d) rest = Unit {0}
 EndsWhole (InBranches kind d other) rest = Unit {0}
 
-pub to_its_end : {place : PatternPlace} {s rest : List ℕ} {parts : List Part} → IsReadAt place s parts rest → EndsWhole place rest
+pub to_its_end : {formats : Formats} {place : PatternPlace} {s rest : List ℕ} {parts : List Part} → IsReadAt formats place s parts rest → EndsWhole place rest
 to_its_end (message_ends c d q s e w) = λ h. refl
 to_its_end (message_closes c d q s rest e) = λ h.
     absurd (subst NoClose (subst (λ (x : Context). front x q s ≡ Closes rest) h e) (front_stays q s))
 to_its_end (message_text c d q r s t rest p more e h) = to_its_end h
 to_its_end (message_argument c d q s t u rest inner more e h k) = to_its_end k
 to_its_end (none_arg d s name t rest i e) = tt
+to_its_end (simple_arg d s text name word rest style a w h) = tt
 to_its_end (complex_arg d kind offset s name t u v w x rest more i e j f o h) = tt
 to_its_end (style_branch d kind other sel s t u v rest inner more i e room h k) = tt
 to_its_end (style_ends d kind s rest e) = tt

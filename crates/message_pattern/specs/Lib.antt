@@ -2,10 +2,12 @@
 pub mod PatternBytes
 pub mod PatternParts
 pub mod PatternText
+pub mod PatternStyles
 pub mod PatternHeads
 pub mod PatternReading
 pub mod PatternGrammar
 pub mod PatternAnswers
 pub mod PatternPrinting
+pub mod StyledParts
 -- not definitions of the subject
 pub mod Inner

@@ -8,56 +8,99 @@ use Rattle.message_pattern.specs.declared.error.FaultKind.TheVariants.{Unsupport
 use Rattle.message_pattern.specs.declared.error.FaultKind.TheVariants.{ExpectedValue, ExpectedBranch, MissingOther, TooDeep}
 use Rattle.message_pattern.specs.declared.error.PatternError as error
 use Rattle.message_pattern.specs.declared.error.PatternError.TheVariants as errors
+use Rattle.message_pattern.specs.declared.head.Formats.{Formats}
+use Rattle.message_pattern.specs.declared.head.Formats.TheVariants.{Refused, Allowed}
 use Rattle.message_pattern.specs.declared.text.Context.TheVariants.{Whole}
 use Rattle.message_pattern.specs.PatternParts.{Part}
-use Rattle.message_pattern.specs.PatternReading.{InMessage, Faulty, ReadsPattern}
+use Rattle.message_pattern.specs.PatternReading.{InMessage, Faulty, ReadsText}
 use Rattle.message_pattern.specs.PatternGrammar.{IsReadAt}
 
--- the whole text is a pattern with these parts, by the grammar: nothing follows them
-abbrev pub IsPattern : List ℕ → List Part → Type 0
-IsPattern text parts = IsReadAt (InMessage Whole 0 false) text parts []
+-- ---- with simple formats, or without
+
+-- the whole text is read as these parts, by the grammar: nothing follows them
+abbrev pub IsTextOf : Formats → List ℕ → List Part → Type 0
+IsTextOf formats text parts = IsReadAt formats (InMessage Whole 0 false) text parts []
 
 -- the text is none: its first fault is of this kind, at this byte
-abbrev pub HasPatternFault : List ℕ → FaultKind → ℕ → Type 0
-HasPatternFault text kind place =
-    (fault : Fault) × ReadsPattern text (Faulty fault) × (kind ≡ fault.kind) × (place ≡ length text - fault.left)
+abbrev pub HasFault : Formats → List ℕ → FaultKind → ℕ → Type 0
+HasFault formats text kind place =
+    (fault : Fault) × ReadsText formats text (Faulty fault) × (kind ≡ fault.kind) × (place ≡ length text - fault.left)
 
 -- the result is this one, unless memory ran out
 abbrev pub IsUnlessMemory : Result (List Part) error.PatternError → Result (List Part) error.PatternError → Type 0
 IsUnlessMemory r answer = (r ≡ answer) ⊎ (r ≡ Err errors.Memory)
 
 -- the error is a fault that the text has, or out of memory
-abbrev pub IsFaultOf : List ℕ → error.PatternError → Type 0
-IsFaultOf text (errors.Fault kind place) = HasPatternFault text kind place
-IsFaultOf text errors.Memory = Unit {0}
+abbrev pub IsFaultIn : Formats → List ℕ → error.PatternError → Type 0
+IsFaultIn formats text (errors.Fault kind place) = HasFault formats text kind place
+IsFaultIn formats text errors.Memory = Unit {0}
 
 -- what is returned is what the text is read as
-abbrev pub IsWhatIsRead : List ℕ → Result (List Part) error.PatternError → Type 0
-IsWhatIsRead text (Ok parts) = IsPattern text parts
-IsWhatIsRead text (Err e) = IsFaultOf text e
+abbrev pub IsWhatIsRead : Formats → List ℕ → Result (List Part) error.PatternError → Type 0
+IsWhatIsRead formats text (Ok parts) = IsTextOf formats text parts
+IsWhatIsRead formats text (Err e) = IsFaultIn formats text e
+
+-- parts are returned if and only if the text is read as these parts, and a fault if and only if the
+-- text has it, out of memory aside
+pub record ReadsExactly (formats : Formats) (text : List ℕ) (r : Result (List Part) error.PatternError) : Type 0 where
+  pub only : IsWhatIsRead formats text r
+  pub read : (parts : List Part) → IsTextOf formats text parts → IsUnlessMemory r (Ok parts)
+  pub fault : (kind : FaultKind) (place : ℕ) → HasFault formats text kind place → IsUnlessMemory r (Err (errors.Fault kind place))
+
+-- ---- patterns, without simple formats
+
+-- the whole text is a pattern with these parts, by the grammar: nothing follows them
+abbrev pub IsPattern : List ℕ → List Part → Type 0
+IsPattern text parts = IsTextOf Refused text parts
+
+-- the text is none: its first fault is of this kind, at this byte
+abbrev pub HasPatternFault : List ℕ → FaultKind → ℕ → Type 0
+HasPatternFault text kind place = HasFault Refused text kind place
+
+-- the error is a fault that the text has, or out of memory
+abbrev pub IsFaultOf : List ℕ → error.PatternError → Type 0
+IsFaultOf text e = IsFaultIn Refused text e
 
 -- parts are returned if and only if the text is a pattern with these parts, and a fault if and only
 -- if the text has it, out of memory aside
-pub record ParsesExactly (text : List ℕ) (r : Result (List Part) error.PatternError) : Type 0 where
-  pub only : IsWhatIsRead text r
-  pub read : (parts : List Part) → IsPattern text parts → IsUnlessMemory r (Ok parts)
-  pub fault : (kind : FaultKind) (place : ℕ) → HasPatternFault text kind place → IsUnlessMemory r (Err (errors.Fault kind place))
+abbrev pub ParsesExactly : List ℕ → Result (List Part) error.PatternError → Type 0
+ParsesExactly text r = ReadsExactly Refused text r
+
+-- ---- patterns with simple formats
+
+-- the same where an argument may have a simple format: it is an `Argument` with all that stands
+-- between its braces
+abbrev pub IsStyledPattern : List ℕ → List Part → Type 0
+IsStyledPattern text parts = IsTextOf Allowed text parts
+
+abbrev pub HasStyledFault : List ℕ → FaultKind → ℕ → Type 0
+HasStyledFault text kind place = HasFault Allowed text kind place
+
+abbrev pub ParsesStyledExactly : List ℕ → Result (List Part) error.PatternError → Type 0
+ParsesStyledExactly text r = ReadsExactly Allowed text r
+
+-- ---- laws
 
 -- a text has at most one list of parts; if it has one, it has no fault; it has at most one fault
 abbrev pub AreReadOneWay : Type 0
 AreReadOneWay =
-    (text : List ℕ)
-    → ((a b : List Part) → IsPattern text a → IsPattern text b → a ≡ b)
-    × ((parts : List Part) (kind : FaultKind) (place : ℕ) → IsPattern text parts → HasPatternFault text kind place → ⊥)
-    × ((a b : FaultKind) (m n : ℕ) → HasPatternFault text a m → HasPatternFault text b n → (a ≡ b) × (m ≡ n))
+    (formats : Formats) (text : List ℕ)
+    → ((a b : List Part) → IsTextOf formats text a → IsTextOf formats text b → a ≡ b)
+    × ((parts : List Part) (kind : FaultKind) (place : ℕ) → IsTextOf formats text parts → HasFault formats text kind place → ⊥)
+    × ((a b : FaultKind) (m n : ℕ) → HasFault formats text a m → HasFault formats text b n → (a ≡ b) × (m ≡ n))
 
--- a text is a pattern, or has a fault
-abbrev pub IsPatternOrFaulty : List ℕ → Type 0
-IsPatternOrFaulty text = ((parts : List Part) × IsPattern text parts) ⊎ ((kind : FaultKind) × (place : ℕ) × HasPatternFault text kind place)
+-- a text is read as parts, or has a fault
+abbrev pub IsReadOrFaulty : Formats → List ℕ → Type 0
+IsReadOrFaulty formats text =
+    ((parts : List Part) × IsTextOf formats text parts) ⊎ ((kind : FaultKind) × (place : ℕ) × HasFault formats text kind place)
 
--- every text is a pattern, or has a fault
+-- every text is read as parts, or has a fault
 abbrev pub EveryTextIsRead : Type 0
-EveryTextIsRead = (text : List ℕ) → IsPatternOrFaulty text
+EveryTextIsRead = (formats : Formats) (text : List ℕ) → IsReadOrFaulty formats text
+
+-- a pattern is one with simple formats, too, and has the same parts
+abbrev pub PatternsAreStyled : Type 0
+PatternsAreStyled = (text : List ℕ) (parts : List Part) → IsPattern text parts → IsStyledPattern text parts
 
 -- ---- The texts that the errors print
 

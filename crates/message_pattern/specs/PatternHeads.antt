@@ -1,15 +1,18 @@
 -- The heads of arguments and branches, or their first fault. The head of an argument is what
 -- follows its brace up to its end or its branches, and that of a branch what stands before it.
-use Rattle.std.specs.Prelude.{ℕ, ◌==◌, List, [], ◌∷◌, Bool, true, false, ◌&&◌, ◌||◌, not, Option, Some, None, Result, Ok, Err, length, codes, if◌then◌else◌}
+use Rattle.std.specs.Prelude.{ℕ, ◌-◌, ◌==◌, List, [], ◌∷◌, Bool, true, false, ◌&&◌, ◌||◌, not, Option, Some, None, is_none, Result, Ok, Err, length, take, codes, if◌then◌else◌}
 use Rattle.std.specs.Str.{str_eq_ignore_ascii_case}
 use Rattle.message_pattern.specs.declared.bytes.Class.TheVariants.{Name, Number, Digit, Letter}
 use Rattle.message_pattern.specs.declared.error.Fault.{Fault}
 use Rattle.message_pattern.specs.declared.error.FaultKind.{FaultKind}
 use Rattle.message_pattern.specs.declared.error.FaultKind.TheVariants.{Unclosed, ExpectedName, BadNumber, ExpectedEnd, ExpectedType, UnsupportedType, ExpectedStyle, ExpectedOffset, ExpectedSelector, ExpectedValue, ExpectedBranch, MissingOther}
+use Rattle.message_pattern.specs.declared.head.Formats.{Formats}
+use Rattle.message_pattern.specs.declared.head.Formats.TheVariants.{Refused, Allowed}
 use Rattle.message_pattern.specs.declared.part.ArgumentKind.{ArgumentKind}
 use Rattle.message_pattern.specs.declared.part.ArgumentKind.TheVariants.{Plural, Ordinal, Select}
 use Rattle.message_pattern.specs.PatternBytes.{comma, minus_sign, decimal_point, equals, opening, closing, is_empty_text, class_front, behind_run, after_white, after_word}
 use Rattle.message_pattern.specs.PatternParts.{Selector, Exactly, Keyword}
+use Rattle.message_pattern.specs.PatternStyles.{behind_style}
 
 -- what follows a value; a fault is the result
 abbrev pub and_then : {A B : Type 0} → Result A Fault → (A → Result B Fault) → Result B Fault
@@ -35,7 +38,7 @@ missing kind (b ∷ s) = fault_at kind (b ∷ s)
 
 -- what follows the brace that begins an argument
 pub data Head : Type 0 where
-  -- an argument that is shown as it is
+  -- an argument that is shown as it is, or by a simple format: what stands between its braces
   Plain : List ℕ → Head
   -- an argument that chooses among branches: its kind, its name, and the digits of its offset
   Choice : ArgumentKind → List ℕ → Option (List ℕ) → Head
@@ -98,17 +101,47 @@ choice_front name s =
     and_then (kind_front (after_white s)) (λ kind. and_then (offset_front kind.0 kind.1) (λ offset.
     Ok (Choice kind.0 name offset.0, offset.1)))
 
--- what follows the name of an argument
-abbrev pub behind_name : List ℕ → List ℕ → Result (Head × List ℕ) Fault
-behind_name name [] = Err unclosed
-behind_name name (b ∷ s) =
-    if b == closing then Ok (Plain name, s)
-    else if b == comma then choice_front name s
-    else Err (fault_at ExpectedEnd (b ∷ s))
+-- the word is the type of a simple format: any but those that choose, and `choice`, in letters of
+-- any case
+abbrev pub is_simple_type : List ℕ → Bool
+is_simple_type word =
+    not (is_empty_text word) && (is_none (kind_named word) && not (str_eq_ignore_ascii_case word (codes "choice")))
+
+-- what stands in s before the brace that the rest follows
+abbrev pub text_before : List ℕ → List ℕ → List ℕ
+text_before s rest = take (length s - length rest - 1) s
+
+-- the argument s ends with a style, and the rest follows its brace
+abbrev pub styled_front : List ℕ → Option (List ℕ) → Result (Head × List ℕ) Fault
+styled_front s None = Err unclosed
+styled_front s (Some rest) = Ok (Plain (text_before s rest), rest)
+
+-- the argument s has a simple format, of which t follows the type
+abbrev pub simple_front : List ℕ → List ℕ → Result (Head × List ℕ) Fault
+simple_front s [] = Err unclosed
+simple_front s (b ∷ t) =
+    if b == closing then Ok (Plain (text_before s t), t)
+    else if b == comma then styled_front s (behind_style 0 false t)
+    else Err (fault_at ExpectedEnd (b ∷ t))
+
+-- the argument s has a type, of which t follows the comma
+abbrev pub typed_front : Formats → List ℕ → List ℕ → List ℕ → Result (Head × List ℕ) Fault
+typed_front Refused s name t = choice_front name t
+typed_front Allowed s name t =
+    if is_simple_type (class_front Letter (after_white t)) then simple_front s (after_white (behind_run Letter (after_white t)))
+    else choice_front name t
+
+-- what follows the name of the argument s
+abbrev pub behind_name : Formats → List ℕ → List ℕ → List ℕ → Result (Head × List ℕ) Fault
+behind_name formats s name [] = Err unclosed
+behind_name formats s name (b ∷ t) =
+    if b == closing then Ok (Plain name, t)
+    else if b == comma then typed_front formats s name t
+    else Err (fault_at ExpectedEnd (b ∷ t))
 
 -- the head of an argument in front of s
-abbrev pub head_front : List ℕ → Result (Head × List ℕ) Fault
-head_front s = and_then (name_front (after_white s)) (λ name. behind_name name.0 name.1)
+abbrev pub head_front : Formats → List ℕ → Result (Head × List ℕ) Fault
+head_front formats s = and_then (name_front (after_white s)) (λ name. behind_name formats (after_white s) name.0 name.1)
 
 -- ---- what stands before a branch
 

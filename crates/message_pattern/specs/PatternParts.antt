@@ -19,7 +19,7 @@ pub data PatternPiece : Type 0 where
   Text : List ℕ → PatternPiece
   -- `#`: the number less the offset
   Hash : PatternPiece
-  -- `{name}`
+  -- `{name}`; where simple formats are read, all that stands between the braces
   Argument : List ℕ → PatternPiece
   -- the beginning of an argument that chooses: its kind, its name, and the digits of its offset
   Begin : ArgumentKind → List ℕ → Option (List ℕ) → PatternPiece

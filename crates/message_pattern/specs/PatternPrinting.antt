@@ -1,5 +1,7 @@
 -- The text that the parts of a pattern are printed as, and when two lists of parts say the same.
 use Rattle.std.specs.Prelude.{◌≡◌, ℕ, ◌+◌, ◌==◌, List, [], ◌∷◌, ◌++◌, Bool, true, false, not, ◌&&◌, ◌||◌, Option, Some, None, codes, if◌then◌else◌}
+use Rattle.message_pattern.specs.declared.head.Formats.{Formats}
+use Rattle.message_pattern.specs.declared.head.Formats.TheVariants.{Refused, Allowed}
 use Rattle.message_pattern.specs.declared.part.ArgumentKind.{ArgumentKind}
 use Rattle.message_pattern.specs.declared.part.ArgumentKind.TheVariants.{Plural, Ordinal, Select}
 use Rattle.message_pattern.specs.declared.text.Context.{Context}
@@ -11,7 +13,7 @@ use Rattle.message_pattern.specs.PatternParts.{Part, PatternPiece, Selector, Exa
 use Rattle.message_pattern.specs.PatternParts as piece
 use Rattle.message_pattern.specs.PatternHeads.{is_other}
 use Rattle.message_pattern.specs.PatternReading.{PatternPlace, InMessage, InArgument, InBranches, one, context_of}
-use Rattle.message_pattern.specs.PatternAnswers.{IsPattern}
+use Rattle.message_pattern.specs.PatternAnswers.{IsTextOf}
 
 -- ---- the same parts
 
@@ -85,7 +87,7 @@ pub data IsPrinted : PatternPlace → List Part → List ℕ → Type 0 where
   message_argument : (c : Context) (d : ℕ) (q : Bool) (argument text : List ℕ) (inner more : List Part)
       → IsPrinted (InArgument d) inner argument → IsPrinted (InMessage c d false) more text
       → IsPrinted (InMessage c d q) (inner ++ more) (end_of_quote q ++ opening ∷ (argument ++ text))
-  -- `{name}`
+  -- `{name}`, or `{name, type, style}` as it is written
   none_arg : (d : ℕ) (name : List ℕ) → IsPrinted (InArgument d) (one d (Argument name)) (name ++ closing ∷ [])
   -- `{name, plural, offset:1 =0 {..} other {..}}`
   complex_arg : (d : ℕ) (kind : ArgumentKind) (name : List ℕ) (offset : Option (List ℕ)) (text : List ℕ) (more : List Part)
@@ -101,20 +103,29 @@ abbrev pub PrintsAs : List Part → List ℕ → Type 0
 PrintsAs parts text = IsPrinted (InMessage Whole 0 false) parts text
 
 -- the text is a pattern, and says the same as these parts
-abbrev pub IsReadAlike : List ℕ → List Part → Type 0
-IsReadAlike text parts = (again : List Part) × IsPattern text again × SayTheSame again parts
+abbrev pub IsReadAlike : Formats → List ℕ → List Part → Type 0
+IsReadAlike formats text parts = (again : List Part) × IsTextOf formats text again × SayTheSame again parts
 
 -- the text is the one that the parts are printed as, and if they are those of a pattern, it is
 -- printed so, and read back
-pub record PrintsExactly (parts : List Part) (text : List ℕ) : Type 0 where
+pub record PrintsBackExactly (formats : Formats) (parts : List Part) (text : List ℕ) : Type 0 where
   pub only : (t : List ℕ) → PrintsAs parts t → text ≡ t
-  pub printed : (source : List ℕ) → IsPattern source parts → PrintsAs parts text
-  pub read_back : (source : List ℕ) → IsPattern source parts → IsReadAlike text parts
+  pub printed : (source : List ℕ) → IsTextOf formats source parts → PrintsAs parts text
+  pub read_back : (source : List ℕ) → IsTextOf formats source parts → IsReadAlike formats text parts
+
+-- of a pattern without simple formats
+abbrev pub PrintsExactly : List Part → List ℕ → Type 0
+PrintsExactly parts text = PrintsBackExactly Refused parts text
+
+-- of a pattern with simple formats
+abbrev pub PrintsStyledExactly : List Part → List ℕ → Type 0
+PrintsStyledExactly parts text = PrintsBackExactly Allowed parts text
 
 -- the parts of each pattern are printed as a text that is read as a pattern that says the same
 abbrev pub PatternsPrintBack : Type 0
 PatternsPrintBack =
-    (source : List ℕ) (parts : List Part) → IsPattern source parts → (text : List ℕ) × PrintsAs parts text × IsReadAlike text parts
+    (formats : Formats) (source : List ℕ) (parts : List Part) → IsTextOf formats source parts
+    → (text : List ℕ) × PrintsAs parts text × IsReadAlike formats text parts
 
 -- parts that say the same are printed as the same text
 abbrev pub HaveOnePrintedText : Type 0

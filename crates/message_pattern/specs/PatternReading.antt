@@ -3,6 +3,8 @@ use Rattle.std.specs.Prelude.{◌≡◌, ℕ, ◌+◌, List, [], ◌∷◌, ◌+
 use Rattle.message_pattern.specs.declared.reader.TheConstants.{DEPTH_LIMIT}
 use Rattle.message_pattern.specs.declared.error.Fault.{Fault}
 use Rattle.message_pattern.specs.declared.error.FaultKind.TheVariants.{TooDeep}
+use Rattle.message_pattern.specs.declared.head.Formats.{Formats}
+use Rattle.message_pattern.specs.declared.head.Formats.TheVariants.{Refused}
 use Rattle.message_pattern.specs.declared.part.ArgumentKind.{ArgumentKind}
 use Rattle.message_pattern.specs.declared.part.ArgumentKind.TheVariants.{Plural, Ordinal, Select}
 use Rattle.message_pattern.specs.declared.text.Context.{Context}
@@ -85,22 +87,27 @@ branches_step kind depth has_other (Ok (branch.Closes rest)) = Ends (one depth p
 branches_step kind depth has_other (Ok (branch.Opens selector rest)) = opens_branch kind depth has_other selector rest
 
 -- what stands in front of s at a place
-abbrev pub read_step : PatternPlace → List ℕ → ReadStep
-read_step (InMessage context depth quoted) s = message_step context depth (front context quoted s)
-read_step (InArgument depth) s = argument_step depth (head_front s)
-read_step (InBranches kind depth has_other) s = branches_step kind depth has_other (branch_front kind has_other s)
+abbrev pub read_step : Formats → PatternPlace → List ℕ → ReadStep
+read_step formats (InMessage context depth quoted) s = message_step context depth (front context quoted s)
+read_step formats (InArgument depth) s = argument_step depth (head_front formats s)
+read_step formats (InBranches kind depth has_other) s = branches_step kind depth has_other (branch_front kind has_other s)
 
 -- from this step on, behind these parts, a text is read to the outcome
-pub data ReadsTo : ReadStep → List Part → ReadOutcome → Type 0 where
-  ends : (at : ReadStep) (before parts : List Part) (rest : List ℕ) → at ≡ Ends parts rest → ReadsTo at before (Read (before ++ parts) rest)
-  fails : (at : ReadStep) (before : List Part) (fault : Fault) → at ≡ Fails fault → ReadsTo at before (Faulty fault)
+pub data ReadsTo (formats : Formats) : ReadStep → List Part → ReadOutcome → Type 0 where
+  ends : (at : ReadStep) (before parts : List Part) (rest : List ℕ) → at ≡ Ends parts rest → ReadsTo formats at before (Read (before ++ parts) rest)
+  fails : (at : ReadStep) (before : List Part) (fault : Fault) → at ≡ Fails fault → ReadsTo formats at before (Faulty fault)
   goes : (at : ReadStep) (before parts : List Part) (place : PatternPlace) (rest : List ℕ) (outcome : ReadOutcome) → at ≡ Goes parts place rest
-      → ReadsTo (read_step place rest) (before ++ parts) outcome → ReadsTo at before outcome
+      → ReadsTo formats (read_step formats place rest) (before ++ parts) outcome → ReadsTo formats at before outcome
   calls : (at : ReadStep) (before parts inner : List Part) (place after : PatternPlace) (rest end : List ℕ) (outcome : ReadOutcome) → at ≡ Calls parts place after rest
-      → ReadsTo (read_step place rest) (before ++ parts) (Read inner end) → ReadsTo (read_step after end) inner outcome → ReadsTo at before outcome
+      → ReadsTo formats (read_step formats place rest) (before ++ parts) (Read inner end) → ReadsTo formats (read_step formats after end) inner outcome
+      → ReadsTo formats at before outcome
   breaks : (at : ReadStep) (before parts : List Part) (place after : PatternPlace) (rest : List ℕ) (fault : Fault) → at ≡ Calls parts place after rest
-      → ReadsTo (read_step place rest) (before ++ parts) (Faulty fault) → ReadsTo at before (Faulty fault)
+      → ReadsTo formats (read_step formats place rest) (before ++ parts) (Faulty fault) → ReadsTo formats at before (Faulty fault)
+
+-- a whole text is read to the outcome
+abbrev pub ReadsText : Formats → List ℕ → ReadOutcome → Type 0
+ReadsText formats text outcome = ReadsTo formats (read_step formats (InMessage Whole 0 false) text) [] outcome
 
 -- a whole pattern is read to the outcome
 abbrev pub ReadsPattern : List ℕ → ReadOutcome → Type 0
-ReadsPattern text outcome = ReadsTo (read_step (InMessage Whole 0 false) text) [] outcome
+ReadsPattern text outcome = ReadsText Refused text outcome

@@ -17,8 +17,8 @@ pub enum FaultKind {
     ExpectedEnd,
     /// No letters after the comma.
     ExpectedType,
-    /// A type other than `plural`, `selectordinal` and `select`: a simple format as `number`, or
-    /// `choice`.
+    /// A type other than `plural`, `selectordinal` and `select`: a simple format as `number`, which
+    /// [`StyledPattern`](crate::StyledPattern) reads, or `choice`.
     UnsupportedType,
     /// No comma after the type.
     ExpectedStyle,

@@ -1,15 +1,24 @@
 //! The head of an argument: what stands between its brace and its end or its branches.
 
 ghost use Rattle.std.specs.Prelude.{◌≡◌, ◌∷◌, ◌≤◌, ◌<◌, IfOk, length};
-ghost use Rattle.message_pattern.specs.PatternHeads.{fault_at, unclosed, missing, is_bad_number, name_front, kind_named, style_front, kind_before, kind_front, digits_front, offset_front, choice_front, behind_name, head_front};
+ghost use Rattle.message_pattern.specs.PatternHeads.{fault_at, unclosed, missing, is_bad_number, name_front, kind_named, style_front, kind_before, kind_front, digits_front, offset_front, choice_front, is_simple_type, text_before, simple_front, typed_front, behind_name, head_front};
 ghost use Rattle.message_pattern.specs.Inner.PatternViews.{seen, head_view, digits_view};
 
 use crate::bytes::{Class, after_white, after_word, split_run};
 use crate::error::{Fault, FaultKind};
 use crate::part::ArgumentKind;
+use crate::style::behind_style;
+
+// Whether an argument may have a simple format, as `{d, date, short}`.
+#[derive(Clone, Copy)]
+pub(crate) enum Formats {
+    Refused,
+    Allowed,
+}
 
 // What follows the brace that begins an argument.
 pub(crate) enum Head<'p> {
+    // Shown as it is, or by a simple format: what stands between the braces.
     Plain(&'p [u8]),
     Choice(ArgumentKind, &'p [u8], Option<&'p [u8]>),
 }
@@ -165,9 +174,74 @@ fn choice_front<'p>(name: &'p [u8], text: &'p [u8]) -> Result<(Head<'p>, &'p [u8
     Ok((Head::Choice(kind, name, offset), rest))
 }
 
+// Whether the word is the type of a simple format.
+fn is_simple_type(word: &[u8]) -> bool
+    ensures { result ≡ is_simple_type word.now }
+{
+    !word.is_empty() && (kind_named(word).is_none() && !word.eq_ignore_ascii_case(b"choice"))
+}
+
+// What stands in the text before the brace that the rest follows.
+fn text_before<'p>(text: &'p [u8], rest: &[u8]) -> &'p [u8]
+    requires { length rest.now < length text.now }
+    ensures { result.now ≡ text_before text.now rest.now }
+{
+    &text[..text.len() - rest.len() - 1]
+}
+
+// The end of an argument with a simple format, or its style, is in front of the text; the argument
+// is all from its name on.
+fn simple_front<'p>(argument: &'p [u8], text: &'p [u8]) -> Result<(Head<'p>, &'p [u8]), Fault>
+    requires { length text.now ≤ length argument.now }
+    ensures head { seen (λ x. (head_view x.0, x.1.now)) result ≡ simple_front argument.now text.now }
+    ensures shorter { IfOk result (λ x. length x.1.now ≤ length text.now) }
+{
+    let [first, after @ ..] = text else {
+        return Err(unclosed());
+    };
+    if *first == b'}' {
+        return Ok((Head::Plain(text_before(argument, after)), after));
+    }
+    if *first != b',' {
+        return Err(fault_at(FaultKind::ExpectedEnd, text));
+    }
+    match behind_style(after) {
+        Some(rest) => Ok((Head::Plain(text_before(argument, rest)), rest)),
+        None => Err(unclosed()),
+    }
+}
+
+// The argument has a type, which is in front of the text.
+fn typed_front<'p>(
+    formats: Formats,
+    argument: &'p [u8],
+    name: &'p [u8],
+    text: &'p [u8],
+) -> Result<(Head<'p>, &'p [u8]), Fault>
+    requires { length text.now ≤ length argument.now }
+    ensures head { seen (λ x. (head_view x.0, x.1.now)) result ≡ typed_front formats argument.now name.now text.now }
+    ensures shorter { IfOk result (λ x. length x.1.now ≤ length text.now) }
+{
+    if let Formats::Refused = formats {
+        return choice_front(name, text);
+    }
+    let (word, rest) = split_run(Class::Letter, after_white(text));
+    if is_simple_type(word) {
+        simple_front(argument, after_white(rest))
+    } else {
+        choice_front(name, text)
+    }
+}
+
 // What follows the name of an argument.
-fn behind_name<'p>(name: &'p [u8], text: &'p [u8]) -> Result<(Head<'p>, &'p [u8]), Fault>
-    ensures head { seen (λ x. (head_view x.0, x.1.now)) result ≡ behind_name name.now text.now }
+fn behind_name<'p>(
+    formats: Formats,
+    argument: &'p [u8],
+    name: &'p [u8],
+    text: &'p [u8],
+) -> Result<(Head<'p>, &'p [u8]), Fault>
+    requires { length text.now ≤ length argument.now }
+    ensures head { seen (λ x. (head_view x.0, x.1.now)) result ≡ behind_name formats argument.now name.now text.now }
     ensures shorter { IfOk result (λ x. length x.1.now ≤ length text.now) }
 {
     let [first, rest @ ..] = text else {
@@ -176,17 +250,18 @@ fn behind_name<'p>(name: &'p [u8], text: &'p [u8]) -> Result<(Head<'p>, &'p [u8]
     if *first == b'}' {
         Ok((Head::Plain(name), rest))
     } else if *first == b',' {
-        choice_front(name, rest)
+        typed_front(formats, argument, name, rest)
     } else {
         Err(fault_at(FaultKind::ExpectedEnd, text))
     }
 }
 
 // The head of an argument, in front of the text.
-pub(crate) fn head_front(text: &[u8]) -> Result<(Head<'_>, &[u8]), Fault>
-    ensures head { seen (λ x. (head_view x.0, x.1.now)) result ≡ head_front text.now }
+pub(crate) fn head_front(formats: Formats, text: &[u8]) -> Result<(Head<'_>, &[u8]), Fault>
+    ensures head { seen (λ x. (head_view x.0, x.1.now)) result ≡ head_front formats text.now }
     ensures shorter { IfOk result (λ x. length x.1.now ≤ length text.now) }
 {
-    let (name, rest) = name_front(after_white(text))?;
-    behind_name(name, rest)
+    let argument = after_white(text);
+    let (name, rest) = name_front(argument)?;
+    behind_name(formats, argument, name, rest)
 }

@@ -10,9 +10,14 @@ mod part;
 mod pattern;
 mod print;
 mod reader;
+mod style;
+mod styled;
+mod styled_argument;
 mod text;
 
 pub use error::{FaultKind, PatternError};
 pub use part::{ArgumentKind, Part, Piece, Selector};
 pub use pattern::Pattern;
 pub use reader::DEPTH_LIMIT;
+pub use styled::StyledPattern;
+pub use styled_argument::{SimpleFormat, StyledArgument};

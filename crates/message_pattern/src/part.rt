@@ -28,7 +28,8 @@ pub enum Piece<'p> {
     Text(&'p [u8]),
     /// `#` in a branch of a plural: the number, less the offset.
     Hash,
-    /// `{name}`.
+    /// `{name}`: the name. In a [`StyledPattern`](crate::StyledPattern) all between the braces, as
+    /// `d, date, short`.
     Argument(&'p [u8]),
     /// The beginning of an argument that chooses: its kind, its name, and the digits of its offset.
     Begin(ArgumentKind, &'p [u8], Option<&'p [u8]>),

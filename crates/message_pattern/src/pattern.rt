@@ -2,11 +2,12 @@
 
 ghost use Rattle.std.specs.Prelude.{◌≡◌, IfOk};
 ghost use Rattle.message_pattern.specs.PatternParts.{parts_view};
-ghost use Rattle.message_pattern.specs.PatternAnswers.{ParsesExactly};
+ghost use Rattle.message_pattern.specs.PatternAnswers.{ParsesExactly, ReadsExactly};
 ghost use Rattle.message_pattern.specs.PatternPrinting.{PrintsExactly};
-ghost use Rattle.message_pattern.specs.Inner.PatternViews.{pattern_error};
+ghost use Rattle.message_pattern.specs.Inner.PatternViews.{parts_read, pattern_error};
 
 use crate::error::{PatternError, ReadError};
+use crate::head::Formats;
 use crate::part::Part;
 use crate::print::print;
 use crate::reader::message;
@@ -20,7 +21,7 @@ const ROOM: usize = 16;
 /// A pattern of messages: the flat list of its parts, which borrow from the text.
 #[derive(Debug, Drop)]
 pub struct Pattern<'p> {
-    parts: Vec<Part<'p>>,
+    pub(crate) parts: Vec<Part<'p>>,
 }
 
 impl<'p> Model for Pattern<'p> {
@@ -40,13 +41,9 @@ impl<'p> Pattern<'p> {
     pub fn parse(alloc: Global, text: &'p [u8]) -> Result<Pattern<'p>, PatternError>
         ensures { ParsesExactly text.now result }
     {
-        let mut parts = match Vec::with_capacity(alloc, ROOM) {
-            Ok(parts) => parts,
-            Err(_) => return Err(PatternError::Memory),
-        };
-        match message(Context::Whole, 0, text, &mut parts) {
-            Ok(_) => Ok(Pattern { parts }),
-            Err(error) => Err(pattern_error(text, error)),
+        match read(alloc, Formats::Refused, text) {
+            Ok(parts) => Ok(Pattern { parts }),
+            Err(error) => Err(error),
         }
     }
 
@@ -66,6 +63,24 @@ impl<'p> Pattern<'p> {
         ensures { IfOk result (λ text. PrintsExactly self.now text.items) }
     {
         print(alloc, &self.parts)
+    }
+}
+
+// The parts of a text, or its first fault.
+pub(crate) fn read<'p>(
+    alloc: Global,
+    formats: Formats,
+    text: &'p [u8],
+) -> Result<Vec<Part<'p>>, PatternError>
+    ensures { ReadsExactly formats text.now (parts_read result) }
+{
+    let mut parts = match Vec::with_capacity(alloc, ROOM) {
+        Ok(parts) => parts,
+        Err(_) => return Err(PatternError::Memory),
+    };
+    match message(formats, Context::Whole, 0, text, &mut parts) {
+        Ok(_) => Ok(parts),
+        Err(error) => Err(pattern_error(text, error)),
     }
 }
 

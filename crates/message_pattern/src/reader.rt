@@ -1,6 +1,7 @@
 //! Reading a pattern: messages, arguments and branches.
 
 ghost use Rattle.std.specs.Prelude.{◌≡◌, ◌≤◌, ◌<◌, ◌++◌, [], true, false, IfOk, IfErr, OnOk, MatchResult, length};
+ghost use Rattle.message_pattern.specs.declared.head.Formats.{Formats};
 ghost use Rattle.message_pattern.specs.PatternParts.{parts_view, piece_view};
 ghost use Rattle.message_pattern.specs.PatternReading.{read_step, message_step, one, at_most_one, context_of, InMessage, InArgument, InBranches, ReadOutcome, ReadsTo};
 ghost use Rattle.message_pattern.specs.PatternText.{is_nested};
@@ -9,7 +10,7 @@ ghost use Rattle.message_pattern.specs.Inner.PatternViews.{GivesReadOutcome, IsS
 
 use crate::branch::{BranchFront, branch_front};
 use crate::error::{FaultKind, ReadError};
-use crate::head::{Head, fault_at, head_front, unclosed};
+use crate::head::{Formats, Head, fault_at, head_front, unclosed};
 use crate::part::{ArgumentKind, Part, Piece};
 use crate::text::{Context, Front, front_of};
 
@@ -68,8 +69,8 @@ fn pieces<'p>(
     text: &'p [u8],
     parts: &mut Vec<Part<'p>>,
 ) -> Result<Stop<'p>, ReadError>
-    ensures read { IfOk result (λ stop. (outcome : ReadOutcome) → ReadsTo (message_step context depth (stop_view stop)) (parts_view parts.new.items) outcome
-        → ReadsTo (read_step (InMessage context depth false) text.now) (parts_view parts.old.items) outcome) }
+    ensures read { IfOk result (λ stop. (formats : Formats) (outcome : ReadOutcome) → ReadsTo formats (message_step context depth (stop_view stop)) (parts_view parts.new.items) outcome
+        → ReadsTo formats (read_step formats (InMessage context depth false) text.now) (parts_view parts.old.items) outcome) }
     ensures shorter { IfOk result (λ stop. IsShorter (stop_view stop) text.now) }
     ensures err { IfErr result (λ e. e ≡ ReadError.Memory) }
 {
@@ -104,13 +105,14 @@ fn end_of_text<'p>(context: Context) -> Result<&'p [u8], ReadError>
 // Reads a message.
 #[cycle(read)]
 pub(crate) fn message<'p>(
+    formats: Formats,
     context: Context,
     depth: usize,
     text: &'p [u8],
     parts: &mut Vec<Part<'p>>,
 ) -> Result<&'p [u8], ReadError>
     requires { depth ≤ DEPTH_LIMIT }
-    ensures outcome { GivesReadOutcome (read_step (InMessage context depth false) text.now) parts.old.items parts.new.items result }
+    ensures outcome { GivesReadOutcome formats (read_step formats (InMessage context depth false) text.now) parts.old.items parts.new.items result }
     ensures shorter { IfOk result (λ rest. length rest.now ≤ length text.now) }
 {
     let mut rest = text;
@@ -118,7 +120,7 @@ pub(crate) fn message<'p>(
         match pieces(context, depth, rest, parts)? {
             Stop::End => return end_of_text(context),
             Stop::Closes(after) => return Ok(after),
-            Stop::Opens(after) => rest = argument(depth, after, parts)?,
+            Stop::Opens(after) => rest = argument(formats, depth, after, parts)?,
         }
     }
 }
@@ -126,15 +128,16 @@ pub(crate) fn message<'p>(
 // Reads an argument, behind its brace.
 #[cycle(read)]
 fn argument<'p>(
+    formats: Formats,
     depth: usize,
     text: &'p [u8],
     parts: &mut Vec<Part<'p>>,
 ) -> Result<&'p [u8], ReadError>
     requires { depth ≤ DEPTH_LIMIT }
-    ensures outcome { GivesReadOutcome (read_step (InArgument depth) text.now) parts.old.items parts.new.items result }
+    ensures outcome { GivesReadOutcome formats (read_step formats (InArgument depth) text.now) parts.old.items parts.new.items result }
     ensures shorter { IfOk result (λ rest. length rest.now ≤ length text.now) }
 {
-    let (head, rest) = head_front(text)?;
+    let (head, rest) = head_front(formats, text)?;
     match head {
         Head::Plain(name) => {
             push(parts, depth, Piece::Argument(name))?;
@@ -142,7 +145,7 @@ fn argument<'p>(
         }
         Head::Choice(kind, name, offset) => {
             push(parts, depth, Piece::Begin(kind, name, offset))?;
-            branches(kind, depth, rest, parts)
+            branches(formats, kind, depth, rest, parts)
         }
     }
 }
@@ -150,13 +153,14 @@ fn argument<'p>(
 // Reads the branches of an argument, up to its end.
 #[cycle(read)]
 fn branches<'p>(
+    formats: Formats,
     kind: ArgumentKind,
     depth: usize,
     text: &'p [u8],
     parts: &mut Vec<Part<'p>>,
 ) -> Result<&'p [u8], ReadError>
     requires { depth ≤ DEPTH_LIMIT }
-    ensures outcome { GivesReadOutcome (read_step (InBranches kind depth false) text.now) parts.old.items parts.new.items result }
+    ensures outcome { GivesReadOutcome formats (read_step formats (InBranches kind depth false) text.now) parts.old.items parts.new.items result }
     ensures shorter { IfOk result (λ rest. length rest.now ≤ length text.now) }
 {
     let mut has_other = false;
@@ -172,7 +176,7 @@ fn branches<'p>(
                     return Err(ReadError::Fault(fault_at(FaultKind::TooDeep, inner)));
                 }
                 push(parts, depth, Piece::Branch(selector))?;
-                rest = message(kind.context(), depth + 1, inner, parts)?;
+                rest = message(formats, kind.context(), depth + 1, inner, parts)?;
                 has_other = has_other || selector.is_other();
             }
         }

@@ -1,7 +1,8 @@
 -- What is found in a text, of what the reader of patterns returns.
 use Rattle.std.proofs.Common.{◌≡◌, ℕ, List, inl, inr, refl, subst}
 use Rattle.std.specs.Prelude.{Ok, Err}
-use Rattle.message_pattern.specs.PatternAnswers.{ParsesExactly, HasPatternFault, IsPattern}
+use Rattle.message_pattern.specs.PatternAnswers.{ParsesStyledExactly, HasStyledFault, IsStyledPattern}
+use Rattle.message_pattern.specs.StyledParts.{unstyled}
 use Rattle.message_pattern.specs.PatternParts.{Part}
 use Rattle.message_pattern.specs.declared.error.FaultKind.{FaultKind}
 use Rattle.message_pattern.specs.declared.error.PatternError.TheVariants as error
@@ -12,20 +13,20 @@ use Rattle.message_report.specs.PatternFaults.{TwoLanguages}
 
 -- a pattern
 pub pattern_found : (two : TwoLanguages) (place text bytes : List ℕ) (ps shown : List Part) (old new : Found) → bytes ≡ text
-    → ParsesExactly bytes (Ok ps) → shown ≡ ps → HasGrownBy (IsFoundInArguments two place shown) old new
+    → ParsesStyledExactly bytes (Ok ps) → shown ≡ unstyled ps → HasGrownBy (IsFoundInArguments two place shown) old new
     → HasGrownBy (IsFoundInText two place text) old new
 pattern_found two place text bytes ps shown old new same answers is added = (
   added.0,
-  inl (ps, subst (λ (b : List ℕ). IsPattern b ps) same answers.only, subst (λ (l : List Part). IsFoundInArguments two place l added.0) is added.1),
+  inl (ps, subst (λ (b : List ℕ). IsStyledPattern b ps) same answers.only, subst (λ (l : List Part). IsFoundInArguments two place l added.0) is added.1),
   added.2,
 )
 
 -- none
 pub fault_found : (two : TwoLanguages) (place text bytes : List ℕ) (kind : FaultKind) (byte : ℕ) (old new : Found) → bytes ≡ text
-    → ParsesExactly bytes (Err (error.Fault kind byte)) → new ≡ together old (one_fault (no_pattern_line place kind byte))
+    → ParsesStyledExactly bytes (Err (error.Fault kind byte)) → new ≡ together old (one_fault (no_pattern_line place kind byte))
     → HasGrownBy (IsFoundInText two place text) old new
 fault_found two place text bytes kind byte old new same answers added = (
   one_fault (no_pattern_line place kind byte),
-  inr (kind, byte, subst (λ (b : List ℕ). HasPatternFault b kind byte) same answers.only, refl),
+  inr (kind, byte, subst (λ (b : List ℕ). HasStyledFault b kind byte) same answers.only, refl),
   added,
 )

@@ -20,7 +20,8 @@ use Rattle.icu_plurals.specs.declared.PluralCategory.TheVariants.{Zero, One, Two
 use Rattle.icu_plurals.specs.declared.PluralRuleType.{PluralRuleType}
 use Rattle.icu_plurals.specs.declared.PluralRuleType.TheVariants.{Cardinal, Ordinal}
 use Rattle.message_pattern.specs.PatternParts.{Branching, Part, PatternPiece, Selector, Exactly, Keyword, Begin}
-use Rattle.message_pattern.specs.PatternAnswers.{HasPatternFault, IsPattern, pattern_error_text}
+use Rattle.message_pattern.specs.PatternAnswers.{HasStyledFault, IsStyledPattern, pattern_error_text}
+use Rattle.message_pattern.specs.StyledParts.{unstyled}
 use Rattle.message_pattern.specs.declared.error.FaultKind.{FaultKind}
 use Rattle.message_pattern.specs.declared.error.PatternError.TheVariants as error
 use Rattle.message_report.specs.FormFaults.{Language, HasFormFault, IsLanguageOf, form_fault_text, told_of}
@@ -264,11 +265,12 @@ abbrev pub IsFoundInArguments : TwoLanguages → List ℕ → List Part → Foun
 IsFoundInArguments two place parts found =
     (lines : List (List ℕ)) × HasPatternLines two place parts lines × (found ≡ found_of_lines place lines)
 
--- of a text: what is wrong with the arguments of the pattern, or its first fault if it is none
+-- of a text: what is wrong with the arguments of the pattern, of which those with simple formats are
+-- taken by their names alone, or its first fault if it is none
 abbrev pub IsFoundInText : TwoLanguages → List ℕ → List ℕ → Found → Type 0
 IsFoundInText two place text found =
-    ((parts : List Part) × IsPattern text parts × IsFoundInArguments two place parts found)
-    ⊎ ((kind : FaultKind) × (byte : ℕ) × HasPatternFault text kind byte × (found ≡ one_fault (no_pattern_line place kind byte)))
+    ((parts : List Part) × IsStyledPattern text parts × IsFoundInArguments two place (unstyled parts) found)
+    ⊎ ((kind : FaultKind) × (byte : ℕ) × HasStyledFault text kind byte × (found ≡ one_fault (no_pattern_line place kind byte)))
 
 -- of a value, which should be a text
 abbrev pub IsFoundInTextIf : TwoLanguages → List ℕ → Option (List ℕ) → Found → Type 0

@@ -16,7 +16,7 @@ use crate::keys::place_line;
 use crate::languages::Languages;
 use crate::pattern_lines::tell_pattern;
 use crate::pattern_place::PatternPlace;
-use message_pattern::{FaultKind, Part, Pattern, PatternError};
+use message_pattern::{FaultKind, Part, PatternError, StyledPattern};
 use plural_documents::{Found, MOST_TOLD, MemberCheck, add_rest};
 use serde_json::Value;
 use std::alloc::{AllocError, Global};
@@ -81,8 +81,11 @@ fn add_text(
 ) -> Result<(), AllocError>
     ensures { OnOk result (HasGrownBy (IsFoundInText (languages_view languages.now) (pattern_text place.entry) text.now) found.old found.new) }
 {
-    match Pattern::parse(alloc, text.as_bytes()) {
-        Ok(pattern) => add_lines(alloc, languages, place, pattern.parts(), found),
+    match StyledPattern::parse(alloc, text.as_bytes()) {
+        Ok(styled) => {
+            let pattern = styled.into_pattern();
+            add_lines(alloc, languages, place, pattern.parts(), found)
+        }
         Err(PatternError::Fault(kind, byte)) => add_no_pattern(alloc, place, kind, byte, found),
         Err(PatternError::Memory) => Err(AllocError),
     }

@@ -1,6 +1,7 @@
 -- What private functions return, without where it lies in memory.
 use Rattle.std.specs.Prelude.{◌<◌, ◌-◌, ℕ, List, length, Option, Some, None, Result, Ok, Err}
 use Rattle.std.specs.Borrow.{Bor}
+use Rattle.std.specs.Global.{Vec}
 use Rattle.message_pattern.specs.declared.error.Fault.{Fault}
 use Rattle.message_pattern.specs.declared.error.ReadError.{ReadError}
 use Rattle.message_pattern.specs.declared.error.ReadError.TheVariants as read
@@ -12,12 +13,13 @@ use Rattle.message_pattern.specs.declared.reader.Stop as stops
 use Rattle.message_pattern.specs.declared.reader.Stop.TheVariants as stop
 use Rattle.message_pattern.specs.declared.text.Front as fronts
 use Rattle.message_pattern.specs.declared.text.Front.TheVariants as front
+use Rattle.message_pattern.specs.declared.head.Formats.{Formats}
 use Rattle.message_pattern.specs.declared.head.Head as heads
 use Rattle.message_pattern.specs.declared.head.Head.TheVariants as head
 use Rattle.message_pattern.specs.declared.branch.BranchFront as branches
 use Rattle.message_pattern.specs.declared.branch.BranchFront.TheVariants as branch
 use Rattle.message_pattern.specs.PatternText.{Front, End, Closes, Opens, Takes}
-use Rattle.message_pattern.specs.PatternParts.{PatternPiece, offset_view, selector_view, piece_view, parts_view}
+use Rattle.message_pattern.specs.PatternParts.{Part, PatternPiece, offset_view, selector_view, piece_view, parts_view}
 use Rattle.message_pattern.specs.PatternReading.{ReadStep, ReadsTo, Read, Faulty}
 use Rattle.message_pattern.specs.PatternHeads.{Head, Plain, Choice, BranchFront}
 use Rattle.message_pattern.specs.PatternHeads as spec
@@ -50,6 +52,11 @@ abbrev pub seen : {A B : Type 0} → (A → B) → Result A Fault → Result B F
 seen view (Ok x) = Ok (view x)
 seen view (Err fault) = Err fault
 
+-- the parts that a reading of a whole text returns
+abbrev pub parts_read : Result (Vec parts.Part) error.PatternError → Result (List Part) error.PatternError
+parts_read (Ok v) = Ok (parts_view v.items)
+parts_read (Err e) = Err e
+
 -- what follows the front is shorter than the text
 abbrev pub IsShorter : Front → List ℕ → Type 0
 IsShorter End s = Unit {0}
@@ -67,10 +74,10 @@ IsBranchBehind (spec.Closes rest) s = length rest < length s
 IsBranchBehind (spec.Opens selector rest) s = length rest < length s
 
 -- what a private reader returns, with the parts before and after it: the outcome, or out of memory
-abbrev pub GivesReadOutcome : ReadStep → List parts.Part → List parts.Part → Result (Bor (List ℕ)) ReadError → Type 0
-GivesReadOutcome at old new (Ok rest) = ReadsTo at (parts_view old) (Read (parts_view new) rest.now)
-GivesReadOutcome at old new (Err (read.Fault fault)) = ReadsTo at (parts_view old) (Faulty fault)
-GivesReadOutcome at old new (Err read.Memory) = Unit {0}
+abbrev pub GivesReadOutcome : Formats → ReadStep → List parts.Part → List parts.Part → Result (Bor (List ℕ)) ReadError → Type 0
+GivesReadOutcome formats at old new (Ok rest) = ReadsTo formats at (parts_view old) (Read (parts_view new) rest.now)
+GivesReadOutcome formats at old new (Err (read.Fault fault)) = ReadsTo formats at (parts_view old) (Faulty fault)
+GivesReadOutcome formats at old new (Err read.Memory) = Unit {0}
 
 -- the error of a reading of a text
 abbrev pub pattern_error : List ℕ → ReadError → error.PatternError

@@ -17,6 +17,7 @@ mod packed_texts;
 mod packing;
 mod pattern_texts;
 mod patterns;
+mod styled_patterns;
 
 use crate::call::Call;
 
@@ -33,6 +34,7 @@ pub fn make(kind: &str, call: &mut Call) -> bool {
         || forms::make(kind, call)
         || callers::make(kind, call)
         || patterns::make(kind, call)
+        || styled_patterns::make(kind, call)
         || pattern_texts::make(kind, call)
         || exports::make(kind, call)
         || exported_bytes::make(kind, call)

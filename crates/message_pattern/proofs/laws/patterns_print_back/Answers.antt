@@ -2,4 +2,4 @@ use Rattle.message_pattern.proofs.PrintsBack.{prints_back}
 use Rattle.message_pattern.proofs.laws.patterns_print_back.Goals as goal
 
 pub returns : goal.returns
-returns c = prints_back
+returns c = λ formats source parts h. prints_back source parts h

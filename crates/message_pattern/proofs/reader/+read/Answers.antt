@@ -10,12 +10,12 @@ use Rattle.message_pattern.proofs.reader.+read.Goals as goal
 pub message-returns-in-End-clause-outcome : goal.message-returns-in-End-clause-outcome
 message-returns-in-End-clause-outcome below c =
     let read = rw c.in-End.is at c.in_ok-pieces.ensures.read in
-    ended c.args.context c.args.depth _ _ _ _ c.end_of_text.ensures (λ o h. c.arguments.invariant.read o (read o h))
+    ended c.args.context c.args.depth _ _ _ _ c.end_of_text.ensures (λ o h. c.arguments.invariant.read o (read c.args.formats o h))
 
 pub message-returns-in-Closes-clause-outcome : goal.message-returns-in-Closes-clause-outcome
 message-returns-in-Closes-clause-outcome below c =
     let read = rw c.in-Closes.is at c.in_ok-pieces.ensures.read in
-    c.arguments.invariant.read _ (read _ (branch_ends c.args.context c.args.depth _ _))
+    c.arguments.invariant.read _ (read c.args.formats _ (branch_ends c.args.context c.args.depth _ _))
 
 pub message-returns-in_err-rest-in-Opens-clause-outcome : goal.message-returns-in_err-rest-in-Opens-clause-outcome
 message-returns-in_err-rest-in-Opens-clause-outcome below c =
@@ -23,14 +23,14 @@ message-returns-in_err-rest-in-Opens-clause-outcome below c =
     let read = rw c.in-Opens.is at c.in_ok-pieces.ensures.read in
     rw (p.1, p.2)
     (passes_on _ _ _ c.argument.new.parts.items _ c.argument.new.parts.items c.in_err-rest-in-Opens.field-0.0 c.in_err-rest-in-Opens.ensures.outcome
-    (λ fault h. c.arguments.invariant.read _ (read _ (argument_broken c.args.context c.args.depth _ _ fault h))))
+    (λ fault h. c.arguments.invariant.read _ (read c.args.formats _ (argument_broken c.args.context c.args.depth _ _ fault h))))
 
 pub message-arguments-preserved : goal.message-arguments-preserved
 message-arguments-preserved below c =
     let read = rw c.in-Opens.is at c.in_ok-pieces.ensures.read in
     let shorter = rw c.in-Opens.is at c.in_ok-pieces.ensures.shorter in
     record {
-      read = λ o h. c.arguments.invariant.read o (read o (argument_read c.args.context c.args.depth _ _ _ _ o c.in_ok-rest-in-Opens.ensures.outcome h));
+      read = λ o h. c.arguments.invariant.read o (read c.args.formats o (argument_read c.args.context c.args.depth _ _ _ _ o c.in_ok-rest-in-Opens.ensures.outcome h));
       shorter = omega (arith, shorter, c.in_ok-rest-in-Opens.ensures.shorter, c.arguments.invariant.shorter);
     }
 
@@ -42,13 +42,13 @@ argument-returns-in_err-head-clause-outcome below c =
 
 pub argument-returns-in_ok-push-in-Plain-clause-outcome : goal.argument-returns-in_ok-push-in-Plain-clause-outcome
 argument-returns-in_ok-push-in-Plain-clause-outcome below c =
-    let h : Ok (head_view c.in_ok-head.head, c.in_ok-head.rest.now) ≡ head_front c.args.text.now = c.in_ok-head.ensures.head in
+    let h : Ok (head_view c.in_ok-head.head, c.in_ok-head.rest.now) ≡ head_front c.args.formats c.args.text.now = c.in_ok-head.ensures.head in
     plain_read c.args.depth c.args.text.now c.in-Plain.name.now c.in_ok-head.rest.now (parts_view c.args.parts.now.items) (parts_view c.push.new.parts.items)
     (sym (rw c.in-Plain.is at h)) c.in_ok-push-in-Plain.ensures.ok
 
 pub argument-returns-in_ok-push-in-Choice-clause-outcome : goal.argument-returns-in_ok-push-in-Choice-clause-outcome
 argument-returns-in_ok-push-in-Choice-clause-outcome below c =
-    let h : Ok (head_view c.in_ok-head.head, c.in_ok-head.rest.now) ≡ head_front c.args.text.now = c.in_ok-head.ensures.head in
+    let h : Ok (head_view c.in_ok-head.head, c.in_ok-head.rest.now) ≡ head_front c.args.formats c.args.text.now = c.in_ok-head.ensures.head in
     let e = rw c.in-Choice.is at h in
     carries _ _ c.args.parts.now.items c.push-in-Choice.new.parts.items c.branches.new.parts.items c.branches.result c.branches.ensures.outcome
     (λ o k.

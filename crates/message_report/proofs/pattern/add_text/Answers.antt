@@ -1,5 +1,6 @@
-use Rattle.std.proofs.Common.{◌≡◌}
+use Rattle.std.proofs.Common.{◌≡◌, ◌∙◌}
 use Rattle.message_pattern.specs.PatternParts.{parts_view}
+use Rattle.message_pattern.specs.StyledParts.{unstyled}
 use Rattle.message_report.specs.Inner.ArgumentViews.{languages_view}
 use Rattle.message_report.specs.Inner.PatternPlaces.{pattern_text}
 use Rattle.message_report.proofs.EachFound.{on_ok}
@@ -8,9 +9,9 @@ use Rattle.message_report.proofs.pattern.add_text.Goals as goal
 
 pub returns-in-Ok : goal.returns-in-Ok
 returns-in-Ok c =
-    let shown : parts_view c.parts.result.now ≡ c.in-Ok.pattern = c.parts.ensures in
+    let shown : parts_view c.parts.result.now ≡ unstyled c.in-Ok.styled = c.parts.ensures ∙ c.into_pattern-pattern.ensures in
     on_ok c.add_lines.result
-    (pattern_found (languages_view c.args.languages.now) (pattern_text c.args.place) c.args.text.now c.as_bytes.result.now c.in-Ok.pattern
+    (pattern_found (languages_view c.args.languages.now) (pattern_text c.args.place) c.args.text.now c.as_bytes.result.now c.in-Ok.styled
     (parts_view c.parts.result.now) c.args.found.now c.add_lines.new.found c.as_bytes.ensures.value c.in-Ok.ensures shown)
     c.add_lines.ensures
 

@@ -2,6 +2,7 @@
 
 use crate::call::Call;
 use message_pattern::{ArgumentKind, Part, Pattern, PatternError, Piece, Selector};
+use std::alloc::AllocError;
 use std::fmt::Write;
 
 /// Makes the call of a kind of this file. Returns whether there is such a kind.
@@ -38,14 +39,14 @@ fn pattern_error(call: &mut Call) {
 fn pattern_print(call: &mut Call) {
     let text = call.text();
     match Pattern::parse(call.alloc, text.as_bytes()) {
-        Ok(pattern) => print_back(call, &pattern),
+        Ok(pattern) => print_back_text(call, pattern.to_text(call.alloc)),
         Err(fault) => call.print_error(&fault),
     }
 }
 
-// Prints a pattern.
-fn print_back(call: &mut Call, pattern: &Pattern<'_>) {
-    match pattern.to_text(call.alloc) {
+/// Prints the text of a pattern.
+pub fn print_back_text(call: &mut Call, text: Result<Vec<u8>, AllocError>) {
+    match text {
         Ok(text) => call.print_quoted(shown(text.as_slice())),
         Err(_) => call.out_of_memory(),
     }
@@ -66,8 +67,8 @@ fn nested_pattern(call: &mut Call) {
     }
 }
 
-// Prints each part behind its depth.
-fn print_parts(call: &mut Call, parts: &[Part<'_>]) {
+/// Prints each part behind its depth.
+pub fn print_parts(call: &mut Call, parts: &[Part<'_>]) {
     for part in parts {
         call.separate(" ");
         let depth = part.depth;
@@ -77,8 +78,8 @@ fn print_parts(call: &mut Call, parts: &[Part<'_>]) {
     call.print_none_if_empty();
 }
 
-// Prints a piece.
-fn print_piece(call: &mut Call, piece: Piece<'_>) {
+/// Prints a piece.
+pub fn print_piece(call: &mut Call, piece: Piece<'_>) {
     match piece {
         Piece::Text(text) => call.print_quoted(shown(text)),
         Piece::Hash => call.print("#"),
@@ -110,7 +111,7 @@ fn print_between(call: &mut Call, before: &str, bytes: &[u8], after: &str) {
     call.print(after);
 }
 
-// Bytes as a text.
-fn shown(bytes: &[u8]) -> &str {
+/// Bytes as a text.
+pub fn shown(bytes: &[u8]) -> &str {
     std::str::from_utf8(bytes).unwrap_or("?")
 }

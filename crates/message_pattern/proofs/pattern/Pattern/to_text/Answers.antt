@@ -1,10 +1,11 @@
 use Rattle.std.proofs.Common.{List, IfOk, subst}
+use Rattle.message_pattern.specs.declared.head.Formats.TheVariants.{Refused}
 use Rattle.message_pattern.specs.PatternParts.{Part, parts_view}
-use Rattle.message_pattern.specs.PatternPrinting.{PrintsExactly}
+use Rattle.message_pattern.specs.PatternPrinting.{PrintsBackExactly}
 use Rattle.message_pattern.proofs.PrintedFold.{ok_exactly}
 use Rattle.message_pattern.proofs.pattern.Pattern.to_text.Goals as goal
 
 pub returns : goal.returns
 returns c =
-    subst (λ (l : List Part). IfOk c.print.result (λ text. PrintsExactly l text.items)) (cc)
-    (ok_exactly (λ v. v.items) (parts_view c.deref.result.now) c.print.result c.print.ensures)
+    subst (λ (l : List Part). IfOk c.print.result (λ text. PrintsBackExactly Refused l text.items)) (cc)
+    (ok_exactly Refused (λ v. v.items) (parts_view c.deref.result.now) c.print.result c.print.ensures)
