@@ -1,5 +1,5 @@
 -- Patterns with simple formats.
-use Rattle.std.proofs.Common.{◌≡◌, ◌+◌, ◌<◌, ℕ, List, [], ◌++◌, Option, Some, None, length, take, drop, set, slice_set, get_or, refl, ap, sym, subst, ◌∙◌}
+use Rattle.std.proofs.Common.{◌≡◌, ◌+◌, ◌<◌, ℕ, List, ◌++◌, Option, Some, None, length, take, drop, set, slice_set, get_or, refl, ap, sym, subst, ◌∙◌}
 use Rattle.std.proofs.lemmas.List.{length-map, length-set, map-set, get_or-map}
 use Rattle.std.proofs.lemmas.List.Edits.{map_over_more}
 use Rattle.message_pattern.specs.declared.bytes.Class.TheVariants.{Name, Letter}
@@ -10,7 +10,7 @@ use Rattle.message_pattern.specs.declared.styled_argument.SimpleFormat as format
 use Rattle.message_pattern.specs.PatternParts.{Part, part_view, parts_view}
 use Rattle.message_pattern.specs.PatternReading.{PatternPlace}
 use Rattle.message_pattern.specs.PatternGrammar.{IsReadAt, IsNameOrNumber, IsSimpleText, IsStyleBehind, message_ends, message_closes, message_text, message_argument, none_arg, simple_arg, complex_arg, style_branch, style_ends}
-use Rattle.message_pattern.specs.StyledParts.{SpecFormat, name_of, style_behind, format_behind, format_of, style_view, format_view, unstyled_part, unstyled}
+use Rattle.message_pattern.specs.StyledParts.{Format, name_of, style_behind, format_behind, format_of, style_view, format_view, unstyled_part, unstyled}
 use Rattle.message_pattern.proofs.Longest.{longest_run, longest_rest}
 use Rattle.message_pattern.proofs.BeforeBrace.{name_alone, name_whole}
 
@@ -35,7 +35,7 @@ style_apart : (s : List ℕ) (style : Option (List ℕ)) → IsStyleBehind s sty
 style_apart s None h = ap style_behind h
 style_apart s (Some style) h = ap style_behind h.0
 
-abbrev format : List ℕ → Option (List ℕ) → Option SpecFormat
+abbrev format : List ℕ → Option (List ℕ) → Option Format
 format word style = Some (record { format_type = word; style = style })
 
 -- the name and the format that the grammar finds

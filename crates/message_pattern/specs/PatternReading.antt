@@ -4,7 +4,6 @@ use Rattle.message_pattern.specs.declared.reader.TheConstants.{DEPTH_LIMIT}
 use Rattle.message_pattern.specs.declared.error.Fault.{Fault}
 use Rattle.message_pattern.specs.declared.error.FaultKind.TheVariants.{TooDeep}
 use Rattle.message_pattern.specs.declared.head.Formats.{Formats}
-use Rattle.message_pattern.specs.declared.head.Formats.TheVariants.{Refused}
 use Rattle.message_pattern.specs.declared.part.ArgumentKind.{ArgumentKind}
 use Rattle.message_pattern.specs.declared.part.ArgumentKind.TheVariants.{Plural, Ordinal, Select}
 use Rattle.message_pattern.specs.declared.text.Context.{Context}
@@ -107,7 +106,3 @@ pub data ReadsTo (formats : Formats) : ReadStep → List Part → ReadOutcome �
 -- a whole text is read to the outcome
 abbrev pub ReadsText : Formats → List ℕ → ReadOutcome → Type 0
 ReadsText formats text outcome = ReadsTo formats (read_step formats (InMessage Whole 0 false) text) [] outcome
-
--- a whole pattern is read to the outcome
-abbrev pub ReadsPattern : List ℕ → ReadOutcome → Type 0
-ReadsPattern text outcome = ReadsText Refused text outcome

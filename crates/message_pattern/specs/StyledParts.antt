@@ -11,7 +11,7 @@ use Rattle.message_pattern.specs.PatternAnswers.{IsStyledPattern}
 use Rattle.message_pattern.specs.PatternPrinting.{PrintsAs, IsReadAlike}
 
 -- a simple format: its type, and its style, if it has one
-pub record SpecFormat : Type 0 where
+pub record Format : Type 0 where
   pub format_type : List ℕ
   pub style : Option (List ℕ)
 
@@ -25,13 +25,13 @@ style_behind [] = None
 style_behind (comma ∷ style) = Some style
 
 -- the letters behind the comma, and what follows them
-abbrev pub format_behind : List ℕ → Option SpecFormat
+abbrev pub format_behind : List ℕ → Option Format
 format_behind [] = None
 format_behind (comma ∷ s) =
     Some (record { format_type = class_front Letter (after_white s); style = style_behind (after_white (behind_run Letter (after_white s))) })
 
 -- the format in the text, if it has one
-abbrev pub format_of : List ℕ → Option SpecFormat
+abbrev pub format_of : List ℕ → Option Format
 format_of text = format_behind (after_white (behind_run Name text))
 
 -- the name and the format are those that the grammar finds in the text
@@ -48,7 +48,7 @@ abbrev pub style_view : Option (Bor (List ℕ)) → Option (List ℕ)
 style_view None = None
 style_view (Some style) = Some style.now
 
-abbrev pub format_view : Option SimpleFormat → Option SpecFormat
+abbrev pub format_view : Option SimpleFormat → Option Format
 format_view None = None
 format_view (Some f) = Some (record { format_type = f.format_type.now; style = style_view f.style })
 
