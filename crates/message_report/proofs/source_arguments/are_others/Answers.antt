@@ -1,6 +1,5 @@
 use Rattle.std.proofs.Common.{List, ap, sym, ◌∙◌}
 use Rattle.std.proofs.lemmas.List.{drop_all}
-use Rattle.std.specs.Prelude.{Option}
 use Rattle.serde_json.specs.View.{items_view}
 use Rattle.serde_json.specs.declared.Value.{Value}
 use Rattle.message_report.specs.Inner.ListedTexts.{all_pass, is_other}
