@@ -311,8 +311,8 @@ fn outlines_of_held_members(rt: HostRuntime) -> Result<(), Fail> {
     Ok(())
 }
 
-// Returns whether this is held of a document by two names; if nothing is told, it has to be no JSON.
-// `None` if memory ran out.
+// Returns whether this is held of a document by two names; if nothing is told, it has to be no
+// JSON. `None` if memory ran out.
 fn reads_members(alloc: Global, text: &str, want: Option<&str>) -> Option<bool> {
     let names = ["a", "b"];
     let mut scratch = Scratch::new(alloc);
@@ -331,8 +331,8 @@ fn reads_members(alloc: Global, text: &str, want: Option<&str>) -> Option<bool> 
     }
 }
 
-// This runs under `rt try --test --fail-alloc N` for each N, and with memory too: then one call runs
-// out of memory, and the others give their answers.
+// This runs under `rt try --test --fail-alloc N` for each N, and with memory too: at most one call
+// runs out of memory, and the others give their answers.
 #[test]
 fn growth_of_held_members(rt: HostRuntime) {
     let rows = [
