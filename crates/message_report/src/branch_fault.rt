@@ -17,18 +17,18 @@ use icu_plurals::PluralCategory;
 use message_pattern::{Part, Selector};
 use std::fmt;
 
-// What is wrong with a branch of a plural argument.
+/// What is wrong with a branch of a plural argument.
 #[derive(Clone, Copy, Debug, PartialEq, Eq)]
-pub(crate) enum BranchFault {
-    // Its keyword is no category.
+pub enum BranchFault {
+    /// Its keyword is no category.
     NoCategory,
-    // Its selector stands before it, too.
+    /// Its selector stands before it, too.
     Twice,
-    // The language hasn't its category: no number chooses it.
+    /// The language hasn't its category: no number chooses it.
     Unused(PluralCategory),
-    // It doesn't say the number, though these two choose it.
+    /// It doesn't say the number, though these two choose it.
     NoHash(PluralCategory, u16, u16),
-    // There is none of the category. These are the two least numbers that would choose it, or one.
+    /// There is none of the category. These are the two least numbers that would choose it, or one.
     Missing(PluralCategory, u16, Option<u16>),
 }
 
