@@ -1,7 +1,7 @@
 //! The places in files of messages.
 
 ghost use Rattle.std.specs.Prelude.{◌≡◌};
-ghost use Rattle.message_report.specs.MessagePlaces.{file_of, place_view};
+ghost use Rattle.message_report.specs.MessagePlaces.{file_of, place_view, type_name};
 
 use crate::form::Form;
 use icu_plurals::PluralRuleType;
@@ -96,5 +96,15 @@ impl<'a> Place<'a> {
             Place::Argument(argument) => argument.pattern.locale.file,
             Place::Branch(argument, _) => argument.pattern.locale.file,
         }
+    }
+}
+
+// Returns the key of a type in a locale.
+pub(crate) fn type_name(rule_type: PluralRuleType) -> &'static str
+    ensures { result.now ≡ type_name rule_type }
+{
+    match rule_type {
+        PluralRuleType::Cardinal => "cardinal",
+        PluralRuleType::Ordinal => "ordinal",
     }
 }
