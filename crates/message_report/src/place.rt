@@ -81,7 +81,7 @@ impl<'a> Place<'a> {
     pub fn file(&self) -> &'a str
         ensures { result.now ≡ file_of (place_view self.now) }
     {
-        match self {
+        match *self {
             Place::Document(file) => file,
             Place::Locale(locale) => locale.file,
             Place::Key(locale, _) => locale.file,
