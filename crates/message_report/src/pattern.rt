@@ -2,10 +2,11 @@
 
 ghost use Rattle.std.specs.Prelude.{◌≡◌, OnOk};
 ghost use Rattle.message_pattern.specs.PatternParts.{parts_view};
-ghost use Rattle.message_report.specs.FoundInMessages.{HasGrownBy};
+ghost use Rattle.message_report.specs.FoundInMessages.{fault_at, together, HasGrownBy};
 ghost use Rattle.message_report.specs.Inner.ArgumentViews.{languages_view};
-ghost use Rattle.message_report.specs.MessagePlaces.{locale_place_view, pattern_place_view};
+ghost use Rattle.message_report.specs.MessagePlaces.{at_pattern, locale_place_view, pattern_place_view};
 ghost use Rattle.message_report.specs.MessagesReport.{IsFoundInArguments, IsFoundInPattern, IsFoundInText, IsFoundInTextIf};
+ghost use Rattle.message_report.specs.declared.cause.Cause.TheVariants.{NoPattern};
 ghost use Rattle.serde_json.specs.Find.{as_str};
 ghost use Rattle.serde_json.specs.View.{view};
 
@@ -14,7 +15,7 @@ use crate::found::{Found, MemberCheck};
 use crate::languages::Languages;
 use crate::pattern_faults::tell_pattern;
 use crate::place::{LocalePlace, PatternPlace, Place};
-use message_pattern::{Part, PatternError, StyledPattern};
+use message_pattern::{FaultKind, Part, PatternError, StyledPattern};
 use serde_json::Value;
 use std::alloc::{AllocError, Global};
 
@@ -75,11 +76,22 @@ fn add_text<'a>(
             let pattern = styled.into_pattern();
             add_arguments(alloc, languages, place, pattern.parts(), found)
         }
-        Err(PatternError::Fault(kind, byte)) => {
-            found.add_fault(Place::Pattern(place), Cause::NoPattern(kind, byte))
-        }
+        Err(PatternError::Fault(kind, byte)) => add_no_pattern(place, kind, byte, found),
         Err(PatternError::Memory) => Err(AllocError),
     }
+}
+
+// Adds that a text is no pattern.
+fn add_no_pattern<'a>(
+    place: PatternPlace<'a>,
+    kind: FaultKind,
+    byte: usize,
+    found: &mut Found<'a>,
+) -> Result<(), AllocError>
+    ensures { OnOk result (found.new
+        ≡ together found.old (fault_at (at_pattern (pattern_place_view place.entry)) (NoPattern kind byte))) }
+{
+    found.add_fault(Place::Pattern(place), Cause::NoPattern(kind, byte))
 }
 
 // Adds what is found in the arguments of a pattern with these parts.

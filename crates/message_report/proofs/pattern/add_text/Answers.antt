@@ -17,8 +17,8 @@ returns-in-Ok c =
 
 pub returns-in-Err-Fault : goal.returns-in-Err-Fault
 returns-in-Err-Fault c =
-    on_ok c.add_fault.result
+    on_ok c.add_no_pattern.result
     (fault_found (languages_view c.args.languages.now) (pattern_place_view c.args.place) c.args.text.now c.as_bytes.result.now c.in-Err-Fault.kind
-    c.in-Err-Fault.byte c.args.found.now c.add_fault.new.self c.as_bytes.ensures.value
+    c.in-Err-Fault.byte c.args.found.now c.add_no_pattern.new.found c.as_bytes.ensures.value
     (rw c.in-Err-Fault.field-0-is at c.in-Err-Fault.ensures))
-    c.add_fault.ensures
+    c.add_no_pattern.ensures
