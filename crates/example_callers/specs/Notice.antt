@@ -9,7 +9,7 @@ use Rattle.message_format.specs.FormatSteps.{TwoRules}
 use Rattle.example_callers.specs.declared.notices.NoticeError.{NoticeError}
 use Rattle.example_callers.specs.declared.notices.NoticeError.TheVariants as notice_error
 use Rattle.serde_json.specs.Data.{Data}
-use Rattle.plural_documents.specs.Found.{Found}
+use Rattle.message_report.specs.FoundInMessages.{Found}
 use Rattle.message_report.specs.MessagesReport.{IsFoundInMessagesDocument}
 use Rattle.message_report.specs.RulesSource.{RulesSource}
 
@@ -32,7 +32,7 @@ IsNoticeFault rules text count (notice_error.Format format_error.Memory) = Unit 
 
 -- ---- Whether a document of messages has a fault
 
--- under the rules of a source it has none, or some
+-- under the rules of a source it has none, or some; its file has no name
 abbrev pub IsComplete : RulesSource → Data → Bool → Type 0
 IsComplete source document complete =
-    (found : Found) × IsFoundInMessagesDocument source document found × (complete ≡ (found.faults == 0))
+    (found : Found) × IsFoundInMessagesDocument source [] document found × (complete ≡ (found.faults == 0))

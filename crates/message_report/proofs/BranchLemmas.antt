@@ -9,10 +9,12 @@ use Rattle.message_pattern.specs.declared.part.Piece as pieces
 use Rattle.message_pattern.specs.declared.part.Piece.TheVariants as piece
 use Rattle.message_pattern.specs.declared.part.Selector as selectors
 use Rattle.message_report.specs.FormFaults.{Language}
-use Rattle.plural_documents.specs.Found.{Found}
+use Rattle.message_report.specs.FoundInMessages.{Found}
 use Rattle.message_report.specs.Inner.ArgumentViews.{branching}
-use Rattle.message_report.specs.Inner.ToldLines.{Tells, remembered}
-use Rattle.message_report.specs.MessagesReport.{branch_lines, fault_lines, most_compared, selector_name}
+use Rattle.message_report.specs.Inner.ToldFindings.{Tells, remembered}
+use Rattle.message_report.specs.MessageFindings.{Finding}
+use Rattle.message_report.specs.MessagePlaces.{ArgumentPlace}
+use Rattle.message_report.specs.MessagesReport.{branch_findings, findings_at, most_compared}
 use Rattle.message_report.specs.PatternFaults.{PluralArgument, branch_fault}
 use Rattle.message_report.specs.declared.branch_fault.BranchFault.{BranchFault}
 use Rattle.message_report.proofs.TellLemmas.{Going, completes, continues, remembers}
@@ -54,15 +56,15 @@ other_part depth ps rest p is low not = rw is (by p.piece refl)
 
 -- ---- In a loop
 
--- the lines of the remaining branches complete those that were told
-abbrev pub GoingOn : Language → List ℕ → PluralArgument → ℕ → Found → ℕ → Found → List Selector → List parts.Part → List (List ℕ) → Type 0
+-- the findings of the remaining branches complete those that were told
+abbrev pub GoingOn : Language → ArgumentPlace → PluralArgument → ℕ → Found → ℕ → Found → List Selector → List parts.Part → List Finding → Type 0
 GoingOn language place a first old count now seen left all =
     (before : List Selector) × (seen ≡ take most_compared before)
-    × Going first old count now (branch_lines language place a before (branches_of a.depth (parts_view left))) all
+    × Going first old count now (branch_findings language place a before (branches_of a.depth (parts_view left))) all
 
 -- a part is passed
-pub passes : (language : Language) (place : List ℕ) (a : PluralArgument) (first : ℕ) (old : Found) (count : ℕ) (now : Found)
-    (seen : List Selector) (ps rest : List parts.Part) (p : parts.Part) (all : List (List ℕ)) → ps ≡ p ∷ rest → a.depth < p.depth
+pub passes : (language : Language) (place : ArgumentPlace) (a : PluralArgument) (first : ℕ) (old : Found) (count : ℕ) (now : Found)
+    (seen : List Selector) (ps rest : List parts.Part) (p : parts.Part) (all : List Finding) → ps ≡ p ∷ rest → a.depth < p.depth
     → GoingOn language place a first old count now seen ps all → GoingOn language place a first old count now seen rest all
 passes language place a first old count now seen ps rest p all is deep so_far = (
   so_far.0,
@@ -71,32 +73,32 @@ passes language place a first old count now seen ps rest p all is deep so_far = 
 )
 
 -- a branch is told
-pub tells_branch : (language : Language) (place : List ℕ) (a : PluralArgument) (first : ℕ) (old : Found) (count : ℕ) (now : Found)
-    (seen : List Selector) (ps rest : List parts.Part) (p : parts.Part) (selector : selectors.Selector) (all : List (List ℕ))
+pub tells_branch : (language : Language) (place : ArgumentPlace) (a : PluralArgument) (first : ℕ) (old : Found) (count : ℕ) (now : Found)
+    (seen : List Selector) (ps rest : List parts.Part) (p : parts.Part) (selector : selectors.Selector) (all : List Finding)
     (fault : Option BranchFault) (next : ℕ) (new : Found) (after : List Selector)
     → ps ≡ p ∷ rest → p.depth ≤ a.depth → p.piece ≡ piece.Branch selector
     → GoingOn language place a first old count now seen ps all
     → fault ≡ branch_fault language a seen (branching selector rest)
-    → Tells count now next new (fault_lines place (selector_name (selector_view selector)) fault)
+    → Tells count now next new (findings_at place (selector_view selector) fault)
     → after ≡ remembered seen (selector_view selector)
     → GoingOn language place a first old next new after rest all
 tells_branch language place a first old count now seen ps rest p selector all fault next new after is low branch so_far found told more = (
   so_far.0 ++ selector_view selector ∷ [],
   more ∙ remembers so_far.0 seen (selector_view selector) so_far.1,
-  continues first old count now next new (fault_lines place (selector_name (selector_view selector)) fault)
-      (branch_lines language place a (so_far.0 ++ selector_view selector ∷ []) (branches_of a.depth (parts_view rest)))
-      (branch_lines language place a so_far.0 (branches_of a.depth (parts_view ps))) all whole so_far.2 told,
+  continues first old count now next new (findings_at place (selector_view selector) fault)
+      (branch_findings language place a (so_far.0 ++ selector_view selector ∷ []) (branches_of a.depth (parts_view rest)))
+      (branch_findings language place a so_far.0 (branches_of a.depth (parts_view ps))) all whole so_far.2 told,
 )
   where
-    whole : branch_lines language place a so_far.0 (branches_of a.depth (parts_view ps))
-        ≡ fault_lines place (selector_name (selector_view selector)) fault
-        ++ branch_lines language place a (so_far.0 ++ selector_view selector ∷ []) (branches_of a.depth (parts_view rest))
+    whole : branch_findings language place a so_far.0 (branches_of a.depth (parts_view ps))
+        ≡ findings_at place (selector_view selector) fault
+        ++ branch_findings language place a (so_far.0 ++ selector_view selector ∷ []) (branches_of a.depth (parts_view rest))
     whole = rw (at_selector a.depth ps rest p selector is low branch, found, so_far.1) refl
 
 -- no branch is left
-pub ends_branches : (language : Language) (place : List ℕ) (a : PluralArgument) (first : ℕ) (old : Found) (count : ℕ) (now : Found)
-    (seen : List Selector) (ps : List parts.Part) (all : List (List ℕ)) → branches_of a.depth (parts_view ps) ≡ []
+pub ends_branches : (language : Language) (place : ArgumentPlace) (a : PluralArgument) (first : ℕ) (old : Found) (count : ℕ) (now : Found)
+    (seen : List Selector) (ps : List parts.Part) (all : List Finding) → branches_of a.depth (parts_view ps) ≡ []
     → GoingOn language place a first old count now seen ps all → Tells first old count now all
 ends_branches language place a first old count now seen ps all none so_far =
-    completes first old count now (branch_lines language place a so_far.0 (branches_of a.depth (parts_view ps))) all
+    completes first old count now (branch_findings language place a so_far.0 (branches_of a.depth (parts_view ps))) all
     (rw none refl) so_far.2

@@ -1,15 +1,12 @@
 -- The forms of a message, by what it has under their keys.
-use Rattle.std.proofs.Common.{◌≡◌, ℕ, List, [], Bool, true, Option, Some, None, sym, ap, subst}
+use Rattle.std.proofs.Common.{◌≡◌, Bool, Option, Some, None, ap, subst}
 use Rattle.std.specs.Borrow.{Bor}
 use Rattle.std.specs.Prelude.{option_copied, option_map}
-use Rattle.serde_json.specs.Data.{Data, Members, member}
-use Rattle.plural_documents.specs.Found.{Found, together}
-use Rattle.plural_documents.proofs.FoundLemmas.{none_added}
+use Rattle.serde_json.specs.Data.{Data}
 use Rattle.message_report.specs.FormFaults.{Language, HasFormFault}
 use Rattle.message_report.specs.Inner.FormSteps.{language_lent, HasFaultOf}
 use Rattle.message_report.specs.Inner.LanguageViews.{language_view}
-use Rattle.message_report.specs.MessageForms.{form_under, has_form, is_form_name}
-use Rattle.message_report.specs.MessagesReport.{found_of_keys, other_keys}
+use Rattle.message_report.specs.MessageForms.{form_under, has_form}
 use Rattle.message_report.specs.declared.fault.FormFault.{FormFault}
 use Rattle.message_report.specs.declared.form.Form.{Form}
 use Rattle.message_report.specs.declared.form.Form.TheVariants.{ExplicitZero, ExplicitOne, Category}
@@ -39,14 +36,3 @@ pub lent_language : (lent : Option (Bor CodeLanguage)) (language : Option CodeLa
     → language_lent lent ≡ option_map language_view language
 lent_language None language same = ap (option_map language_view) same
 lent_language (Some l) language same = ap (option_map language_view) same
-
--- where each key names a form, nothing is told of the keys
-pub only_forms : (place : List ℕ) (keys : List (List ℕ)) (found : Found) → keys ≡ [] → found ≡ together found (found_of_keys place keys)
-only_forms place keys found none =
-    let P : List (List ℕ) → Type 0 = λ ks. found ≡ together found (found_of_keys place ks) in
-    subst P (sym none) (none_added found)
-
--- a member that names a form adds no other key
-pub form_passed : (key : List ℕ) (value : Data) (left all : Members) → is_form_name key ≡ true
-    → (other_keys (member key value left) ≡ [] → other_keys all ≡ []) → other_keys left ≡ [] → other_keys all ≡ []
-form_passed key value left all named so_far none = so_far (rw named none)

@@ -7,10 +7,11 @@ pub mod FormLemmas
 pub mod KeywordLemmas
 pub mod KnownRules
 pub mod LanguageLemmas
+pub mod MessagesFound
 pub mod PartLemmas
 -- rules that choose alike for whole numbers that leave the same by 100
 pub mod Periods
--- lines of patterns
+-- findings of patterns
 pub mod BranchLemmas
 pub mod OwnBranches
 pub mod PatternTold

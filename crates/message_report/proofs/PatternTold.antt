@@ -1,4 +1,4 @@
--- The lines of a pattern, part by part.
+-- The findings of a pattern, part by part.
 use Rattle.std.proofs.Common.{◌≡◌, ℕ, List, [], ◌∷◌, ◌++◌, Option, Some, None, refl, sym, subst, append_assoc}
 use Rattle.std.specs.Borrow.{Bor}
 use Rattle.std.specs.Prelude.{is_some, Result, Ok, Err, IfOk}
@@ -8,65 +8,67 @@ use Rattle.message_pattern.specs.declared.part.ArgumentKind.{ArgumentKind}
 use Rattle.message_pattern.specs.declared.part.Part as parts
 use Rattle.message_pattern.specs.declared.part.Piece as pieces
 use Rattle.message_pattern.specs.declared.part.Piece.TheVariants as piece
-use Rattle.plural_documents.specs.Found.{Found}
-use Rattle.message_report.specs.Inner.ToldLines.{Tells, TellsThose}
-use Rattle.message_report.specs.MessagesReport.{HasPatternLines, HasPieceLines}
+use Rattle.message_report.specs.FoundInMessages.{Found}
+use Rattle.message_report.specs.Inner.ToldFindings.{Tells, TellsThose}
+use Rattle.message_report.specs.MessageFindings.{Finding}
+use Rattle.message_report.specs.MessagePlaces.{PatternPlace}
+use Rattle.message_report.specs.MessagesReport.{HasPatternFindings, HasPieceFindings}
 use Rattle.message_report.specs.PatternFaults.{TwoLanguages}
 use Rattle.message_report.proofs.TellLemmas.{tells_both, tells_none}
 
--- a piece that begins no argument has no lines
-pub no_lines : (two : TwoLanguages) (place : List ℕ) (depth : ℕ) (ps : List Part) (x : pieces.Piece)
+-- a piece that begins no argument has no findings
+pub no_findings : (two : TwoLanguages) (place : PatternPlace) (depth : ℕ) (ps : List Part) (x : pieces.Piece)
     → ((kind : ArgumentKind) (name : Bor (List ℕ)) (offset : Option (Bor (List ℕ))) → x ≡ piece.Begin kind name offset → ⊥)
-    → HasPieceLines two place depth (piece_view x) ps []
-no_lines two place depth ps (piece.Text t) not = refl
-no_lines two place depth ps piece.Hash not = refl
-no_lines two place depth ps (piece.Argument name) not = refl
-no_lines two place depth ps (piece.Begin kind name offset) not = absurd (not kind name offset refl)
-no_lines two place depth ps (piece.Branch s) not = refl
-no_lines two place depth ps piece.End not = refl
+    → HasPieceFindings two place depth (piece_view x) ps []
+no_findings two place depth ps (piece.Text t) not = refl
+no_findings two place depth ps piece.Hash not = refl
+no_findings two place depth ps (piece.Argument name) not = refl
+no_findings two place depth ps (piece.Begin kind name offset) not = absurd (not kind name offset refl)
+no_findings two place depth ps (piece.Branch s) not = refl
+no_findings two place depth ps piece.End not = refl
 
 -- an offset is there or not, as it is seen
 pub same_offset : (offset : Option (Bor (List ℕ))) → is_some offset ≡ is_some (offset_view offset)
 same_offset None = refl
 same_offset (Some digits) = refl
 
--- lines that are told are those that are meant
-pub those_told : {E : Type 0} (Are : List (List ℕ) → Type 0) (before : ℕ) (old new : Found) (lines : List (List ℕ)) (r : Result ℕ E) → Are lines
-    → IfOk r (λ count. Tells before old count new lines) → IfOk r (λ count. TellsThose Are before old count new)
-those_told {E} Are before old new lines (Ok count) are told = (lines, are, told)
-those_told {E} Are before old new lines (Err e) are told = tt
+-- findings that are told are those that are meant
+pub those_told : {E : Type 0} (Are : List Finding → Type 0) (before : ℕ) (old new : Found) (findings : List Finding) (r : Result ℕ E) → Are findings
+    → IfOk r (λ count. Tells before old count new findings) → IfOk r (λ count. TellsThose Are before old count new)
+those_told {E} Are before old new findings (Ok count) are told = (findings, are, told)
+those_told {E} Are before old new findings (Err e) are told = tt
 
 -- ---- In a loop
 
--- whatever lines the remaining parts have, with those that were told they are the pattern's
-abbrev pub GoingPattern : TwoLanguages → List ℕ → List Part → List Part → Found → ℕ → Found → Type 0
+-- whatever findings the remaining parts have, with those that were told they are the pattern's
+abbrev pub GoingPattern : TwoLanguages → PatternPlace → List Part → List Part → Found → ℕ → Found → Type 0
 GoingPattern two place all left old count now =
-    (told : List (List ℕ)) × Tells 0 old count now told
-    × ((more : List (List ℕ)) → HasPatternLines two place left more → HasPatternLines two place all (told ++ more))
+    (told : List Finding) × Tells 0 old count now told
+    × ((more : List Finding) → HasPatternFindings two place left more → HasPatternFindings two place all (told ++ more))
 
-pub pattern_starts : (two : TwoLanguages) (place : List ℕ) (all : List Part) (old : Found) → GoingPattern two place all all old 0 old
+pub pattern_starts : (two : TwoLanguages) (place : PatternPlace) (all : List Part) (old : Found) → GoingPattern two place all all old 0 old
 pattern_starts two place all old = ([], tells_none 0 old, λ more h. h)
 
 -- a part is told
-pub part_told : (two : TwoLanguages) (place : List ℕ) (all : List Part) (ps rest : List parts.Part) (p : parts.Part) (old : Found)
+pub part_told : (two : TwoLanguages) (place : PatternPlace) (all : List Part) (ps rest : List parts.Part) (p : parts.Part) (old : Found)
     (count : ℕ) (now : Found) (next : ℕ) (new : Found) → ps ≡ p ∷ rest → GoingPattern two place all (parts_view ps) old count now
-    → TellsThose (HasPieceLines two place p.depth (piece_view p.piece) (parts_view rest)) count now next new
+    → TellsThose (HasPieceFindings two place p.depth (piece_view p.piece) (parts_view rest)) count now next new
     → GoingPattern two place all (parts_view rest) old next new
 part_told two place all ps rest p old count now next new is so_far told = (
   so_far.0 ++ told.0,
   tells_both 0 old count now next new so_far.0 told.0 so_far.1 told.2,
   λ more h.
-      subst (λ (l : List (List ℕ)). HasPatternLines two place all l) (sym (append_assoc so_far.0 told.0 more))
+      subst (λ (l : List Finding). HasPatternFindings two place all l) (sym (append_assoc so_far.0 told.0 more))
       (so_far.2 (told.0 ++ more)
-      (subst (λ (l : List parts.Part). HasPatternLines two place (parts_view l) (told.0 ++ more)) (sym is) (told.0, more, told.1, h, refl))),
+      (subst (λ (l : List parts.Part). HasPatternFindings two place (parts_view l) (told.0 ++ more)) (sym is) (told.0, more, told.1, h, refl))),
 )
 
 -- all are told
-pub pattern_told : (two : TwoLanguages) (place : List ℕ) (all : List Part) (ps : List parts.Part) (old : Found) (count : ℕ) (now : Found)
-    → ps ≡ [] → GoingPattern two place all (parts_view ps) old count now → TellsThose (HasPatternLines two place all) 0 old count now
+pub pattern_told : (two : TwoLanguages) (place : PatternPlace) (all : List Part) (ps : List parts.Part) (old : Found) (count : ℕ) (now : Found)
+    → ps ≡ [] → GoingPattern two place all (parts_view ps) old count now → TellsThose (HasPatternFindings two place all) 0 old count now
 pattern_told two place all ps old count now none so_far = (
   so_far.0,
-  subst (λ (l : List (List ℕ)). HasPatternLines two place all l) (append-nil so_far.0)
-      (so_far.2 [] (subst (λ (l : List parts.Part). HasPatternLines two place (parts_view l) []) (sym none) refl)),
+  subst (λ (l : List Finding). HasPatternFindings two place all l) (append-nil so_far.0)
+      (so_far.2 [] (subst (λ (l : List parts.Part). HasPatternFindings two place (parts_view l) []) (sym none) refl)),
   so_far.1,
 )

@@ -6,13 +6,14 @@ use Rattle.message_pattern.specs.StyledParts.{unstyled}
 use Rattle.message_pattern.specs.PatternParts.{Part}
 use Rattle.message_pattern.specs.declared.error.FaultKind.{FaultKind}
 use Rattle.message_pattern.specs.declared.error.PatternError.TheVariants as error
-use Rattle.plural_documents.specs.Found.{Found, one_fault, together}
-use Rattle.plural_documents.specs.Found.{HasGrownBy}
-use Rattle.message_report.specs.MessagesReport.{IsFoundInArguments, IsFoundInText, no_pattern_line}
+use Rattle.message_report.specs.FoundInMessages.{Found, HasGrownBy, fault_at, together}
+use Rattle.message_report.specs.MessagePlaces.{PatternPlace, at_pattern}
+use Rattle.message_report.specs.MessagesReport.{IsFoundInArguments, IsFoundInText}
 use Rattle.message_report.specs.PatternFaults.{TwoLanguages}
+use Rattle.message_report.specs.declared.cause.Cause.TheVariants.{NoPattern}
 
 -- a pattern
-pub pattern_found : (two : TwoLanguages) (place text bytes : List ℕ) (ps shown : List Part) (old new : Found) → bytes ≡ text
+pub pattern_found : (two : TwoLanguages) (place : PatternPlace) (text bytes : List ℕ) (ps shown : List Part) (old new : Found) → bytes ≡ text
     → ParsesStyledExactly bytes (Ok ps) → shown ≡ unstyled ps → HasGrownBy (IsFoundInArguments two place shown) old new
     → HasGrownBy (IsFoundInText two place text) old new
 pattern_found two place text bytes ps shown old new same answers is added = (
@@ -22,11 +23,11 @@ pattern_found two place text bytes ps shown old new same answers is added = (
 )
 
 -- none
-pub fault_found : (two : TwoLanguages) (place text bytes : List ℕ) (kind : FaultKind) (byte : ℕ) (old new : Found) → bytes ≡ text
-    → ParsesStyledExactly bytes (Err (error.Fault kind byte)) → new ≡ together old (one_fault (no_pattern_line place kind byte))
+pub fault_found : (two : TwoLanguages) (place : PatternPlace) (text bytes : List ℕ) (kind : FaultKind) (byte : ℕ) (old new : Found) → bytes ≡ text
+    → ParsesStyledExactly bytes (Err (error.Fault kind byte)) → new ≡ together old (fault_at (at_pattern place) (NoPattern kind byte))
     → HasGrownBy (IsFoundInText two place text) old new
 fault_found two place text bytes kind byte old new same answers added = (
-  one_fault (no_pattern_line place kind byte),
+  fault_at (at_pattern place) (NoPattern kind byte),
   inr (kind, byte, subst (λ (b : List ℕ). HasStyledFault b kind byte) same answers.only, refl),
   added,
 )

@@ -5,25 +5,25 @@ use Rattle.std.specs.Prelude.{nat_lt}
 use Rattle.std.proofs.lemmas.Bool.{ltb-true, ltb-false}
 use Rattle.std.proofs.Math.Nat.{add-zero}
 use Rattle.serde_json.specs.Data.{Data, Members, member}
-use Rattle.plural_documents.specs.Found.{Found, together}
+use Rattle.message_report.specs.FoundInMessages.{Found, findings_alone, rest_of, together}
 use Rattle.message_report.specs.MessageForms.{is_form_name}
-use Rattle.message_report.specs.MessagesReport.{found_of_keys, key_line, other_keys}
-use Rattle.plural_documents.specs.FirstLines.{most_told, rest_lines}
-use Rattle.plural_documents.specs.Found.{lines_alone}
+use Rattle.message_report.specs.MessagePlaces.{MessagePlace, at_message}
+use Rattle.message_report.specs.MessagesReport.{found_of_keys, key_finding, other_keys}
+use Rattle.plural_documents.specs.FirstLines.{most_told}
 use Rattle.message_report.specs.Inner.ToldKeys.{count_at, told_at, told_key}
-use Rattle.plural_documents.proofs.FoundLemmas.{nothing-together, together_assoc}
+use Rattle.message_report.proofs.MessagesFound.{nothing-together, together_assoc}
 
 -- what is told of these keys, if so many come before them
-abbrev pub told_from : List ℕ → ℕ → List (List ℕ) → Found
+abbrev pub told_from : MessagePlace → ℕ → List (List ℕ) → Found
 told_from place before keys = record {
-  lines = map (key_line place) (take (most_told - before) keys);
+  findings = map (key_finding place) (take (most_told - before) keys);
   faults = length keys;
-  checked = 0;
-  cases = 0;
+  messages = 0;
+  forms = 0;
 }
 
 -- one that names no form comes first
-told_first : (place : List ℕ) (before : ℕ) (key : List ℕ) (keys : List (List ℕ))
+told_first : (place : MessagePlace) (before : ℕ) (key : List ℕ) (keys : List (List ℕ))
     → told_from place before (key ∷ keys) ≡ together (told_key place before key) (told_from place (before + 1) keys)
 told_first place before key keys = by (nat_lt before most_told) refl
   where
@@ -42,7 +42,7 @@ told_first place before key keys = by (nat_lt before most_told) refl
         rw (many, none, none_after, count) refl
 
 -- of one member more, which is told by its key
-pub next_key : (place : List ℕ) (count after : ℕ) (key : List ℕ) (value : Data) (left : Members) (now next whole : Found)
+pub next_key : (place : MessagePlace) (count after : ℕ) (key : List ℕ) (value : Data) (left : Members) (now next whole : Found)
     → after ≡ count_at count key → next ≡ together now (told_at place count key)
     → together now (told_from place count (other_keys (member key value left))) ≡ whole
     → together next (told_from place after (other_keys left)) ≡ whole
@@ -75,14 +75,14 @@ next_count count key value left next whole step so_far = by (is_form_name key) r
         omega arith
 
 -- at the end all are told, and the rest is
-pub all_told : (place : List ℕ) (keys : List (List ℕ)) (count : ℕ) (first now new : Found) → count ≡ length keys
-    → now ≡ together first (told_from place 0 keys) → new ≡ together now (lines_alone (rest_lines place count))
+pub all_told : (place : MessagePlace) (keys : List (List ℕ)) (count : ℕ) (first now new : Found) → count ≡ length keys
+    → now ≡ together first (told_from place 0 keys) → new ≡ together now (findings_alone (rest_of (at_message place) count))
     → new ≡ together first (found_of_keys place keys)
 all_told place keys count first now new counted told rest =
     rest
-    ∙ ap (λ (f : Found). together f (lines_alone (rest_lines place count))) told
-    ∙ together_assoc first (told_from place 0 keys) (lines_alone (rest_lines place count))
+    ∙ ap (λ (f : Found). together f (findings_alone (rest_of (at_message place) count))) told
+    ∙ together_assoc first (told_from place 0 keys) (findings_alone (rest_of (at_message place) count))
     ∙ ap (λ (f : Found). together first f) joined
   where
-    joined : together (told_from place 0 keys) (lines_alone (rest_lines place count)) ≡ found_of_keys place keys
+    joined : together (told_from place 0 keys) (findings_alone (rest_of (at_message place) count)) ≡ found_of_keys place keys
     joined = rw (counted, add-zero (length keys)) refl

@@ -7,7 +7,6 @@ pub mod ListedTexts
 pub mod NeededRules
 pub mod NumberBranches
 pub mod OwnForms
-pub mod PatternPlaces
 pub mod SeenNumbers
+pub mod ToldFindings
 pub mod ToldKeys
-pub mod ToldLines

@@ -8,6 +8,10 @@ pub mod FormFaults
 -- patterns
 pub mod PatternBranches
 pub mod PatternFaults
+-- findings
+pub mod MessagePlaces
+pub mod FindingCauses
+pub mod MessageFindings
 -- the rules of locales
 pub mod RulesSource
 -- the report

@@ -3,10 +3,9 @@
 -- messages for cardinal numbers, in those for ordinal numbers, and in its patterns; in a message form
 -- by form, and then in its other keys; in a pattern argument by argument, first the missing branches,
 -- then branch by branch.
---     IsFoundInMessagesDocument source document found      what is found in a document under the
---         rules of a source
---     IsFoundInFiles source files found      what is found in files, each line after the name of
---         its file
+--     IsFoundInMessagesDocument source file document found      what is found in a document under
+--         the rules of a source
+--     IsFoundInFiles source files found      what is found in files
 use Rattle.std.specs.Prelude.{◌≡◌, ℕ, ◌||◌, bytes_eq, Bool, List, [], ◌∷◌, ◌++◌, codes, length, map, take}
 use Rattle.std.specs.Prelude.{Option, Some, None, is_some, ◌⊎◌, ◌↔◌, IsFalse, if◌then◌else◌}
 use Rattle.std.specs.Option.{option_and_then}
@@ -19,49 +18,27 @@ use Rattle.icu_plurals.specs.declared.PluralCategory.{PluralCategory}
 use Rattle.icu_plurals.specs.declared.PluralCategory.TheVariants.{Zero, One, Two, Few, Many, Other}
 use Rattle.icu_plurals.specs.declared.PluralRuleType.{PluralRuleType}
 use Rattle.icu_plurals.specs.declared.PluralRuleType.TheVariants.{Cardinal, Ordinal}
-use Rattle.message_pattern.specs.PatternParts.{Branching, Part, PatternPiece, Selector, Exactly, Keyword, Begin}
-use Rattle.message_pattern.specs.PatternAnswers.{HasStyledFault, IsStyledPattern, pattern_error_text}
+use Rattle.message_pattern.specs.PatternParts.{Branching, Part, PatternPiece, Selector, Keyword, Begin}
+use Rattle.message_pattern.specs.PatternAnswers.{HasStyledFault, IsStyledPattern}
 use Rattle.message_pattern.specs.StyledParts.{unstyled}
 use Rattle.message_pattern.specs.declared.error.FaultKind.{FaultKind}
-use Rattle.message_pattern.specs.declared.error.PatternError.TheVariants as error
-use Rattle.message_report.specs.FormFaults.{Language, HasFormFault, IsLanguageOf, form_fault_text, told_of}
-use Rattle.message_report.specs.FoundInMessages.{IsFoundInEach, one_form, one_message}
-use Rattle.plural_documents.specs.Found.{Found, IsFoundInMembers, nothing_found, one_fault, together}
-use Rattle.message_report.specs.MessageForms.{form_name, form_order, has_form, is_form_name}
-use Rattle.message_report.specs.PatternFaults.{IsArgumentAt, PluralArgument, TwoLanguages, branch_fault, branch_fault_text, language_of, missing_fault, type_of_kind}
-use Rattle.plural_documents.specs.PrintedKeys.{name_text}
-use Rattle.message_report.specs.PrintedKeys.{bytes_text, message_text}
-use Rattle.plural_documents.specs.FirstLines.{most_told, rest_lines}
+use Rattle.message_report.specs.FormFaults.{Language, HasFormFault, IsLanguageOf, told_of}
+use Rattle.message_report.specs.FoundInMessages.{Found, IsFoundInEach, IsFoundInMembers, nothing_found, one_form, one_message, together}
+use Rattle.message_report.specs.FoundInMessages.{fault_at, finding_at, rest_of}
+use Rattle.message_report.specs.MessageFindings.{Finding}
+use Rattle.message_report.specs.MessageForms.{form_order, has_form, is_form_name}
+use Rattle.message_report.specs.MessagePlaces.{ArgumentPlace, LocalePlace, MessagePlace, PatternPlace, type_name}
+use Rattle.message_report.specs.MessagePlaces.{at_document, at_locale, at_key, at_sources, at_source, at_messages, at_message, at_form}
+use Rattle.message_report.specs.MessagePlaces.{at_other_key, at_patterns, at_pattern, at_argument, at_branch}
+use Rattle.message_report.specs.PatternFaults.{IsArgumentAt, PluralArgument, TwoLanguages, branch_fault, language_of, missing_fault, type_of_kind}
+use Rattle.plural_documents.specs.FirstLines.{most_told}
 use Rattle.message_report.specs.RulesSource.{RulesSource, HasRules}
 use Rattle.message_report.specs.SourceArguments.{IsTextList, LacksNumber, source_name}
 use Rattle.message_report.specs.declared.branch_fault.BranchFault.{BranchFault}
+use Rattle.message_report.specs.declared.cause.Cause.TheVariants as cause
 use Rattle.message_report.specs.declared.fault.FormFault.{FormFault}
 use Rattle.message_report.specs.declared.file.MessageFile.{MessageFile}
 use Rattle.message_report.specs.declared.form.Form.{Form}
-
--- ---- Places and lines
-
--- the key of a type in a locale
-abbrev pub type_name : PluralRuleType → List ℕ
-type_name Cardinal = codes "cardinal"
-type_name Ordinal = codes "ordinal"
-
--- `ru cardinal`
-abbrev pub part_place : PluralRuleType → List ℕ → List ℕ
-part_place type locale = locale ++ (codes " " ++ type_name type)
-
--- `ru files`, `ru ordinal files`
-abbrev pub message_place : PluralRuleType → List ℕ → List ℕ → List ℕ
-message_place Cardinal locale key = locale ++ (codes " " ++ key)
-message_place Ordinal locale key = locale ++ (codes " ordinal " ++ key)
-
--- a fault of a place
-abbrev pub place_line : List ℕ → List ℕ → List ℕ
-place_line place fault = place ++ (codes ": " ++ fault)
-
--- a fault of what has a name at a place
-abbrev pub named_line : List ℕ → List ℕ → List ℕ → List ℕ
-named_line place name fault = place ++ (codes " " ++ (name ++ (codes ": " ++ fault)))
 
 -- ---- A message
 
@@ -69,13 +46,13 @@ named_line place name fault = place ++ (codes " " ++ (name ++ (codes ": " ++ fau
 abbrev pub form_count : Form → Data → Found
 form_count form message = if has_form form message then one_form else nothing_found
 
--- its fault has a line: `ru files one: no {}, but 1 and 21 are one`
-abbrev pub found_of_fault : List ℕ → Form → Option FormFault → Found
+-- its fault
+abbrev pub found_of_fault : MessagePlace → Form → Option FormFault → Found
 found_of_fault place form None = nothing_found
-found_of_fault place form (Some fault) = one_fault (named_line place (form_name form) (form_fault_text fault))
+found_of_fault place form (Some fault) = fault_at (at_form place form) (cause.Form fault)
 
 -- its fault is told, but for a number that it doesn't need
-abbrev pub IsFoundInForm : Option Language → Bool → List ℕ → Data → Form → Found → Type 0
+abbrev pub IsFoundInForm : Option Language → Bool → MessagePlace → Data → Form → Found → Type 0
 IsFoundInForm language needs_number place message form found =
     (fault : Option FormFault) × HasFormFault language form message fault
     × (found ≡ together (form_count form message) (found_of_fault place form (option_and_then (told_of needs_number) fault)))
@@ -85,42 +62,37 @@ abbrev pub other_keys : Members → List (List ℕ)
 other_keys no_members = []
 other_keys (member key value members) = if is_form_name key then other_keys members else key ∷ other_keys members
 
--- `ru files feew: not a form`
-abbrev pub key_line : List ℕ → List ℕ → List ℕ
-key_line place key = named_line place (name_text key) (codes "not a form")
+abbrev pub key_finding : MessagePlace → List ℕ → Finding
+key_finding place key = finding_at (at_other_key place key) cause.NotAForm
 
--- the first keys have a line each, and the others are counted in one
-abbrev pub found_of_keys : List ℕ → List (List ℕ) → Found
+-- the first keys have a finding each, and the others are counted in one
+abbrev pub found_of_keys : MessagePlace → List (List ℕ) → Found
 found_of_keys place keys = record {
-  lines = map (key_line place) (take most_told keys) ++ rest_lines place (length keys);
+  findings = map (key_finding place) (take most_told keys) ++ rest_of (at_message place) (length keys);
   faults = length keys;
-  checked = 0;
-  cases = 0;
+  messages = 0;
+  forms = 0;
 }
 
 -- first in the forms, then in the other keys
-abbrev pub IsFoundInForms : Option Language → Bool → List ℕ → Data → Option Members → Found → Type 0
-IsFoundInForms language needs_number place message None found = found ≡ one_fault (place_line place (codes "no object"))
+abbrev pub IsFoundInForms : Option Language → Bool → MessagePlace → Data → Option Members → Found → Type 0
+IsFoundInForms language needs_number place message None found = found ≡ fault_at (at_message place) cause.NoObject
 IsFoundInForms language needs_number place message (Some members) found =
     (forms : Found) × IsFoundInEach (IsFoundInForm language needs_number place message) form_order forms
     × (found ≡ together forms (found_of_keys place (other_keys members)))
 
 -- a message is counted; its forms need the number, unless its source lacks it
-abbrev pub IsFoundInMessage : Option Language → Option Data → PluralRuleType → List ℕ → List ℕ → Data → Found → Type 0
+abbrev pub IsFoundInMessage : Option Language → Option Data → PluralRuleType → LocalePlace → List ℕ → Data → Found → Type 0
 IsFoundInMessage language arguments type locale key message found =
     (needs_number : Bool) × (more : Found) × (IsFalse needs_number ↔ LacksNumber arguments key)
-    × IsFoundInForms language needs_number (message_place type locale (message_text key)) message (as_object message) more
+    × IsFoundInForms language needs_number (record { locale = locale; type = type; key = key }) message (as_object message) more
     × (found ≡ together one_message more)
 
 -- ---- The messages of a type
 
--- `ru: no cardinal rules`
-abbrev pub no_rules_text : PluralRuleType → List ℕ
-no_rules_text Cardinal = codes "no cardinal rules"
-no_rules_text Ordinal = codes "no ordinal rules"
-
-abbrev pub found_of_language : PluralRuleType → List ℕ → Option Language → Found
-found_of_language type locale None = one_fault (place_line locale (no_rules_text type))
+-- there should be rules of the type
+abbrev pub found_of_language : PluralRuleType → LocalePlace → Option Language → Found
+found_of_language type locale None = fault_at (at_locale locale) (cause.NoRules type)
 found_of_language type locale (Some language) = nothing_found
 
 -- the language of the rules, if there are any
@@ -135,152 +107,130 @@ HasLanguage source type locale language =
     (rules : Option FiveRules) × HasRules source type locale rules × IsLanguageIf rules language
 
 -- first that there are no rules
-abbrev pub IsFoundUnder : Option Language → Option Data → PluralRuleType → List ℕ → Members → Found → Type 0
+abbrev pub IsFoundUnder : Option Language → Option Data → PluralRuleType → LocalePlace → Members → Found → Type 0
 IsFoundUnder language arguments type locale members found =
     (messages : Found) × IsFoundInMembers (IsFoundInMessage language arguments type locale) members messages
     × (found ≡ together (found_of_language type locale language) messages)
 
 -- under the rules of the locale; without messages none are needed
-abbrev pub IsFoundInMessages : RulesSource → Option Data → PluralRuleType → List ℕ → Members → Found → Type 0
+abbrev pub IsFoundInMessages : RulesSource → Option Data → PluralRuleType → LocalePlace → Members → Found → Type 0
 IsFoundInMessages source arguments type locale no_members found = found ≡ nothing_found
 IsFoundInMessages source arguments type locale (member key value members) found =
-    (language : Option Language) × HasLanguage source type locale language
-    × IsFoundUnder language arguments type (name_text locale) (member key value members) found
+    (language : Option Language) × HasLanguage source type locale.locale language
+    × IsFoundUnder language arguments type locale (member key value members) found
 
 -- a part that isn't there has no messages, and one that is there should be an object
-abbrev pub IsFoundInObject : RulesSource → Option Data → PluralRuleType → List ℕ → Option Members → Found → Type 0
-IsFoundInObject source arguments type locale None found =
-    found ≡ one_fault (place_line (part_place type (name_text locale)) (codes "no object"))
+abbrev pub IsFoundInObject : RulesSource → Option Data → PluralRuleType → LocalePlace → Option Members → Found → Type 0
+IsFoundInObject source arguments type locale None found = found ≡ fault_at (at_messages locale type) cause.NoObject
 IsFoundInObject source arguments type locale (Some members) found = IsFoundInMessages source arguments type locale members found
 
-abbrev pub IsFoundInPart : RulesSource → Option Data → PluralRuleType → List ℕ → Option Data → Found → Type 0
+abbrev pub IsFoundInPart : RulesSource → Option Data → PluralRuleType → LocalePlace → Option Data → Found → Type 0
 IsFoundInPart source arguments type locale None found = found ≡ nothing_found
 IsFoundInPart source arguments type locale (Some part) found = IsFoundInObject source arguments type locale (as_object part) found
 
 -- ---- What the sources of messages have
 
--- `ru source`
-abbrev pub source_place : List ℕ → List ℕ
-source_place locale = locale ++ codes " source"
-
--- `ru source files: no list of texts`
-abbrev pub source_line : List ℕ → List ℕ → List ℕ
-source_line locale key = named_line (source_place locale) (message_text key) (codes "no list of texts")
-
 -- of a message's source: the value should be a list of texts
-abbrev pub IsFoundInSource : List ℕ → List ℕ → Data → Found → Type 0
+abbrev pub IsFoundInSource : LocalePlace → List ℕ → Data → Found → Type 0
 IsFoundInSource locale key value found =
-    (IsTextList value × (found ≡ nothing_found)) ⊎ ((¬ (IsTextList value)) × (found ≡ one_fault (source_line locale key)))
+    (IsTextList value × (found ≡ nothing_found))
+    ⊎ ((¬ (IsTextList value)) × (found ≡ fault_at (at_source locale key) cause.NoTextList))
 
-abbrev pub IsFoundInSourceObject : List ℕ → Option Members → Found → Type 0
-IsFoundInSourceObject locale None found = found ≡ one_fault (place_line (source_place locale) (codes "no object"))
+abbrev pub IsFoundInSourceObject : LocalePlace → Option Members → Found → Type 0
+IsFoundInSourceObject locale None found = found ≡ fault_at (at_sources locale) cause.NoObject
 IsFoundInSourceObject locale (Some members) found = IsFoundInMembers (IsFoundInSource locale) members found
 
-abbrev pub IsFoundInSourcePart : List ℕ → Option Data → Found → Type 0
+abbrev pub IsFoundInSourcePart : LocalePlace → Option Data → Found → Type 0
 IsFoundInSourcePart locale None found = found ≡ nothing_found
 IsFoundInSourcePart locale (Some part) found = IsFoundInSourceObject locale (as_object part) found
 
 -- ---- A pattern
 
--- `ru pattern files`
-abbrev pub pattern_place : List ℕ → List ℕ → List ℕ
-pattern_place locale key = locale ++ (codes " pattern " ++ key)
-
--- `ru pattern files {n}`
-abbrev pub argument_place : List ℕ → List ℕ → List ℕ
-argument_place place name = place ++ (codes " {" ++ (bytes_text name ++ codes "}"))
-
--- `=1`, `one`
-abbrev pub selector_name : Selector → List ℕ
-selector_name (Exactly number) = codes "=" ++ bytes_text number
-selector_name (Keyword word) = bytes_text word
-
--- the line of a fault, if there is one: `ru pattern files {n} one: no #, but 1 and 21 are one`
-abbrev pub fault_lines : List ℕ → List ℕ → Option BranchFault → List (List ℕ)
-fault_lines place name None = []
-fault_lines place name (Some fault) = named_line place name (branch_fault_text fault) ∷ []
+-- the fault of a branch, if there is one
+abbrev pub findings_at : ArgumentPlace → Selector → Option BranchFault → List Finding
+findings_at place selector None = []
+findings_at place selector (Some fault) = finding_at (at_branch place selector) (cause.Branch fault) ∷ []
 
 -- the order of categories
 abbrev pub category_order : List PluralCategory
 category_order = Zero ∷ One ∷ Two ∷ Few ∷ Many ∷ Other ∷ []
 
 -- of these categories
-abbrev pub missing_lines : Language → List ℕ → PluralArgument → List PluralCategory → List (List ℕ)
-missing_lines language place a [] = []
-missing_lines language place a (category ∷ categories) =
-    fault_lines place (name_of category) (missing_fault language a category) ++ missing_lines language place a categories
+abbrev pub missing_findings : Language → ArgumentPlace → PluralArgument → List PluralCategory → List Finding
+missing_findings language place a [] = []
+missing_findings language place a (category ∷ categories) =
+    findings_at place (Keyword (name_of category)) (missing_fault language a category)
+    ++ missing_findings language place a categories
 
 -- the selectors with which a further one is compared: the first ones of the argument
 abbrev pub most_compared : ℕ
 most_compared = 32
 
 -- of these branches, behind some selectors
-abbrev pub branch_lines : Language → List ℕ → PluralArgument → List Selector → List Branching → List (List ℕ)
-branch_lines language place a before [] = []
-branch_lines language place a before (b ∷ bs) =
-    fault_lines place (selector_name b.selector) (branch_fault language a (take most_compared before) b)
-    ++ branch_lines language place a (before ++ b.selector ∷ []) bs
+abbrev pub branch_findings : Language → ArgumentPlace → PluralArgument → List Selector → List Branching → List Finding
+branch_findings language place a before [] = []
+branch_findings language place a before (b ∷ bs) =
+    findings_at place b.selector (branch_fault language a (take most_compared before) b)
+    ++ branch_findings language place a (before ++ b.selector ∷ []) bs
 
-abbrev pub language_lines : Language → List ℕ → PluralArgument → List (List ℕ)
-language_lines language place a = missing_lines language place a category_order ++ branch_lines language place a [] a.branches
+abbrev pub language_findings : Language → ArgumentPlace → PluralArgument → List Finding
+language_findings language place a =
+    missing_findings language place a category_order ++ branch_findings language place a [] a.branches
 
--- `ru pattern files {n}: no cardinal rules`
-abbrev pub lines_under : PluralRuleType → List ℕ → Option Language → PluralArgument → List (List ℕ)
-lines_under type place None a = place_line place (no_rules_text type) ∷ []
-lines_under type place (Some language) a = language_lines language place a
+-- there should be rules of the type
+abbrev pub findings_under : PluralRuleType → ArgumentPlace → Option Language → PluralArgument → List Finding
+findings_under type place None a = finding_at (at_argument place) (cause.NoRules type) ∷ []
+findings_under type place (Some language) a = language_findings language place a
 
 -- of an argument with rules of a type; a select has none
-abbrev pub argument_lines : TwoLanguages → List ℕ → Option PluralRuleType → PluralArgument → List (List ℕ)
-argument_lines two place None a = []
-argument_lines two place (Some type) a = lines_under type (argument_place place a.name) (language_of two type) a
+abbrev pub argument_findings : TwoLanguages → PatternPlace → Option PluralRuleType → PluralArgument → List Finding
+argument_findings two place None a = []
+argument_findings two place (Some type) a = findings_under type (record { pattern = place; name = a.name }) (language_of two type) a
 
 -- of a piece at a depth that these parts follow, if it begins an argument
-abbrev pub HasPieceLines : TwoLanguages → List ℕ → ℕ → PatternPiece → List Part → List (List ℕ) → Type 0
-HasPieceLines two place depth (Begin kind name offset) ps lines =
-    (a : PluralArgument) × IsArgumentAt name (is_some offset) depth ps a × (lines ≡ argument_lines two place (type_of_kind kind) a)
-HasPieceLines two place depth piece ps lines = lines ≡ []
+abbrev pub HasPieceFindings : TwoLanguages → PatternPlace → ℕ → PatternPiece → List Part → List Finding → Type 0
+HasPieceFindings two place depth (Begin kind name offset) ps findings =
+    (a : PluralArgument) × IsArgumentAt name (is_some offset) depth ps a
+    × (findings ≡ argument_findings two place (type_of_kind kind) a)
+HasPieceFindings two place depth piece ps findings = findings ≡ []
 
 -- of each argument, however deep, in the order in which they begin
-abbrev pub HasPatternLines : TwoLanguages → List ℕ → List Part → List (List ℕ) → Type 0
-HasPatternLines two place [] lines = lines ≡ []
-HasPatternLines two place (p ∷ ps) lines =
-    (first more : List (List ℕ)) × HasPieceLines two place p.depth p.piece ps first × HasPatternLines two place ps more
-    × (lines ≡ first ++ more)
+abbrev pub HasPatternFindings : TwoLanguages → PatternPlace → List Part → List Finding → Type 0
+HasPatternFindings two place [] findings = findings ≡ []
+HasPatternFindings two place (p ∷ ps) findings =
+    (first more : List Finding) × HasPieceFindings two place p.depth p.piece ps first
+    × HasPatternFindings two place ps more × (findings ≡ first ++ more)
 
--- the first lines are told, and the others are counted in one
-abbrev pub found_of_lines : List ℕ → List (List ℕ) → Found
-found_of_lines place lines = record {
-  lines = take most_told lines ++ rest_lines place (length lines);
-  faults = length lines;
-  checked = 0;
-  cases = 0;
+-- the first ones are told, and the others are counted in one
+abbrev pub found_of_findings : PatternPlace → List Finding → Found
+found_of_findings place findings = record {
+  findings = take most_told findings ++ rest_of (at_pattern place) (length findings);
+  faults = length findings;
+  messages = 0;
+  forms = 0;
 }
 
--- `ru pattern files: no pattern: a brace isn't closed at byte 2`
-abbrev pub no_pattern_line : List ℕ → FaultKind → ℕ → List ℕ
-no_pattern_line place kind byte = place_line place (codes "no pattern: " ++ pattern_error_text (error.Fault kind byte))
-
 -- of the arguments of a pattern with these parts
-abbrev pub IsFoundInArguments : TwoLanguages → List ℕ → List Part → Found → Type 0
+abbrev pub IsFoundInArguments : TwoLanguages → PatternPlace → List Part → Found → Type 0
 IsFoundInArguments two place parts found =
-    (lines : List (List ℕ)) × HasPatternLines two place parts lines × (found ≡ found_of_lines place lines)
+    (findings : List Finding) × HasPatternFindings two place parts findings × (found ≡ found_of_findings place findings)
 
 -- of a text: what is wrong with the arguments of the pattern, of which those with simple formats are
 -- taken by their names alone, or its first fault if it is none
-abbrev pub IsFoundInText : TwoLanguages → List ℕ → List ℕ → Found → Type 0
+abbrev pub IsFoundInText : TwoLanguages → PatternPlace → List ℕ → Found → Type 0
 IsFoundInText two place text found =
     ((parts : List Part) × IsStyledPattern text parts × IsFoundInArguments two place (unstyled parts) found)
-    ⊎ ((kind : FaultKind) × (byte : ℕ) × HasStyledFault text kind byte × (found ≡ one_fault (no_pattern_line place kind byte)))
+    ⊎ ((kind : FaultKind) × (byte : ℕ) × HasStyledFault text kind byte × (found ≡ fault_at (at_pattern place) (cause.NoPattern kind byte)))
 
 -- of a value, which should be a text
-abbrev pub IsFoundInTextIf : TwoLanguages → List ℕ → Option (List ℕ) → Found → Type 0
-IsFoundInTextIf two place None found = found ≡ one_fault (place_line place (codes "no text"))
+abbrev pub IsFoundInTextIf : TwoLanguages → PatternPlace → Option (List ℕ) → Found → Type 0
+IsFoundInTextIf two place None found = found ≡ fault_at (at_pattern place) cause.NoText
 IsFoundInTextIf two place (Some text) found = IsFoundInText two place text found
 
 -- a pattern is counted as a message
-abbrev pub IsFoundInPattern : TwoLanguages → List ℕ → List ℕ → Data → Found → Type 0
+abbrev pub IsFoundInPattern : TwoLanguages → LocalePlace → List ℕ → Data → Found → Type 0
 IsFoundInPattern two locale key value found =
-    (more : Found) × IsFoundInTextIf two (pattern_place locale (message_text key)) (as_str value) more
+    (more : Found) × IsFoundInTextIf two (record { locale = locale; key = key }) (as_str value) more
     × (found ≡ together one_message more)
 
 -- ---- The patterns of a locale
@@ -292,20 +242,15 @@ HaveLanguages source locale two = HasLanguage source Cardinal locale two.cardina
 abbrev pub patterns_name : List ℕ
 patterns_name = codes "patterns"
 
--- `ru patterns`
-abbrev pub patterns_place : List ℕ → List ℕ
-patterns_place locale = locale ++ codes " patterns"
-
-abbrev pub IsFoundInPatterns : RulesSource → List ℕ → Members → Found → Type 0
+abbrev pub IsFoundInPatterns : RulesSource → LocalePlace → Members → Found → Type 0
 IsFoundInPatterns source locale members found =
-    (two : TwoLanguages) × HaveLanguages source locale two × IsFoundInMembers (IsFoundInPattern two (name_text locale)) members found
+    (two : TwoLanguages) × HaveLanguages source locale.locale two × IsFoundInMembers (IsFoundInPattern two locale) members found
 
-abbrev pub IsFoundInPatternsObject : RulesSource → List ℕ → Option Members → Found → Type 0
-IsFoundInPatternsObject source locale None found =
-    found ≡ one_fault (place_line (patterns_place (name_text locale)) (codes "no object"))
+abbrev pub IsFoundInPatternsObject : RulesSource → LocalePlace → Option Members → Found → Type 0
+IsFoundInPatternsObject source locale None found = found ≡ fault_at (at_patterns locale) cause.NoObject
 IsFoundInPatternsObject source locale (Some members) found = IsFoundInPatterns source locale members found
 
-abbrev pub IsFoundInPatternsPart : RulesSource → List ℕ → Option Data → Found → Type 0
+abbrev pub IsFoundInPatternsPart : RulesSource → LocalePlace → Option Data → Found → Type 0
 IsFoundInPatternsPart source locale None found = found ≡ nothing_found
 IsFoundInPatternsPart source locale (Some part) found = IsFoundInPatternsObject source locale (as_object part) found
 
@@ -315,16 +260,15 @@ abbrev pub is_locale_part : List ℕ → Bool
 is_locale_part key =
     bytes_eq key (type_name Cardinal) || bytes_eq key (type_name Ordinal) || bytes_eq key patterns_name || bytes_eq key source_name
 
--- `ru cardinals: not a part`
-abbrev pub found_of_part_key : List ℕ → List ℕ → Found
-found_of_part_key locale key =
-    if is_locale_part key then nothing_found else one_fault (named_line locale (name_text key) (codes "not a part"))
+-- each key of a locale should name a part
+abbrev pub found_of_part_key : LocalePlace → List ℕ → Found
+found_of_part_key locale key = if is_locale_part key then nothing_found else fault_at (at_key locale key) cause.NotAPart
 
-abbrev pub IsFoundInLocaleKey : List ℕ → List ℕ → Data → Found → Type 0
+abbrev pub IsFoundInLocaleKey : LocalePlace → List ℕ → Data → Found → Type 0
 IsFoundInLocaleKey locale key value found = found ≡ found_of_part_key locale key
 
 -- first cardinal numbers
-abbrev pub IsFoundInBoth : RulesSource → List ℕ → Data → Found → Type 0
+abbrev pub IsFoundInBoth : RulesSource → LocalePlace → Data → Found → Type 0
 IsFoundInBoth source locale value found =
     (cardinal ordinal : Found)
     × IsFoundInPart source (get source_name value) Cardinal locale (get (type_name Cardinal) value) cardinal
@@ -332,47 +276,35 @@ IsFoundInBoth source locale value found =
     × (found ≡ together cardinal ordinal)
 
 -- and then patterns
-abbrev pub IsFoundInAll : RulesSource → List ℕ → Data → Found → Type 0
+abbrev pub IsFoundInAll : RulesSource → LocalePlace → Data → Found → Type 0
 IsFoundInAll source locale value found =
     (both patterns : Found) × IsFoundInBoth source locale value both
     × IsFoundInPatternsPart source locale (get patterns_name value) patterns × (found ≡ together both patterns)
 
 -- in a locale: in its keys, in what the sources of its messages have, and in all other parts
-abbrev pub IsFoundInParts : RulesSource → List ℕ → Data → Option Members → Found → Type 0
-IsFoundInParts source locale value None found = found ≡ one_fault (place_line (name_text locale) (codes "no object"))
+abbrev pub IsFoundInParts : RulesSource → LocalePlace → Data → Option Members → Found → Type 0
+IsFoundInParts source locale value None found = found ≡ fault_at (at_locale locale) cause.NoObject
 IsFoundInParts source locale value (Some members) found =
-    (keys sources parts : Found) × IsFoundInMembers (IsFoundInLocaleKey (name_text locale)) members keys
-    × IsFoundInSourcePart (name_text locale) (get source_name value) sources × IsFoundInAll source locale value parts
+    (keys sources parts : Found) × IsFoundInMembers (IsFoundInLocaleKey locale) members keys
+    × IsFoundInSourcePart locale (get source_name value) sources × IsFoundInAll source locale value parts
     × (found ≡ together keys (together sources parts))
 
-abbrev pub IsFoundInLocale : RulesSource → List ℕ → Data → Found → Type 0
-IsFoundInLocale source locale value found = IsFoundInParts source locale value (as_object value) found
+-- of a file
+abbrev pub IsFoundInLocale : RulesSource → List ℕ → List ℕ → Data → Found → Type 0
+IsFoundInLocale source file locale value found =
+    IsFoundInParts source (record { file = file; locale = locale }) value (as_object value) found
 
-abbrev pub IsFoundInLocales : RulesSource → Option Members → Found → Type 0
-IsFoundInLocales source None found = found ≡ one_fault (codes "document: no object")
-IsFoundInLocales source (Some members) found = IsFoundInMembers (IsFoundInLocale source) members found
+abbrev pub IsFoundInLocales : RulesSource → List ℕ → Option Members → Found → Type 0
+IsFoundInLocales source file None found = found ≡ fault_at (at_document file) cause.NoObject
+IsFoundInLocales source file (Some members) found = IsFoundInMembers (IsFoundInLocale source file) members found
 
-abbrev pub IsFoundInMessagesDocument : RulesSource → Data → Found → Type 0
-IsFoundInMessagesDocument source document found = IsFoundInLocales source (as_object document) found
+abbrev pub IsFoundInMessagesDocument : RulesSource → List ℕ → Data → Found → Type 0
+IsFoundInMessagesDocument source file document found = IsFoundInLocales source file (as_object document) found
 
 -- ---- Files
 
--- `ru.json: ru files two: no number is two`
-abbrev pub file_line : List ℕ → List ℕ → List ℕ
-file_line name line = name ++ (codes ": " ++ line)
-
--- the same with the name of a file before each line
-abbrev pub named : List ℕ → Found → Found
-named name found = record {
-  lines = map (file_line name) found.lines;
-  faults = found.faults;
-  checked = found.checked;
-  cases = found.cases;
-}
-
 abbrev pub IsFoundInFile : RulesSource → MessageFile → Found → Type 0
-IsFoundInFile source file found =
-    (inside : Found) × IsFoundInMessagesDocument source (view file.document.now) inside × (found ≡ named file.name.now inside)
+IsFoundInFile source file found = IsFoundInMessagesDocument source file.name.now (view file.document.now) found
 
 -- file by file, in the order in which they are given
 abbrev pub IsFoundInFiles : RulesSource → List MessageFile → Found → Type 0

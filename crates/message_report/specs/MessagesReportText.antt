@@ -1,11 +1,16 @@
--- The text of a report of messages: its lines, and one with the counts and the numbers that were
--- tried.
+-- The text of a report of messages: a line for each finding, and one with the counts and the numbers
+-- that were tried.
 use Rattle.std.specs.Prelude.{ℕ, List, ◌++◌, codes}
 use Rattle.std.specs.Fmt.{decimal}
 use Rattle.std.specs.List.{flat_map}
 use Rattle.plural_documents.specs.FirstLines.{ended_line}
-use Rattle.plural_documents.specs.Found.{Found}
+use Rattle.message_report.specs.FoundInMessages.{Found}
+use Rattle.message_report.specs.MessageFindings.{Finding, finding_line}
 use Rattle.message_report.specs.declared.counts.Counts.{Counts}
+
+-- the line of a finding, with a newline
+abbrev pub printed_finding : Finding → List ℕ
+printed_finding finding = ended_line (finding_line finding)
 
 -- `messages: 12, forms: 40, faults: 3, numbers tried: 0 to 9999`
 abbrev pub message_counts_line : Counts → List ℕ
@@ -14,7 +19,7 @@ message_counts_line counts =
     ++ (decimal counts.faults ++ codes ", numbers tried: 0 to 9999\n")))))
 
 abbrev pub counts_found : Found → Counts
-counts_found found = record { messages = found.checked; forms = found.cases; faults = found.faults }
+counts_found found = record { messages = found.messages; forms = found.forms; faults = found.faults }
 
 abbrev pub messages_report_text : Found → List ℕ
-messages_report_text found = flat_map ended_line found.lines ++ message_counts_line (counts_found found)
+messages_report_text found = flat_map printed_finding found.findings ++ message_counts_line (counts_found found)

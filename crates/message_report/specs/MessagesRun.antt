@@ -6,7 +6,7 @@ use Rattle.std.specs.Io.KnownBytes.{Appends, Keeps}
 use Rattle.plural_documents.specs.Inputs.{IsPartWritten}
 use Rattle.message_report.specs.MessagesReport.{IsFoundInFiles}
 use Rattle.message_report.specs.MessagesReportText.{counts_found, messages_report_text}
-use Rattle.plural_documents.specs.Found.{Found}
+use Rattle.message_report.specs.FoundInMessages.{Found}
 use Rattle.message_report.specs.RulesSource.{RulesSource}
 use Rattle.message_report.specs.declared.counts.Counts.{Counts}
 use Rattle.message_report.specs.declared.error.ReportError.{ReportError}

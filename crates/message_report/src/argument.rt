@@ -19,26 +19,26 @@ use std::alloc::{AllocError, Global};
 
 // A plural or an ordinal.
 #[derive(Clone, Copy)]
-pub(crate) struct Argument<'p> {
-    pub(crate) name: &'p [u8],
+pub(crate) struct Argument<'a, 'p> {
+    pub(crate) name: &'a [u8],
     pub(crate) has_offset: bool,
     // How many branches it is in.
     pub(crate) depth: usize,
     // The parts that follow its beginning.
-    pub(crate) parts: &'p [Part<'p>],
+    pub(crate) parts: &'p [Part<'a>],
     // Whether exactly 0 has a branch of its own, and exactly 1.
     pub(crate) own_zero: bool,
     pub(crate) own_one: bool,
 }
 
 // Returns the argument at a depth, of which these parts follow its beginning.
-pub(crate) fn argument_at<'p>(
+pub(crate) fn argument_at<'a, 'p>(
     alloc: Global,
-    name: &'p [u8],
+    name: &'a [u8],
     has_offset: bool,
     depth: usize,
-    parts: &'p [Part<'p>],
-) -> Result<Argument<'p>, AllocError>
+    parts: &'p [Part<'a>],
+) -> Result<Argument<'a, 'p>, AllocError>
     ensures { IfOk result (λ a. IsArgumentAt name.now has_offset depth (parts_view parts.now) (argument_view a)) }
 {
     let own_zero = is_own(alloc, "0", has_offset, depth, parts)?;

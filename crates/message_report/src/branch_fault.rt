@@ -17,18 +17,18 @@ use icu_plurals::PluralCategory;
 use message_pattern::{Part, Selector};
 use std::fmt;
 
-// What is wrong with a branch of a plural argument.
+/// What is wrong with a branch of a plural argument.
 #[derive(Clone, Copy, Debug, PartialEq, Eq)]
-pub(crate) enum BranchFault {
-    // Its keyword is no category.
+pub enum BranchFault {
+    /// Its keyword is no category.
     NoCategory,
-    // Its selector stands before it, too.
+    /// Its selector stands before it, too.
     Twice,
-    // The language hasn't its category: no number chooses it.
+    /// The language hasn't its category: no number chooses it.
     Unused(PluralCategory),
-    // It doesn't say the number, though these two choose it.
+    /// It doesn't say the number, though these two choose it.
     NoHash(PluralCategory, u16, u16),
-    // There is none of the category. These are the two least numbers that would choose it, or one.
+    /// There is none of the category. These are the two least numbers that would choose it, or one.
     Missing(PluralCategory, u16, Option<u16>),
 }
 
@@ -66,7 +66,11 @@ impl fmt::Display for BranchFault {
 }
 
 // Returns the two least numbers that choose the branch of a category.
-fn numbers_of(language: &Language, argument: Argument<'_>, category: PluralCategory) -> TwoNumbers
+fn numbers_of(
+    language: &Language,
+    argument: Argument<'_, '_>,
+    category: PluralCategory,
+) -> TwoNumbers
     ensures { result ≡ numbers_of (language_view language.now) (argument_view argument.entry) category }
 {
     language.numbers(category, argument.own_zero, argument.own_one)
@@ -75,7 +79,7 @@ fn numbers_of(language: &Language, argument: Argument<'_>, category: PluralCateg
 // Returns that a category has no branch, if numbers would choose it.
 pub(crate) fn missing_fault(
     language: &Language,
-    argument: Argument<'_>,
+    argument: Argument<'_, '_>,
     category: PluralCategory,
 ) -> Option<BranchFault>
     ensures { result ≡ missing_fault (language_view language.now) (argument_view argument.entry) category }
@@ -109,7 +113,7 @@ fn no_hash(category: PluralCategory, numbers: TwoNumbers) -> Option<BranchFault>
 // Returns the fault of a category's branch, from whose parts on these are.
 fn category_fault(
     language: &Language,
-    argument: Argument<'_>,
+    argument: Argument<'_, '_>,
     parts: &[Part<'_>],
     category: PluralCategory,
 ) -> Option<BranchFault>
@@ -135,7 +139,7 @@ fn category_named(word: &[u8]) -> Option<PluralCategory>
 // Returns the fault of the branch of a category, or that its keyword is none.
 fn category_fault_if(
     language: &Language,
-    argument: Argument<'_>,
+    argument: Argument<'_, '_>,
     parts: &[Part<'_>],
     category: Option<PluralCategory>,
 ) -> Option<BranchFault>
@@ -151,7 +155,7 @@ fn category_fault_if(
 // Returns the fault of a selector that stands once, from the parts of whose branch on these are.
 fn selector_fault(
     language: &Language,
-    argument: Argument<'_>,
+    argument: Argument<'_, '_>,
     selector: Selector<'_>,
     parts: &[Part<'_>],
 ) -> Option<BranchFault>
@@ -169,7 +173,7 @@ fn selector_fault(
 // Returns the fault of a branch behind these selectors, from whose parts on these are.
 pub(crate) fn branch_fault(
     language: &Language,
-    argument: Argument<'_>,
+    argument: Argument<'_, '_>,
     before: &[Selector<'_>],
     selector: Selector<'_>,
     parts: &[Part<'_>],

@@ -10,20 +10,21 @@ use icu_plurals::PluralCategory;
 use icu_plurals::provider::RawPluralCategory;
 use serde_json::Value;
 
-// A form of a message.
+/// A form of a message.
 #[derive(Clone, Copy, Debug, PartialEq, Eq)]
-pub(crate) enum Form {
-    // Of exactly 0.
+pub enum Form {
+    /// Of exactly 0.
     ExplicitZero,
-    // Of exactly 1.
+    /// Of exactly 1.
     ExplicitOne,
-    // Of a category.
+    /// Of a category.
     Category(PluralCategory),
 }
 
 impl Form {
-    // Returns the form's key in a message.
-    pub(crate) fn as_str(self) -> &'static str
+    /// Returns the form's key in a message: `explicit_zero`, `explicit_one`, or the name of the
+    /// category.
+    pub fn as_str(self) -> &'static str
         ensures { result.now ≡ form_name self }
     {
         match self {

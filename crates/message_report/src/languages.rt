@@ -11,7 +11,7 @@ ghost use Rattle.serde_json.specs.Find.{as_object};
 ghost use Rattle.serde_json.specs.View.{view};
 
 use crate::language::Language;
-use crate::part::type_name;
+use crate::place::type_name;
 use crate::source::RulesOfLocales;
 use icu_plurals::PluralRuleType;
 use serde_json::Value;

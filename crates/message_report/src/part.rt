@@ -1,46 +1,35 @@
 //! What is found in the messages of a type.
 
-ghost use Rattle.std.specs.Prelude.{◌≡◌, codes, IfOk, OnOk, string_bytes};
-ghost use Rattle.plural_documents.specs.Found.{together};
-ghost use Rattle.plural_documents.specs.Found.{HasGrownBy};
+ghost use Rattle.std.specs.Prelude.{◌≡◌, OnOk};
+ghost use Rattle.message_report.specs.FoundInMessages.{together, HasGrownBy};
 ghost use Rattle.message_report.specs.Inner.FormSteps.{language_lent, value_lent};
 ghost use Rattle.message_report.specs.Inner.NeededRules.{IsFoundInMessagesBy, IsFoundInObjectBy, IsFoundInPartBy};
-ghost use Rattle.message_report.specs.MessagesReport.{found_of_language, no_rules_text, part_place, place_line, type_name};
-ghost use Rattle.message_report.specs.MessagesReport.{IsFoundUnder};
-ghost use Rattle.plural_documents.specs.PrintedKeys.{name_text};
+ghost use Rattle.message_report.specs.MessagePlaces.{locale_place_view, type_name};
+ghost use Rattle.message_report.specs.MessagesReport.{found_of_language, IsFoundUnder};
 ghost use Rattle.message_report.specs.SourceArguments.{source_name};
 ghost use Rattle.serde_json.specs.Find.{as_object, get};
 ghost use Rattle.serde_json.specs.View.{members_view, view};
 
-use crate::keys::place_line;
+use crate::cause::Cause;
+use crate::found::{Found, add_members};
 use crate::language::Language;
 use crate::message::MessageCheck;
+use crate::place::{LocalePlace, Place, type_name};
 use icu_plurals::PluralRuleType;
-use plural_documents::{Found, add_members, name_text};
 use serde_json::{Map, Value};
 use std::alloc::{AllocError, Global};
 
-// Returns the key of a type in a locale.
-pub(crate) fn type_name(rule_type: PluralRuleType) -> &'static str
-    ensures { result.now ≡ type_name rule_type }
-{
-    match rule_type {
-        PluralRuleType::Cardinal => "cardinal",
-        PluralRuleType::Ordinal => "ordinal",
-    }
-}
-
 // Adds what is found in the messages of a type, given a locale's value and its language, if there
 // is one.
-pub(crate) fn add_part(
+pub(crate) fn add_part<'a>(
     alloc: Global,
     language: Option<&Language>,
     rule_type: PluralRuleType,
-    locale: &str,
-    value: &Value,
-    found: &mut Found,
+    locale: LocalePlace<'a>,
+    value: &'a Value,
+    found: &mut Found<'a>,
 ) -> Result<(), AllocError>
-    ensures { OnOk result (HasGrownBy (IsFoundInPartBy (language_lent language.entry) (get source_name (view value.now)) rule_type locale.now
+    ensures { OnOk result (HasGrownBy (IsFoundInPartBy (language_lent language.entry) (get source_name (view value.now)) rule_type (locale_place_view locale.entry)
         (get (type_name rule_type) (view value.now))) found.old found.new) }
 {
     match value.get(type_name(rule_type)) {
@@ -59,86 +48,61 @@ pub(crate) fn add_part(
 
 // Adds what is found in the messages of a type, which should be an object, given what their sources
 // have.
-fn add_object(
+fn add_object<'a>(
     alloc: Global,
     language: Option<&Language>,
     arguments: Option<&Value>,
     rule_type: PluralRuleType,
-    locale: &str,
-    part: &Value,
-    found: &mut Found,
+    locale: LocalePlace<'a>,
+    part: &'a Value,
+    found: &mut Found<'a>,
 ) -> Result<(), AllocError>
-    ensures { OnOk result (HasGrownBy (IsFoundInObjectBy (language_lent language.entry) (value_lent arguments.entry) rule_type locale.now
+    ensures { OnOk result (HasGrownBy (IsFoundInObjectBy (language_lent language.entry) (value_lent arguments.entry) rule_type (locale_place_view locale.entry)
         (as_object (view part.now))) found.old found.new) }
 {
     match part.as_object() {
         Some(members) => add_messages(
             alloc, language, arguments, rule_type, locale, members, found,
         ),
-        None => found.add_fault(part_line(alloc, rule_type, locale)?),
+        None => found.add_fault(Place::Messages(locale, rule_type), Cause::NoObject),
     }
 }
 
-// Returns the line for a part that is no object.
-fn part_line(alloc: Global, rule_type: PluralRuleType, locale: &str) -> Result<String, AllocError>
-    ensures { IfOk result (λ line. string_bytes line ≡ place_line (part_place rule_type (name_text locale.now)) (codes "no object")) }
-{
-    let name = name_text(alloc, locale)?;
-    let place = part_place(alloc, rule_type, name.as_str())?;
-    place_line(alloc, place.as_str(), "no object")
-}
-
-// Returns the place of a part, given the printed name of the locale.
-fn part_place(alloc: Global, rule_type: PluralRuleType, locale: &str) -> Result<String, AllocError>
-    ensures { IfOk result (λ place. string_bytes place ≡ part_place rule_type locale.now) }
-{
-    let part = type_name(rule_type);
-    format!(in alloc; "{locale} {part}")
-}
-
 // Adds what is found in the messages of a type. Without messages no rules are needed.
-fn add_messages(
+fn add_messages<'a>(
     alloc: Global,
     language: Option<&Language>,
     arguments: Option<&Value>,
     rule_type: PluralRuleType,
-    locale: &str,
-    members: &Map<String, Value>,
-    found: &mut Found,
+    locale: LocalePlace<'a>,
+    members: &'a Map<String, Value>,
+    found: &mut Found<'a>,
 ) -> Result<(), AllocError>
-    ensures { OnOk result (HasGrownBy (IsFoundInMessagesBy (language_lent language.entry) (value_lent arguments.entry) rule_type locale.now
+    ensures { OnOk result (HasGrownBy (IsFoundInMessagesBy (language_lent language.entry) (value_lent arguments.entry) rule_type (locale_place_view locale.entry)
         (members_view members.now.entries)) found.old found.new) }
 {
     if members.is_empty() {
         return Ok(());
     }
-    let name = name_text(alloc, locale)?;
     add_under(
-        alloc,
-        language,
-        arguments,
-        rule_type,
-        name.as_str(),
-        members,
-        found,
+        alloc, language, arguments, rule_type, locale, members, found,
     )
 }
 
-// Adds what is found in messages of a language, if it is known, given the printed name of the
-// locale.
-fn add_under(
+// Adds what is found in messages of a language, if it is known.
+fn add_under<'a>(
     alloc: Global,
     language: Option<&Language>,
     arguments: Option<&Value>,
     rule_type: PluralRuleType,
-    locale: &str,
-    members: &Map<String, Value>,
-    found: &mut Found,
+    locale: LocalePlace<'a>,
+    members: &'a Map<String, Value>,
+    found: &mut Found<'a>,
 ) -> Result<(), AllocError>
-    ensures { OnOk result (HasGrownBy (IsFoundUnder (language_lent language.entry) (value_lent arguments.entry) rule_type locale.now
+    ensures { OnOk result (HasGrownBy (IsFoundUnder (language_lent language.entry) (value_lent arguments.entry) rule_type (locale_place_view locale.entry)
         (members_view members.now.entries)) found.old found.new) }
 {
-    add_no_rules(alloc, language, rule_type, locale, found)?;
+    add_no_rules(language, rule_type, locale, found)?;
     let check = MessageCheck {
         language,
         arguments,
@@ -148,29 +112,18 @@ fn add_under(
     add_members(alloc, &check, members, found)
 }
 
-// Adds a line if there is no language, since there are no rules.
-fn add_no_rules(
-    alloc: Global,
+// Adds a fault if there is no language, since there are no rules.
+fn add_no_rules<'a>(
     language: Option<&Language>,
     rule_type: PluralRuleType,
-    locale: &str,
-    found: &mut Found,
+    locale: LocalePlace<'a>,
+    found: &mut Found<'a>,
 ) -> Result<(), AllocError>
     ensures { OnOk result (found.new
-        ≡ together found.old (found_of_language rule_type locale.now (language_lent language.entry))) }
+        ≡ together found.old (found_of_language rule_type (locale_place_view locale.entry) (language_lent language.entry))) }
 {
     if language.is_some() {
         return Ok(());
     }
-    found.add_fault(place_line(alloc, locale, no_rules_text(rule_type))?)
-}
-
-// Returns what is told of missing rules.
-pub(crate) fn no_rules_text(rule_type: PluralRuleType) -> &'static str
-    ensures { result.now ≡ no_rules_text rule_type }
-{
-    match rule_type {
-        PluralRuleType::Cardinal => "no cardinal rules",
-        PluralRuleType::Ordinal => "no ordinal rules",
-    }
+    found.add_fault(Place::Locale(locale), Cause::NoRules(rule_type))
 }

@@ -1,31 +1,46 @@
 //! The text of a report.
 
-ghost use Rattle.std.specs.Prelude.{◌≡◌, IfOk, string_bytes};
-ghost use Rattle.message_report.specs.MessagesReportText.{message_counts_line, counts_found, messages_report_text};
+ghost use Rattle.std.specs.Prelude.{◌≡◌, ◌++◌, IfOk, OnOk, map, string_bytes};
+ghost use Rattle.std.specs.List.{flat_map};
+ghost use Rattle.message_report.specs.MessageFindings.{finding_view};
+ghost use Rattle.message_report.specs.MessagesReportText.{message_counts_line, messages_report_text, printed_finding};
 
 use crate::counts::Counts;
-use plural_documents::{Found, push_lines};
+use crate::finding::Finding;
+use crate::found::Found;
 use std::alloc::{AllocError, Global};
 
-// Returns the text of a report: its lines, and a line with the counts.
-pub(crate) fn report_text(alloc: Global, found: &Found) -> Result<String, AllocError>
+/// Returns the text of a report: a line for each finding, and one with the counts. It allocates; the
+/// only error is out of memory.
+pub fn report_text(alloc: Global, found: &Found<'_>) -> Result<String, AllocError>
     ensures { IfOk result (λ text. string_bytes text ≡ messages_report_text found.now) }
 {
     let mut text = String::new(alloc);
-    push_lines(&mut text, found.lines())?;
-    text.push_str(counts_line(alloc, counts_of(found))?.as_str())?;
+    push_lines(alloc, &mut text, found.findings())?;
+    text.push_str(counts_line(alloc, found.counts())?.as_str())?;
     Ok(text)
 }
 
-// Returns the counts of what was found.
-pub(crate) fn counts_of(found: &Found) -> Counts
-    ensures { result ≡ counts_found found.now }
+// Appends the line of each finding.
+fn push_lines(
+    alloc: Global,
+    text: &mut String,
+    findings: &[Finding<'_>],
+) -> Result<(), AllocError>
+    ensures { OnOk result (string_bytes text.new ≡ string_bytes text.old ++ flat_map printed_finding (map finding_view findings.now)) }
 {
-    Counts {
-        messages: found.checked(),
-        forms: found.cases(),
-        faults: found.faults(),
+    for finding in findings {
+        push_line(alloc, text, finding)?;
     }
+    Ok(())
+}
+
+// Appends the line of a finding, and a newline.
+fn push_line(alloc: Global, text: &mut String, finding: &Finding<'_>) -> Result<(), AllocError>
+    ensures { OnOk result (string_bytes text.new ≡ string_bytes text.old ++ printed_finding (finding_view finding.now)) }
+{
+    text.push_str(finding.line(alloc)?.as_str())?;
+    text.push_str("\n")
 }
 
 // Returns the line with the counts.

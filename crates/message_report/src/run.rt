@@ -1,13 +1,13 @@
 //! Writes the report of files of messages.
 
 ghost use Rattle.std.specs.Prelude.{◌≡◌, ◌≢◌, IfErr, IfOk, string_bytes};
-ghost use Rattle.message_report.specs.Inner.ToldLines.{IsMade};
+ghost use Rattle.message_report.specs.Inner.ToldFindings.{IsMade};
 ghost use Rattle.message_report.specs.MessagesRun.{IsReported};
 
 use crate::counts::Counts;
 use crate::error::ReportError;
 use crate::file::{MessageFile, found_in_files};
-use crate::report::{counts_of, report_text};
+use crate::report::report_text;
 use crate::source::RulesOfLocales;
 use plural_documents::write_output;
 use std::alloc::{AllocError, Global};
@@ -55,6 +55,6 @@ fn made_of<S: RulesOfLocales>(
     let text = report_text(alloc, &found)?;
     Ok(Made {
         text,
-        counts: counts_of(&found),
+        counts: found.counts(),
     })
 }

@@ -1,21 +1,16 @@
--- Not a definition of the subject: the fault of a form by what a message has under its key; and the
--- place of a message.
+-- Not a definition of the subject: the fault of a form by what a message has under its key.
 use Rattle.std.specs.Prelude.{◌≡◌, ℕ, Bool, List, Option, Some, None, is_some, option_map, if◌then◌else◌}
 use Rattle.std.specs.Borrow.{Bor}
 use Rattle.serde_json.specs.Data.{Data}
 use Rattle.serde_json.specs.View.{view}
 use Rattle.serde_json.specs.declared.Value.{Value}
-use Rattle.plural_documents.specs.Found.{Found, nothing_found}
 use Rattle.message_report.specs.FormFaults.{Language, form_value_fault, HasFaultUnder}
-use Rattle.message_report.specs.FoundInMessages.{one_form}
+use Rattle.message_report.specs.FoundInMessages.{Found, nothing_found, one_form}
 use Rattle.message_report.specs.Inner.LanguageViews.{language_view}
-use Rattle.message_report.specs.MessagesReport.{message_place}
-use Rattle.message_report.specs.PrintedKeys.{message_text}
 use Rattle.message_report.specs.declared.fault.FormFault.{FormFault}
 use Rattle.message_report.specs.declared.form.Form.{Form}
 use Rattle.message_report.specs.declared.form.Form.TheVariants.{ExplicitZero, ExplicitOne, Category}
 use Rattle.message_report.specs.declared.language.Language.{Language as CodeLanguage}
-use Rattle.message_report.specs.declared.message_place.MessagePlace.{MessagePlace}
 
 abbrev pub language_lent : Option (Bor CodeLanguage) → Option Language
 language_lent language = option_map (λ l. language_view l.now) language
@@ -34,6 +29,3 @@ HasFaultOf (Some language) own_zero own_one (Category category) value fault =
 -- a value that is there is counted
 abbrev pub value_count : Option Data → Found
 value_count value = if is_some value then one_form else nothing_found
-
-abbrev pub place_text : MessagePlace → List ℕ
-place_text place = message_place place.rule_type place.locale.now (message_text place.key.now)

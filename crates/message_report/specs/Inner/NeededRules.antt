@@ -1,18 +1,19 @@
 -- Not a definition of the subject: which rules a locale needs, and what is found in its parts under
 -- the languages of those.
-use Rattle.std.specs.Prelude.{◌≡◌, ◌||◌, ℕ, Bool, true, false, IsTrue, List, codes, Option, Some, None, is_some}
+use Rattle.std.specs.Prelude.{◌≡◌, ◌||◌, ℕ, Bool, true, false, IsTrue, List, Option, Some, None, is_some}
 use Rattle.serde_json.specs.Data.{Data, Members, no_members, member}
 use Rattle.serde_json.specs.Find.{as_object, get}
 use Rattle.icu_plurals.specs.declared.PluralRuleType.{PluralRuleType}
 use Rattle.icu_plurals.specs.declared.PluralRuleType.TheVariants.{Cardinal, Ordinal}
-use Rattle.plural_documents.specs.Found.{Found, IsFoundInMembers, nothing_found, one_fault, together}
-use Rattle.plural_documents.specs.PrintedKeys.{name_text}
+use Rattle.message_report.specs.FoundInMessages.{Found, IsFoundInMembers, fault_at, nothing_found, together}
+use Rattle.message_report.specs.MessagePlaces.{LocalePlace, at_messages, at_patterns, type_name}
 use Rattle.message_report.specs.FormFaults.{Language}
-use Rattle.message_report.specs.MessagesReport.{part_place, patterns_name, patterns_place, place_line, type_name}
+use Rattle.message_report.specs.MessagesReport.{patterns_name}
 use Rattle.message_report.specs.MessagesReport.{HasLanguage, IsFoundInPattern, IsFoundUnder}
 use Rattle.message_report.specs.PatternFaults.{TwoLanguages, language_of}
 use Rattle.message_report.specs.RulesSource.{RulesSource}
 use Rattle.message_report.specs.SourceArguments.{source_name}
+use Rattle.message_report.specs.declared.cause.Cause.TheVariants.{NoObject}
 
 -- an object with members
 abbrev pub is_filled : Option Members → Bool
@@ -37,23 +38,22 @@ pub record AreNeeded (source : RulesSource) (locale : List ℕ) (value : Data) (
 
 -- ---- Messages
 
-abbrev pub IsFoundInMessagesBy : Option Language → Option Data → PluralRuleType → List ℕ → Members → Found → Type 0
+abbrev pub IsFoundInMessagesBy : Option Language → Option Data → PluralRuleType → LocalePlace → Members → Found → Type 0
 IsFoundInMessagesBy language arguments type locale no_members found = found ≡ nothing_found
 IsFoundInMessagesBy language arguments type locale (member key value members) found =
-    IsFoundUnder language arguments type (name_text locale) (member key value members) found
+    IsFoundUnder language arguments type locale (member key value members) found
 
-abbrev pub IsFoundInObjectBy : Option Language → Option Data → PluralRuleType → List ℕ → Option Members → Found → Type 0
-IsFoundInObjectBy language arguments type locale None found =
-    found ≡ one_fault (place_line (part_place type (name_text locale)) (codes "no object"))
+abbrev pub IsFoundInObjectBy : Option Language → Option Data → PluralRuleType → LocalePlace → Option Members → Found → Type 0
+IsFoundInObjectBy language arguments type locale None found = found ≡ fault_at (at_messages locale type) NoObject
 IsFoundInObjectBy language arguments type locale (Some members) found =
     IsFoundInMessagesBy language arguments type locale members found
 
-abbrev pub IsFoundInPartBy : Option Language → Option Data → PluralRuleType → List ℕ → Option Data → Found → Type 0
+abbrev pub IsFoundInPartBy : Option Language → Option Data → PluralRuleType → LocalePlace → Option Data → Found → Type 0
 IsFoundInPartBy language arguments type locale None found = found ≡ nothing_found
 IsFoundInPartBy language arguments type locale (Some part) found =
     IsFoundInObjectBy language arguments type locale (as_object part) found
 
-abbrev pub IsFoundInBothBy : TwoLanguages → List ℕ → Data → Found → Type 0
+abbrev pub IsFoundInBothBy : TwoLanguages → LocalePlace → Data → Found → Type 0
 IsFoundInBothBy two locale value found =
     (cardinal ordinal : Found)
     × IsFoundInPartBy (language_of two Cardinal) (get source_name value) Cardinal locale (get (type_name Cardinal) value) cardinal
@@ -62,14 +62,13 @@ IsFoundInBothBy two locale value found =
 
 -- ---- Patterns
 
-abbrev pub IsFoundInPatternsBy : TwoLanguages → List ℕ → Members → Found → Type 0
-IsFoundInPatternsBy two locale members found = IsFoundInMembers (IsFoundInPattern two (name_text locale)) members found
+abbrev pub IsFoundInPatternsBy : TwoLanguages → LocalePlace → Members → Found → Type 0
+IsFoundInPatternsBy two locale members found = IsFoundInMembers (IsFoundInPattern two locale) members found
 
-abbrev pub IsFoundInPatternsObjectBy : TwoLanguages → List ℕ → Option Members → Found → Type 0
-IsFoundInPatternsObjectBy two locale None found =
-    found ≡ one_fault (place_line (patterns_place (name_text locale)) (codes "no object"))
+abbrev pub IsFoundInPatternsObjectBy : TwoLanguages → LocalePlace → Option Members → Found → Type 0
+IsFoundInPatternsObjectBy two locale None found = found ≡ fault_at (at_patterns locale) NoObject
 IsFoundInPatternsObjectBy two locale (Some members) found = IsFoundInPatternsBy two locale members found
 
-abbrev pub IsFoundInPatternsPartBy : TwoLanguages → List ℕ → Option Data → Found → Type 0
+abbrev pub IsFoundInPatternsPartBy : TwoLanguages → LocalePlace → Option Data → Found → Type 0
 IsFoundInPatternsPartBy two locale None found = found ≡ nothing_found
 IsFoundInPatternsPartBy two locale (Some part) found = IsFoundInPatternsObjectBy two locale (as_object part) found

@@ -1,15 +1,17 @@
 use Rattle.std.proofs.Common.{refl}
 use Rattle.serde_json.specs.View.{view}
-use Rattle.plural_documents.specs.Found.{together}
+use Rattle.message_report.specs.FoundInMessages.{together}
 use Rattle.message_report.specs.Inner.ArgumentViews.{languages_view}
+use Rattle.message_report.specs.MessagePlaces.{locale_place_view}
 use Rattle.message_report.proofs.EachFound.{on_ok}
+use Rattle.message_report.proofs.MessagesFound.{two_added}
 use Rattle.message_report.proofs.PartLemmas.{by_both, by_needed}
-use Rattle.plural_documents.proofs.FoundLemmas.{two_added}
 use Rattle.message_report.proofs.document.add_all.Goals as goal
 
 pub returns : goal.returns
 returns g c =
     let source = g.S.RulesOfLocales.source c.args.source.now in
+    let locale = locale_place_view c.args.locale in
     let value = view c.args.value.now in
     let two = languages_view c.needed-languages.result in
     let both = c.in_ok-add_parts.ensures in
@@ -19,8 +21,8 @@ returns g c =
       (
         both.0,
         added.0,
-        by_both source c.args.locale.now value two both.0 c.needed-languages.ensures both.1,
-        by_needed source c.args.locale.now value two added.0 c.needed-languages.ensures added.1,
+        by_both source locale value two both.0 c.needed-languages.ensures both.1,
+        by_needed source locale value two added.0 c.needed-languages.ensures added.1,
         refl,
       ),
       two_added c.args.found.now both.0 added.0 c.add_parts.new.found c.add_patterns.new.found both.2 added.2,

@@ -3,18 +3,19 @@ use Rattle.std.specs.Prelude.{Option}
 use Rattle.serde_json.specs.Find.{get}
 use Rattle.serde_json.specs.View.{view}
 use Rattle.icu_plurals.specs.declared.PluralRuleType.TheVariants.{Cardinal, Ordinal}
-use Rattle.plural_documents.specs.Found.{together}
+use Rattle.message_report.specs.FoundInMessages.{together}
 use Rattle.message_report.specs.FormFaults.{Language}
 use Rattle.message_report.specs.Inner.NeededRules.{IsFoundInPartBy}
-use Rattle.message_report.specs.MessagesReport.{type_name}
+use Rattle.message_report.specs.MessagePlaces.{locale_place_view, type_name}
 use Rattle.message_report.specs.SourceArguments.{source_name}
 use Rattle.message_report.proofs.EachFound.{on_ok}
-use Rattle.plural_documents.proofs.FoundLemmas.{two_added}
+use Rattle.message_report.proofs.MessagesFound.{two_added}
 use Rattle.message_report.proofs.document.add_parts.Goals as goal
 
 pub returns : goal.returns
 returns c =
     let value = view c.args.value.now in
+    let locale = locale_place_view c.args.locale in
     let cardinal = c.in_ok-add_part.ensures in
     on_ok c.add_part-2.result
     (λ added. (
@@ -22,9 +23,9 @@ returns c =
       (
         cardinal.0,
         added.0,
-        subst (λ (l : Option Language). IsFoundInPartBy l (get source_name value) Cardinal c.args.locale.now (get (type_name Cardinal) value) cardinal.0)
+        subst (λ (l : Option Language). IsFoundInPartBy l (get source_name value) Cardinal locale (get (type_name Cardinal) value) cardinal.0)
             c.of.ensures cardinal.1,
-        subst (λ (l : Option Language). IsFoundInPartBy l (get source_name value) Ordinal c.args.locale.now (get (type_name Ordinal) value) added.0)
+        subst (λ (l : Option Language). IsFoundInPartBy l (get source_name value) Ordinal locale (get (type_name Ordinal) value) added.0)
             c.of-2.ensures added.1,
         refl,
       ),

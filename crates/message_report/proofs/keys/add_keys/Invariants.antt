@@ -1,6 +1,7 @@
 use Rattle.std.proofs.Common.{◌≡◌, ◌+◌, length}
 use Rattle.serde_json.specs.View.{members_view}
-use Rattle.plural_documents.specs.Found.{together}
+use Rattle.message_report.specs.FoundInMessages.{together}
+use Rattle.message_report.specs.MessagePlaces.{message_place_view}
 use Rattle.message_report.specs.MessagesReport.{other_keys}
 use Rattle.message_report.proofs.ToldLemmas.{told_from}
 use Rattle.message_report.proofs.keys.add_keys.Given as goal
@@ -9,7 +10,8 @@ use Rattle.message_report.proofs.keys.add_keys.Given as goal
 -- far
 abbrev pub invariant-loop-key : goal.invariant-loop-key
 invariant-loop-key l =
+    let place = message_place_view l.place in
     let left = other_keys (members_view l.key-iterator) in
     let all = other_keys (members_view l.members.entries) in
-    (together l.found (told_from l.place l.count left) ≡ together l.initial.found (told_from l.place 0 all))
+    (together l.found (told_from place l.count left) ≡ together l.initial.found (told_from place 0 all))
     × (l.count + length left ≡ length all)

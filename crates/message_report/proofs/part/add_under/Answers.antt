@@ -1,14 +1,15 @@
 use Rattle.std.proofs.Common.{refl}
-use Rattle.plural_documents.specs.Found.{together}
+use Rattle.message_report.specs.FoundInMessages.{together}
 use Rattle.message_report.specs.Inner.FormSteps.{language_lent}
+use Rattle.message_report.specs.MessagePlaces.{locale_place_view}
 use Rattle.message_report.specs.MessagesReport.{found_of_language}
 use Rattle.message_report.proofs.EachFound.{on_ok}
-use Rattle.plural_documents.proofs.FoundLemmas.{two_added}
+use Rattle.message_report.proofs.MessagesFound.{two_added}
 use Rattle.message_report.proofs.part.add_under.Goals as goal
 
 pub returns : goal.returns
 returns c =
-    let rules = found_of_language c.args.rule_type c.args.locale.now (language_lent c.args.language) in
+    let rules = found_of_language c.args.rule_type (locale_place_view c.args.locale) (language_lent c.args.language) in
     on_ok c.add_members.result
     (λ added. (
       together rules added.0,

@@ -1,23 +1,23 @@
-use Rattle.std.proofs.Common.{ℕ, List, codes, ap, refl, subst, ◌∙◌}
+use Rattle.std.proofs.Common.{refl, subst}
 use Rattle.std.specs.Prelude.{Option}
 use Rattle.serde_json.specs.Data.{Members}
-use Rattle.plural_documents.specs.Found.{one_fault, together}
-use Rattle.message_report.specs.MessagesReport.{patterns_place, place_line}
+use Rattle.message_report.specs.FoundInMessages.{fault_at}
 use Rattle.message_report.specs.Inner.ArgumentViews.{languages_view}
 use Rattle.message_report.specs.Inner.NeededRules.{IsFoundInPatternsObjectBy}
-use Rattle.plural_documents.specs.PrintedKeys.{name_text}
+use Rattle.message_report.specs.MessagePlaces.{at_patterns, locale_place_view}
+use Rattle.message_report.specs.declared.cause.Cause.TheVariants.{NoObject}
 use Rattle.message_report.proofs.EachFound.{on_ok}
 use Rattle.message_report.proofs.patterns.add_object.Goals as goal
 
-pub returns-in_ok-patterns_line-in-None : goal.returns-in_ok-patterns_line-in-None
-returns-in_ok-patterns_line-in-None c =
-    let found = one_fault (place_line (patterns_place (name_text c.args.locale.now)) (codes "no object")) in
+pub returns-in-None : goal.returns-in-None
+returns-in-None c =
+    let two = languages_view c.args.languages.now in
+    let locale = locale_place_view c.args.locale in
+    let found = fault_at (at_patterns locale) NoObject in
     on_ok c.add_fault.result
     (λ added. (
       found,
-      subst (λ (members : Option Members).
-          IsFoundInPatternsObjectBy (languages_view c.args.languages.now) c.args.locale.now members found)
-          c.in-None.ensures refl,
-      added ∙ ap (λ (line : List ℕ). together c.args.found.now (one_fault line)) c.in_ok-patterns_line-in-None.ensures,
+      subst (λ (members : Option Members). IsFoundInPatternsObjectBy two locale members found) c.in-None.ensures refl,
+      added,
     ))
     c.add_fault.ensures

@@ -1,6 +1,6 @@
 use Rattle.std.proofs.Common.{refl}
-use Rattle.plural_documents.specs.Found.{nothing_found}
-use Rattle.plural_documents.proofs.FoundLemmas.{none_added}
+use Rattle.message_report.specs.FoundInMessages.{nothing_found}
+use Rattle.message_report.proofs.MessagesFound.{none_added}
 use Rattle.message_report.proofs.source_part.add_source_part.Goals as goal
 
 pub returns-in-None : goal.returns-in-None

@@ -2,21 +2,30 @@
 
 use crate::call::Call;
 use icu_plurals::JsonProvider;
-use message_report::MessageFile;
 use message_report::run::run;
+use message_report::{Finding, MessageFile, RulesOfLocales, found_in_files};
 use plural_fallback::FallbackProvider;
 
 /// Makes the call of a kind of this file. Returns whether there is such a kind.
 pub fn make(kind: &str, call: &mut Call) -> bool {
     match kind {
-        "messages_report" => messages_report(call),
+        "messages_report" => of_messages(call, Printed::Report),
+        "messages_findings" => of_messages(call, Printed::Findings),
         _ => return false,
     }
     true
 }
 
-// The lines of the report of a document of messages, under a document of rules.
-fn messages_report(call: &mut Call) {
+// What is printed of a document of messages.
+#[derive(Clone, Copy)]
+enum Printed {
+    Report,
+    Findings,
+}
+
+// Prints the lines of the report of a document of messages, or its findings, under a document of
+// rules.
+fn of_messages(call: &mut Call, printed: Printed) {
     let rules = call.value();
     let messages = call.value();
     let Ok(provider) = JsonProvider::from_value(call.alloc, &rules) else {
@@ -30,11 +39,43 @@ fn messages_report(call: &mut Call) {
         name: "m.json",
         document: &messages,
     };
+    match printed {
+        Printed::Report => print_report(call, &source, file),
+        Printed::Findings => print_findings(call, &source, file),
+    }
+}
+
+// Prints the lines of the report of a file.
+fn print_report<S: RulesOfLocales>(call: &mut Call, source: &S, file: MessageFile<'_>) {
     let mut report = Vec::new(call.alloc);
-    match run(call.alloc, &source, &[file], &mut report) {
+    match run(call.alloc, source, &[file], &mut report) {
         Ok(_) => print_lines(call, report.as_slice()),
         Err(error) => call.print_error(&error),
     }
+}
+
+// Prints the file, the place and the cause of each finding of a file.
+fn print_findings<S: RulesOfLocales>(call: &mut Call, source: &S, file: MessageFile<'_>) {
+    match found_in_files(call.alloc, source, &[file]) {
+        Ok(found) => {
+            for finding in found.findings() {
+                print_finding(call, finding);
+            }
+        }
+        Err(_) => call.out_of_memory(),
+    }
+}
+
+// Prints the file, the place and the cause of a finding.
+fn print_finding(call: &mut Call, finding: &Finding<'_>) {
+    let place = finding.place.text(call.alloc);
+    let place = call.made(place);
+    call.separate(" | ");
+    call.print(finding.place.file());
+    call.print("; ");
+    call.print(place.as_str());
+    call.print("; ");
+    call.print_value(&finding.cause);
 }
 
 // Prints the lines of a report.

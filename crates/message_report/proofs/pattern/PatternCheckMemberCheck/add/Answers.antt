@@ -1,8 +1,7 @@
 use Rattle.std.proofs.Common.{refl}
-use Rattle.message_report.specs.FoundInMessages.{one_message}
-use Rattle.plural_documents.specs.Found.{together}
+use Rattle.message_report.specs.FoundInMessages.{one_message, together}
 use Rattle.message_report.proofs.EachFound.{on_ok}
-use Rattle.plural_documents.proofs.FoundLemmas.{two_added}
+use Rattle.message_report.proofs.MessagesFound.{two_added}
 use Rattle.message_report.proofs.pattern.PatternCheckMemberCheck.add.Goals as goal
 
 pub returns : goal.returns
@@ -11,6 +10,6 @@ returns c =
     (λ added. (
       together one_message added.0,
       (added.0, added.1, refl),
-      two_added c.args.found.now one_message added.0 c.add_checked.new.self c.add_value.new.found c.in_ok-add_checked.ensures added.2,
+      two_added c.args.found.now one_message added.0 c.count_message.new.self c.add_value.new.found c.in_ok-count_message.ensures added.2,
     ))
     c.add_value.ensures

@@ -1,8 +1,9 @@
-use Rattle.std.proofs.Common.{◌≡◌, ℕ, List, true, ap, inl, inr, refl, ◌∙◌}
-use Rattle.plural_documents.specs.Found.{nothing_found, one_fault, together}
-use Rattle.plural_documents.proofs.FoundLemmas.{none_added}
-use Rattle.message_report.specs.MessagesReport.{source_line}
+use Rattle.std.proofs.Common.{◌≡◌, true, inl, inr, refl}
+use Rattle.message_report.specs.FoundInMessages.{fault_at, nothing_found}
+use Rattle.message_report.specs.MessagePlaces.{at_source, locale_place_view}
+use Rattle.message_report.specs.declared.cause.Cause.TheVariants.{NoTextList}
 use Rattle.message_report.proofs.EachFound.{on_ok}
+use Rattle.message_report.proofs.MessagesFound.{none_added}
 use Rattle.message_report.proofs.source_part.SourceCheckMemberCheck.add.Goals as goal
 
 pub returns-then-is_text_list : goal.returns-then-is_text_list
@@ -14,14 +15,13 @@ returns-then-is_text_list c = (
 
 pub returns : goal.returns
 returns c =
-    let line = source_line c.args.self.now.locale.now c.args.key.now in
     on_ok c.add_fault.result
     (λ added. (
-      one_fault line,
+      fault_at (at_source (locale_place_view c.args.self.now.locale) c.args.key.now) NoTextList,
       inr (
         (λ list. let yes : c.is_text_list.result ≡ true = c.is_text_list.ensures.1 list in cc c.if-is_text_list.false),
         refl,
       ),
-      added ∙ ap (λ (l : List ℕ). together c.args.found.now (one_fault l)) c.in_ok-source_line.ensures,
+      added,
     ))
     c.add_fault.ensures

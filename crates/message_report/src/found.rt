@@ -1,0 +1,162 @@
+//! What is found in files of messages.
+
+ghost use Rattle.std.specs.Prelude.{◌≡◌, ◌∷◌, [], ℕ, List, OnOk, map};
+ghost use Rattle.message_report.specs.FoundInMessages.{findings_alone, faults_alone, finding_at, nothing_found};
+ghost use Rattle.message_report.specs.FoundInMessages.{fault_at, one_form, one_message, rest_of, together, HasGrownBy, IsFoundInMembers};
+ghost use Rattle.message_report.specs.FoundInMessages as seen;
+ghost use Rattle.message_report.specs.MessageFindings.{finding_view};
+ghost use Rattle.message_report.specs.MessagePlaces.{place_view};
+ghost use Rattle.message_report.specs.MessagesReportText.{counts_found};
+ghost use Rattle.serde_json.specs.Data.{Data};
+ghost use Rattle.serde_json.specs.View.{members_view, view};
+
+use crate::cause::Cause;
+use crate::counts::Counts;
+use crate::finding::Finding;
+use crate::place::Place;
+use plural_documents::{MOST_TOLD, sum};
+use serde_json::{Map, Value};
+use std::alloc::{AllocError, Global};
+use std::marker::Model;
+
+/// What is found in files of messages: the findings in their order, and counts.
+///
+/// A fault has a finding, unless ten of its message or pattern come before it; one more finding then
+/// counts the others ([`Cause::More`]).
+#[derive(Debug, Drop)]
+pub struct Found<'a> {
+    findings: Vec<Finding<'a>>,
+    faults: u64,
+    messages: u64,
+    forms: u64,
+}
+
+impl<'a> Model for Found<'a> {
+    ghost use Rattle.std.specs.Prelude.{map};
+    ghost use Rattle.message_report.specs.FoundInMessages as seen;
+    ghost use Rattle.message_report.specs.MessageFindings.{finding_view};
+
+    ghost Value = { seen.Found };
+
+    ghost view = { λ found. record {
+      findings = map finding_view found.findings.items;
+      faults = found.faults;
+      messages = found.messages;
+      forms = found.forms;
+    } };
+}
+
+impl<'a> Found<'a> {
+    // Returns no findings, with counts of 0. It allocates nothing.
+    pub(crate) fn new(alloc: Global) -> Found<'a>
+        ensures { result ≡ nothing_found }
+    {
+        Found {
+            findings: Vec::new(alloc),
+            faults: 0,
+            messages: 0,
+            forms: 0,
+        }
+    }
+
+    /// Returns the findings, in their order.
+    pub fn findings(&self) -> &[Finding<'a>]
+        ensures { map finding_view result.now ≡ self.now.findings }
+    {
+        self.findings.as_slice()
+    }
+
+    /// Returns the counts.
+    pub fn counts(&self) -> Counts
+        ensures { result ≡ counts_found self.now }
+    {
+        Counts {
+            messages: self.messages,
+            forms: self.forms,
+            faults: self.faults,
+        }
+    }
+
+    // Adds a finding.
+    fn add_finding(&mut self, place: Place<'a>, cause: Cause) -> Result<(), AllocError>
+        ensures { OnOk result (self.new ≡ together self.old (findings_alone (finding_at (place_view place.entry) cause ∷ []))) }
+    {
+        self.findings.push(Finding { place, cause })?;
+        Ok(())
+    }
+
+    // Adds a fault and its finding. A count that is too large is reported as out of memory.
+    pub(crate) fn add_fault(&mut self, place: Place<'a>, cause: Cause) -> Result<(), AllocError>
+        ensures { OnOk result (self.new ≡ together self.old (fault_at (place_view place.entry) cause)) }
+    {
+        self.faults = sum(self.faults, 1)?;
+        self.add_finding(place, cause)
+    }
+
+    // Counts a fault. A count that is too large is reported as out of memory.
+    pub(crate) fn count_fault(&mut self) -> Result<(), AllocError>
+        ensures { OnOk result (self.new ≡ together self.old (faults_alone 1)) }
+    {
+        self.faults = sum(self.faults, 1)?;
+        Ok(())
+    }
+
+    // Adds the finding that counts what isn't told of a place, if there are more faults than are
+    // told.
+    pub(crate) fn add_rest(&mut self, place: Place<'a>, count: u64) -> Result<(), AllocError>
+        ensures { OnOk result (self.new ≡ together self.old (findings_alone (rest_of (place_view place.entry) count))) }
+    {
+        if count <= MOST_TOLD {
+            return Ok(());
+        }
+        self.add_finding(place, Cause::More(count - MOST_TOLD))
+    }
+
+    // Counts a message. A count that is too large is reported as out of memory.
+    pub(crate) fn count_message(&mut self) -> Result<(), AllocError>
+        ensures { OnOk result (self.new ≡ together self.old one_message) }
+    {
+        self.messages = sum(self.messages, 1)?;
+        Ok(())
+    }
+
+    // Counts a form. A count that is too large is reported as out of memory.
+    pub(crate) fn count_form(&mut self) -> Result<(), AllocError>
+        ensures { OnOk result (self.new ≡ together self.old one_form) }
+    {
+        self.forms = sum(self.forms, 1)?;
+        Ok(())
+    }
+}
+
+// A check of the members of an object.
+pub(crate) trait MemberCheck<'a> {
+    // What is found in a member.
+    ghost finds: { Self → List ℕ → Data → seen.Found → Type 0 };
+
+    // Adds what is found in a member.
+    fn add(
+        &self,
+        alloc: Global,
+        key: &'a str,
+        value: &'a Value,
+        found: &mut Found<'a>,
+    ) -> Result<(), AllocError>
+        ensures { OnOk result (HasGrownBy (finds self.now key.now (view value.now)) found.old found.new) };
+}
+
+// Adds what is found in each member, in the order of the keys' bytes.
+pub(crate) fn add_members<'a, C: MemberCheck<'a>>(
+    alloc: Global,
+    check: &C,
+    members: &'a Map<String, Value>,
+    found: &mut Found<'a>,
+) -> Result<(), AllocError>
+    ensures { OnOk result (HasGrownBy (IsFoundInMembers (C.finds check.now) (members_view members.now.entries))
+        found.old found.new) }
+{
+    for (key, value) in members.iter() {
+        check.add(alloc, key.as_str(), value, found)?;
+    }
+    Ok(())
+}
