@@ -1,0 +1,4 @@
+-- No definitions of the subject: views of private types, for private contracts.
+pub mod FrontViews
+pub mod LineViews
+pub mod QuotedViews
