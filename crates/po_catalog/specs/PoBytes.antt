@@ -1,7 +1,5 @@
 -- The bytes of a catalog: white space, words and flags.
 use Rattle.std.specs.Prelude.{ℕ, ◌==◌, ◌&&◌, ◌||◌, Bool, true, false, not, nat_le, List, [], ◌∷◌, if◌then◌else◌}
-use Rattle.po_catalog.specs.declared.bytes.Class.{Class}
-use Rattle.po_catalog.specs.declared.bytes.Class.TheVariants.{White, Word, BetweenFlags, Flag}
 
 abbrev pub is_within : ℕ → ℕ → ℕ → Bool
 is_within low high b = nat_le low b && nat_le b high
@@ -18,18 +16,23 @@ is_of_word b = is_within 97 122 b || b == 95 || is_within 65 90 b || is_within 4
 abbrev pub is_between_flags : ℕ → Bool
 is_between_flags b = b == 44 || is_white b
 
-abbrev pub is_in : Class → ℕ → Bool
-is_in White b = is_white b
-is_in Word b = is_of_word b
-is_in BetweenFlags b = is_between_flags b
-is_in Flag b = not (is_between_flags b)
+abbrev pub is_of_flag : ℕ → Bool
+is_of_flag b = not (is_between_flags b)
 
--- the longest front of the class
-abbrev pub run_front : Class → List ℕ → List ℕ
-run_front class [] = []
-run_front class (b ∷ s) = if is_in class b then b ∷ run_front class s else []
+-- the longest front of such bytes
+abbrev pub run_front : (ℕ → Bool) → List ℕ → List ℕ
+run_front is_such [] = []
+run_front is_such (b ∷ s) = if is_such b then b ∷ run_front is_such s else []
 
 -- what follows it
-abbrev pub behind_run : Class → List ℕ → List ℕ
-behind_run class [] = []
-behind_run class (b ∷ s) = if is_in class b then behind_run class s else b ∷ s
+abbrev pub behind_run : (ℕ → Bool) → List ℕ → List ℕ
+behind_run is_such [] = []
+behind_run is_such (b ∷ s) = if is_such b then behind_run is_such s else b ∷ s
+
+-- the first flag of a text, which is empty if there is none
+abbrev pub first_flag : List ℕ → List ℕ
+first_flag s = run_front is_of_flag (behind_run is_between_flags s)
+
+-- what follows it
+abbrev pub behind_flag : List ℕ → List ℕ
+behind_flag s = behind_run is_of_flag (behind_run is_between_flags s)

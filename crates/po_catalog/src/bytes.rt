@@ -2,7 +2,8 @@
 
 ghost use Rattle.std.specs.Prelude.{◌≡◌, ◌≤◌, ◌<◌, ◌+◌, length, IfSome};
 ghost use Rattle.po_catalog.specs.Lines.{cut_at};
-ghost use Rattle.po_catalog.specs.PoBytes.{behind_run, is_between_flags, is_in, is_of_word, is_white, run_front};
+ghost use Rattle.po_catalog.specs.PoBytes.{behind_flag, behind_run, first_flag, is_between_flags, is_of_word, is_white, run_front};
+ghost use Rattle.po_catalog.specs.Inner.ByteClasses.{is_in};
 ghost use Rattle.po_catalog.specs.Inner.LineViews.{cut_view};
 
 use std::str;
@@ -55,7 +56,7 @@ fn is_in(class: Class, byte: u8) -> bool
 // What follows the longest front of the class.
 #[inline(always)]
 pub(crate) fn behind_run(class: Class, text: &[u8]) -> &[u8]
-    ensures rest { result.now ≡ behind_run class text.now }
+    ensures rest { result.now ≡ behind_run (is_in class) text.now }
     ensures shorter { length result.now ≤ length text.now }
 {
     let mut rest = text;
@@ -71,8 +72,8 @@ pub(crate) fn behind_run(class: Class, text: &[u8]) -> &[u8]
 // The longest front of the class, and what follows it.
 #[inline(always)]
 pub(crate) fn split_run(class: Class, text: &[u8]) -> (&[u8], &[u8])
-    ensures front { result.0.now ≡ run_front class text.now }
-    ensures rest { result.1.now ≡ behind_run class text.now }
+    ensures front { result.0.now ≡ run_front (is_in class) text.now }
+    ensures rest { result.1.now ≡ behind_run (is_in class) text.now }
     ensures whole { length result.0.now + length result.1.now ≡ length text.now }
 {
     text.split_at(text.len() - behind_run(class, text).len())
@@ -81,17 +82,20 @@ pub(crate) fn split_run(class: Class, text: &[u8]) -> (&[u8], &[u8])
 // The bytes after the white space at the front.
 #[inline(always)]
 pub(crate) fn after_white(text: &[u8]) -> &[u8]
-    ensures rest { result.now ≡ behind_run Class.White text.now }
+    ensures rest { result.now ≡ behind_run is_white text.now }
     ensures shorter { length result.now ≤ length text.now }
 {
     behind_run(Class::White, text)
 }
 
-// The first flag of a text, and what follows it; an empty one if there is none.
-pub(crate) fn first_flag(text: &[u8]) -> (&[u8], &[u8])
-    ensures { length result.0.now + length result.1.now ≤ length text.now }
+/// The first flag of [`Entry::flags`](crate::Entry::flags), and what follows it; an empty one if
+/// there is none. Flags stand between commas and white space.
+pub fn first_flag(flags: &[u8]) -> (&[u8], &[u8])
+    ensures flag { result.0.now ≡ first_flag flags.now }
+    ensures rest { result.1.now ≡ behind_flag flags.now }
+    ensures shorter { length result.0.now + length result.1.now ≤ length flags.now }
 {
-    split_run(Class::Flag, behind_run(Class::BetweenFlags, text))
+    split_run(Class::Flag, behind_run(Class::BetweenFlags, flags))
 }
 
 // What stands before the first such byte, and what stands behind it, if there is one.

@@ -13,6 +13,7 @@ mod line;
 mod quoted;
 mod reader;
 
+pub use bytes::first_flag;
 pub use catalog::Catalog;
 pub use entry::{Entry, Text};
 pub use fault::{Cause, Fault, ReadError};

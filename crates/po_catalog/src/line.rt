@@ -20,7 +20,7 @@ pub struct Lines<'f> {
 }
 
 impl<'f> Model for Lines<'f> {
-    ghost use Rattle.std.specs.Prelude.{ℕ, List, ◌≤◌, ◌^◌};
+    ghost use Rattle.std.specs.Prelude.{ℕ, List, ◌+◌, ◌<◌, ◌^◌};
     ghost use Rattle.po_catalog.specs.Lines.{lines_left, numbered};
     ghost use Rattle.po_catalog.specs.Inner.LineViews.{bytes_left, left_view};
 
@@ -28,7 +28,7 @@ impl<'f> Model for Lines<'f> {
 
     ghost view = { λ lines. numbered lines.number (lines_left (left_view lines.rest)) };
 
-    ghost invariant = { λ lines. lines.number + bytes_left lines.rest ≤ 2 ^ 63 };
+    ghost invariant = { λ lines. lines.number + bytes_left lines.rest < 2 ^ 64 };
 }
 
 impl<'f> Lines<'f> {

@@ -1,7 +1,7 @@
 //! Catalogs of gettext.
 
 use crate::call::Call;
-use po_catalog::{Catalog, Entry, Fault, Lines, ReadError, Text, read_text};
+use po_catalog::{Catalog, Entry, Fault, Lines, ReadError, Text, first_flag, read_text};
 use std::fmt::Write;
 
 /// Makes the call of a kind of this file. Returns whether there is such a kind.
@@ -13,6 +13,7 @@ pub fn make(kind: &str, call: &mut Call) -> bool {
         "header_field" => header_field(call),
         "charset" => charset(call),
         "has_flag" => has_flag(call),
+        "first_flag" => front_flag(call),
         "quoted_text" => quoted_text(call),
         "quoted_bytes" => quoted_bytes(call),
         "file_lines" => file_lines(call),
@@ -160,15 +161,25 @@ fn has_flag(call: &mut Call) {
     }
 }
 
+// The first flag of a text, and what follows it.
+fn front_flag(call: &mut Call) {
+    let text = call.text();
+    let (flag, rest) = first_flag(text.as_bytes());
+    print_two(call, flag, rest);
+}
+
+// Prints bytes, and what follows them.
+fn print_two(call: &mut Call, bytes: &[u8], rest: &[u8]) {
+    print_value(call, Some(bytes));
+    call.print(" then ");
+    print_value(call, Some(rest));
+}
+
 // What a text says behind its first quotation mark, and what follows its last one.
 fn quoted_text(call: &mut Call) {
     let line = call.text();
     match read_text(call.alloc, line.as_bytes()) {
-        Ok((text, rest)) => {
-            print_value(call, Some(text.as_slice()));
-            call.print(" then ");
-            print_value(call, Some(rest));
-        }
+        Ok((text, rest)) => print_two(call, text.as_slice(), rest),
         Err(ReadError::Fault(cause)) => call.print_error(&cause),
         Err(ReadError::Memory) => call.out_of_memory(),
     }
