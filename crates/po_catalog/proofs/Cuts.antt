@@ -2,7 +2,7 @@
 use Rattle.std.proofs.Common.{◌≡◌, ◌+◌, ◌<◌, ◌≤◌, ◌==◌, ℕ, suc, List, [], ◌∷◌, ◌++◌, Bool, true, false, Option, Some, None, length, take, drop, get_or, refl, sym, ap, ◌∙◌, arith, append_assoc, add-one, ne_eqb, eq-eqb, if◌then◌else◌}
 use Rattle.std.proofs.lemmas.List.{append-nil, drop_all, take_all, take_more}
 use Rattle.std.proofs.Math.Seq.{drop-cons}
-use Rattle.po_catalog.specs.Lines.{begun_with, cut_at, first_begun_with, lines_left, lines_of, numbered}
+use Rattle.po_catalog.specs.FileLines.{begun_with, cut_at, first_begun_with, lines_left, lines_of, numbered}
 
 -- bytes before a text that is cut
 abbrev pub behind : List ℕ → List ℕ × Option (List ℕ) → List ℕ × Option (List ℕ)

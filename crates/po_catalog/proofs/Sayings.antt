@@ -93,3 +93,7 @@ ok_said line old text rest e h =
 pub err_said : (line old new : List ℕ) (error : ReadError) → GoesOn line old new (Err error) → ReadsExactly line (Err error)
 err_said line old new (Fault cause) h = exactly line (Err (Fault cause)) h
 err_said line old new Memory h = exactly line (Err Memory) tt
+
+-- want of memory says nothing of the line
+pub out_of_memory : (line old new : List ℕ) (error : ReadError) → error ≡ Memory → GoesOn line old new (Err error)
+out_of_memory line old new error e = subst (λ (x : ReadError). GoesOn line old new (Err x)) (sym e) tt

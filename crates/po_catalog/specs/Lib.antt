@@ -1,6 +1,6 @@
 -- gettext's catalogs
 pub mod Causes
-pub mod Lines
+pub mod FileLines
 pub mod PoBytes
 pub mod Quoted
 pub mod ReadTexts

@@ -1,7 +1,7 @@
 //! White space, words and flags, and what stands before a byte.
 
 ghost use Rattle.std.specs.Prelude.{◌≡◌, ◌≤◌, ◌<◌, ◌+◌, length, IfSome};
-ghost use Rattle.po_catalog.specs.Lines.{cut_at};
+ghost use Rattle.po_catalog.specs.FileLines.{cut_at};
 ghost use Rattle.po_catalog.specs.PoBytes.{behind_flag, behind_run, first_flag, is_between_flags, is_of_word, is_white, run_front};
 ghost use Rattle.po_catalog.specs.Inner.ByteClasses.{is_in};
 ghost use Rattle.po_catalog.specs.Inner.LineViews.{cut_view};

@@ -1,7 +1,7 @@
 //! The lines of a file.
 
 ghost use Rattle.std.specs.Prelude.{◌≡◌, ◌∷◌, [], MatchOption};
-ghost use Rattle.po_catalog.specs.Lines.{lines_of, numbered};
+ghost use Rattle.po_catalog.specs.FileLines.{lines_of, numbered};
 
 use crate::bytes::cut_at;
 use std::marker::Model;
@@ -14,6 +14,7 @@ pub struct Line<'f> {
 }
 
 /// The lines of a file, one after the other: what stands before, between and behind its newlines.
+#[derive(Drop)]
 pub struct Lines<'f> {
     rest: Option<&'f [u8]>,
     number: usize,
@@ -21,7 +22,7 @@ pub struct Lines<'f> {
 
 impl<'f> Model for Lines<'f> {
     ghost use Rattle.std.specs.Prelude.{ℕ, List, ◌+◌, ◌<◌, ◌^◌};
-    ghost use Rattle.po_catalog.specs.Lines.{lines_left, numbered};
+    ghost use Rattle.po_catalog.specs.FileLines.{lines_left, numbered};
     ghost use Rattle.po_catalog.specs.Inner.LineViews.{bytes_left, left_view};
 
     ghost Value = { List (ℕ × List ℕ) };

@@ -1,5 +1,5 @@
 use Rattle.std.proofs.Common.{◌≡◌}
-use Rattle.po_catalog.specs.Lines.{cut_at}
+use Rattle.po_catalog.specs.FileLines.{cut_at}
 use Rattle.po_catalog.proofs.Cuts.{cut_from}
 use Rattle.po_catalog.proofs.bytes.cut_at.Given as goal
 
