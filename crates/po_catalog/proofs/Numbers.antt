@@ -2,7 +2,7 @@
 use Rattle.std.proofs.Common.{◌≡◌, ◌⊎◌, ◌+◌, ◌==◌, ◌∙◌, ℕ, List, [], ◌∷◌, ◌++◌, Bool, true, false, All, Option, Some, None, refl, sym, ap, subst, arith, inl, inr, cases_Bool, if◌then◌else◌}
 use Rattle.std.proofs.lemmas.List.Elements.{All-nil, All-cons, All-tail, All-same, All-weaker}
 use Rattle.po_catalog.specs.FileLines.{begun_with, cut_at, first_begun_with, lines_left, lines_of, newlines, numbered, NumbersCountNewlines}
-use Rattle.po_catalog.proofs.Cuts.{first_line}
+use Rattle.po_catalog.proofs.Cuts.{at_once, first_line}
 
 -- a line of a text, with its number, where the first line has the number k
 abbrev pub IsNumberedFrom : ℕ → List ℕ → ℕ × List ℕ → Type 0
@@ -13,7 +13,7 @@ cut_front : (byte : ℕ) (s : List ℕ) → (after : List ℕ) × (s ≡ (cut_at
 cut_front byte [] = ([], refl)
 cut_front byte (b ∷ s) =
     let more : (after : List ℕ) × (s ≡ (cut_at byte s).0 ++ after) = cut_front byte s in
-    elim (b == byte) as (λ (t : Bool). (after : List ℕ) × (b ∷ s ≡ (if t then ([], Some s) else begun_with b (cut_at byte s)).0 ++ after)) [
+    elim (b == byte) as (λ (t : Bool). (after : List ℕ) × (b ∷ s ≡ (if t then at_once s else begun_with b (cut_at byte s)).0 ++ after)) [
       | true ↦ (b ∷ s, refl)
       | false ↦ (more.0, ap (λ (t : List ℕ). b ∷ t) more.1)
     ]

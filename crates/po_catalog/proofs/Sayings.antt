@@ -17,9 +17,9 @@ begun b (Err cause) = Err cause
 
 -- what is said behind a front
 abbrev pub Follows : Result Said Cause → Result (List ℕ × List ℕ) Cause → Type 0
-Follows (Ok (End rest)) outcome = Ok ([], rest) ≡ outcome
+Follows (Ok (End rest)) outcome = outcome ≡ Ok ([], rest)
 Follows (Ok (Byte b after)) outcome = (later : Result (List ℕ × List ℕ) Cause) × Says after later × (begun b later ≡ outcome)
-Follows (Err cause) outcome = Err cause ≡ outcome
+Follows (Err cause) outcome = outcome ≡ Err cause
 
 follows : {s : List ℕ} {outcome : Result (List ℕ × List ℕ) Cause} → Says s outcome → Follows (said_front s) outcome
 follows (ends s rest e) = subst (λ (f : Result Said Cause). Follows f (Ok ([], rest))) (sym e) refl
@@ -28,8 +28,8 @@ follows (fails s cause e) = subst (λ (f : Result Said Cause). Follows f (Err ca
 follows (fails_later s after b cause e h) = subst (λ (f : Result Said Cause). Follows f (Err cause)) (sym e) (Err cause, h, refl)
 
 pub one_saying : {s : List ℕ} {a b : Result (List ℕ × List ℕ) Cause} → Says s a → Says s b → a ≡ b
-one_saying {b = b} (ends s rest e) other = subst (λ (f : Result Said Cause). Follows f b) e (follows other)
-one_saying {b = b} (fails s cause e) other = subst (λ (f : Result Said Cause). Follows f b) e (follows other)
+one_saying {b = b} (ends s rest e) other = sym (subst (λ (f : Result Said Cause). Follows f b) e (follows other))
+one_saying {b = b} (fails s cause e) other = sym (subst (λ (f : Result Said Cause). Follows f b) e (follows other))
 one_saying {b = b} (goes s after text rest byte e h) other =
     let x : Follows (Ok (Byte byte after)) b = subst (λ (f : Result Said Cause). Follows f b) e (follows other) in
     ap (begun byte) (one_saying h x.1) ∙ x.2
@@ -63,18 +63,26 @@ whole_said line old new rest after h front =
     (h.0, h.1, subst (λ (t : List ℕ). Says line (Ok (t, after))) (append-nil h.0) (h.2 [] after (ends rest after front)))
 
 -- what is returned is all that could be
+abbrev said_of : Result (List ℕ × List ℕ) Cause → List ℕ × List ℕ
+said_of (Ok said) = said
+said_of (Err cause) = ([], [])
+
 returns_text : (line : List ℕ) (result : Result (Vec ℕ × Bor (List ℕ)) ReadError) (text rest : List ℕ)
     → IsSaid line result → Says line (Ok (text, rest)) → ReturnsText result text rest
 returns_text line (Ok said) text rest h k =
-    let e : Ok (said.0.items, said.1.now) ≡ Ok (text, rest) = one_saying h k in (cc, cc)
-returns_text line (Err (Fault cause)) text rest h k = let e : Err cause ≡ Ok (text, rest) = one_saying h k in cc
+    (ap (λ (r : Result (List ℕ × List ℕ) Cause). (said_of r).0) (one_saying h k), ap (λ (r : Result (List ℕ × List ℕ) Cause). (said_of r).1) (one_saying h k))
+returns_text line (Err (Fault cause)) text rest h k = let e : Err cause ≡ Ok (text, rest) = one_saying h k in absurd (cc)
 returns_text line (Err Memory) text rest h k = refl
+
+abbrev error_of : Result (List ℕ × List ℕ) Cause → ReadError
+error_of (Ok said) = Memory
+error_of (Err cause) = Fault cause
 
 returns_fault : (line : List ℕ) (result : Result (Vec ℕ × Bor (List ℕ)) ReadError) (cause : Cause)
     → IsSaid line result → Says line (Err cause) → (result ≡ Err (Fault cause)) ⊎ (result ≡ Err Memory)
 returns_fault line (Ok said) cause h k =
-    let e : Ok (said.0.items, said.1.now) ≡ Err cause = one_saying h k in cc
-returns_fault line (Err (Fault found)) cause h k = let e : Err found ≡ Err cause = one_saying h k in inl cc
+    let e : Ok (said.0.items, said.1.now) ≡ Err cause = one_saying h k in absurd (cc)
+returns_fault line (Err (Fault found)) cause h k = inl (ap (λ (r : Result (List ℕ × List ℕ) Cause). Err (error_of r)) (one_saying h k))
 returns_fault line (Err Memory) cause h k = inr refl
 
 pub exactly : (line : List ℕ) (result : Result (Vec ℕ × Bor (List ℕ)) ReadError) → IsSaid line result → ReadsExactly line result

@@ -8,7 +8,7 @@ use Rattle.po_catalog.specs.PoBytes.{is_within}
 -- ---- escapes
 
 -- the value of a hexadecimal digit, and 16 of what is none
-abbrev pub digit_value : ℕ → ℕ
+unfoldable pub digit_value : ℕ → ℕ
 digit_value b =
     if is_within 48 57 b then b - 48
     else (if is_within 97 102 b then b - 97 + 10
@@ -31,7 +31,7 @@ abbrev pub of_ascii : ℕ × List ℕ → Option (ℕ × List ℕ)
 of_ascii code = if nat_lt code.0 128 then Some code else None
 
 -- the byte of a letter or a mark behind a backslash
-abbrev pub byte_of_letter : ℕ → Option ℕ
+unfoldable pub byte_of_letter : ℕ → Option ℕ
 byte_of_letter b =
     if b == 110 then Some 10
     else (if b == 34 then Some 34

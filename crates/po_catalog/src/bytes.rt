@@ -99,6 +99,7 @@ pub fn first_flag(flags: &[u8]) -> (&[u8], &[u8])
 }
 
 // What stands before the first such byte, and what stands behind it, if there is one.
+#[tactic(auto, using(crate::proofs::Cuts::cut_later, crate::proofs::Cuts::cut_here, crate::proofs::Cuts::cut_nowhere))]
 pub(crate) fn cut_at(byte: u8, text: &[u8]) -> (&[u8], Option<&[u8]>)
     ensures cut { cut_view result ≡ cut_at byte text.now }
     ensures shorter { IfSome result.1 (λ rest. length rest.now < length text.now) }

@@ -44,6 +44,7 @@ impl<'f> Lines<'f> {
     }
 
     /// The next line; `None` behind the last one.
+    #[tactic(auto, using(crate::proofs::Cuts::next_line, crate::proofs::Cuts::next_fits))]
     pub fn next_line(&mut self) -> Option<Line<'f>>
         ensures { MatchOption result (self.old ≡ []) (λ line. self.old ≡ (line.number, line.bytes.now) ∷ self.new) }
     {
@@ -51,9 +52,7 @@ impl<'f> Lines<'f> {
         let (bytes, after) = cut_at(b'\n', rest);
         let number = self.number;
         self.rest = after;
-        if after.is_some() {
-            self.number = number + 1;
-        }
+        self.number = number + 1;
         Some(Line { number, bytes })
     }
 }

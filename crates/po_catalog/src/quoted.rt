@@ -17,8 +17,10 @@ enum Said<'l> {
 }
 
 // The value of a hexadecimal digit, 16 of what is none.
+#[tactic(auto, unfolding(crate::specs::Quoted::digit_value))]
 fn digit_value(byte: u8) -> u8
-    ensures { result ≡ digit_value byte }
+    ensures value { result ≡ digit_value byte }
+    ensures within { result ≤ 16 }
 {
     if b'0' <= byte && byte <= b'9' {
         byte - b'0'
@@ -33,6 +35,7 @@ fn digit_value(byte: u8) -> u8
 
 // The code of hexadecimal digits whose first ones have this code, if it is one of ASCII, and what
 // follows them.
+#[tactic(auto, using(crate::proofs::Codes::hexadecimal_digit, crate::proofs::Codes::hexadecimal_end, crate::proofs::Codes::of_ascii_code, crate::proofs::Codes::too_large))]
 fn hexadecimal_front(first: u8, text: &[u8]) -> Option<(u8, &[u8])>
     requires { first < 128 }
     ensures code { code_view result ≡ of_ascii (hexadecimal first text.now) }
@@ -55,6 +58,7 @@ fn hexadecimal_front(first: u8, text: &[u8]) -> Option<(u8, &[u8])>
 }
 
 // The code of one to three octal digits, if it is one of ASCII, and what follows them.
+#[tactic(auto, using(crate::proofs::Codes::octal_digit, crate::proofs::Codes::octal_end, crate::proofs::Codes::of_ascii_code, crate::proofs::Codes::of_ascii_none))]
 fn octal_front(first: u8, text: &[u8]) -> Option<(u8, &[u8])>
     requires { first < 8 }
     ensures code { code_view result ≡ of_ascii (octal 2 first text.now) }
@@ -83,6 +87,7 @@ fn octal_front(first: u8, text: &[u8]) -> Option<(u8, &[u8])>
 }
 
 // The byte of a letter or a mark behind a backslash.
+#[tactic(auto, unfolding(crate::specs::Quoted::byte_of_letter))]
 fn byte_of_letter(letter: u8) -> Option<u8>
     ensures { result ≡ byte_of_letter letter }
 {
@@ -164,6 +169,7 @@ fn said_front(text: &[u8]) -> Said<'_>
 }
 
 // Adds a text from behind its first mark on. Returns what follows the last one.
+#[tactic(auto, using(crate::proofs::Sayings::out_of_memory))]
 pub(crate) fn push_text<'l>(line: &'l [u8], text: &mut Vec<u8>) -> Result<&'l [u8], ReadError>
     ensures said { GoesOn line.now text.old.items text.new.items result }
     ensures shorter { IfOk result (λ rest. length rest.now < length line.now) }
@@ -183,6 +189,7 @@ pub(crate) fn push_text<'l>(line: &'l [u8], text: &mut Vec<u8>) -> Result<&'l [u
 
 /// Reads a text from behind its first quotation mark on, as gettext's escapes say it, up to the next
 /// mark. Returns its bytes, for which memory is taken, and what follows the mark.
+#[tactic(auto, using(crate::proofs::Sayings::ok_said, crate::proofs::Sayings::err_said))]
 pub fn read_text(alloc: Global, line: &[u8]) -> Result<(Vec<u8>, &[u8]), ReadError>
     ensures { ReadsExactly line.now result }
 {

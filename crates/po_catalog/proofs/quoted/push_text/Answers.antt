@@ -1,8 +1,15 @@
 use Rattle.std.proofs.Common.{◌≡◌, ◌∙◌, ◌++◌, ℕ, List, [], ◌∷◌, Ok, Err, refl, sym, ap, subst, append_assoc, arith}
 use Rattle.po_catalog.specs.declared.fault.Cause.{Cause}
 use Rattle.po_catalog.specs.Quoted.{Says, ends, goes, fails, fails_later}
-use Rattle.po_catalog.proofs.Sayings.{more_said, whole_said}
+use Rattle.po_catalog.proofs.Sayings.{nothing_said, more_said, whole_said}
 use Rattle.po_catalog.proofs.quoted.push_text.Goals as goal
+
+pub said-init : goal.said-init
+said-init c = record {
+  done = nothing_said c.args.line.now c.args.text.now.items;
+  fails = λ cause h. h;
+  shorter = omega arith;
+}
 
 pub returns-in-End-clause-said : goal.returns-in-End-clause-said
 returns-in-End-clause-said c =
