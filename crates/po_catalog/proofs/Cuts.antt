@@ -4,7 +4,7 @@ use Rattle.std.specs.Borrow.{Bor}
 use Rattle.std.proofs.lemmas.List.{append-nil, drop_all, take_all, take_more}
 use Rattle.std.proofs.Math.Seq.{drop-cons}
 use Rattle.po_catalog.specs.FileLines.{begun_with, cut_at, first_begun_with, lines_left, lines_of, numbered}
-use Rattle.po_catalog.specs.Inner.LineViews.{bytes_left}
+use Rattle.po_catalog.specs.Inner.LineViews.{bytes_left, cut_view, left_view}
 
 -- bytes before a text that is cut
 abbrev pub behind : List ℕ → List ℕ × Option (List ℕ) → List ℕ × Option (List ℕ)
@@ -62,9 +62,14 @@ first_line (b ∷ s) =
     ]
 
 -- the first line is taken, and the next one has the next number
-pub next_line : (n : ℕ) (s line : List ℕ) (left : Option (List ℕ)) → (line, left) ≡ cut_at 10 s → numbered n (lines_of s) ≡ (n, line) ∷ numbered (n + 1) (lines_left left)
-next_line n s line left e =
-    ap (numbered n) (first_line s) ∙ ap (λ (cut : List ℕ × Option (List ℕ)). (n, cut.0) ∷ numbered (n + 1) (lines_left cut.1)) (sym e)
+pub next_view : (now : List (ℕ × List ℕ)) (n : ℕ) (left : Option (Bor (List ℕ))) (rest : Bor (List ℕ)) (cut : Bor (List ℕ) × Option (Bor (List ℕ)))
+    → now ≡ numbered n (lines_left (left_view left)) → left ≡ Some rest → cut_view cut ≡ cut_at 10 rest.now
+    → now ≡ (n, cut.0.now) ∷ numbered (n + 1) (lines_left (left_view cut.1))
+next_view now n left rest cut view is e =
+    view
+    ∙ (ap (λ (r : Option (Bor (List ℕ))). numbered n (lines_left (left_view r))) is
+    ∙ (ap (numbered n) (first_line rest.now)
+    ∙ ap (λ (x : List ℕ × Option (List ℕ)). (n, x.0) ∷ numbered (n + 1) (lines_left x.1)) (sym e)))
 
 -- the number of the next line fits where that of the line before it did
 pub next_fits : (n limit : ℕ) (rest : List ℕ) (after : Option (Bor (List ℕ))) → IfSome after (λ s. length s.now < length rest)

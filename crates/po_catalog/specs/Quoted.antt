@@ -1,6 +1,6 @@
 -- What a text in quotation marks says: the bytes behind its first mark, one after the other, with
 -- gettext's escapes, up to the next mark.
-use Rattle.std.specs.Prelude.{◌≡◌, ℕ, ◌+◌, ◌-◌, ◌*◌, ◌==◌, nat_lt, List, [], ◌∷◌, Option, Some, None, Result, Ok, Err, if◌then◌else◌}
+use Rattle.std.specs.Prelude.{◌≡◌, ℕ, ◌+◌, ◌-◌, ◌*◌, ◌==◌, zero, suc, nat_lt, List, [], ◌∷◌, Option, Some, None, Result, Ok, Err, if◌then◌else◌}
 use Rattle.po_catalog.specs.declared.fault.Cause.{Cause}
 use Rattle.po_catalog.specs.declared.fault.Cause.TheVariants.{UnclosedText, UnknownEscape}
 use Rattle.po_catalog.specs.PoBytes.{is_within}

@@ -44,7 +44,7 @@ impl<'f> Lines<'f> {
     }
 
     /// The next line; `None` behind the last one.
-    #[tactic(auto, using(crate::proofs::Cuts::next_line, crate::proofs::Cuts::next_fits))]
+    #[tactic(auto, using(crate::proofs::Cuts::next_fits))]
     pub fn next_line(&mut self) -> Option<Line<'f>>
         ensures { MatchOption result (self.old ≡ []) (λ line. self.old ≡ (line.number, line.bytes.now) ∷ self.new) }
     {
