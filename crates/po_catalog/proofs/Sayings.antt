@@ -63,6 +63,10 @@ whole_said line old new rest after h front =
     (h.0, h.1, subst (λ (t : List ℕ). Says line (Ok (t, after))) (append-nil h.0) (h.2 [] after (ends rest after front)))
 
 -- what is returned is all that could be
+abbrev IsText : Result (List ℕ × List ℕ) Cause → Type 0
+IsText (Ok said) = Unit {0}
+IsText (Err cause) = ⊥
+
 abbrev said_of : Result (List ℕ × List ℕ) Cause → List ℕ × List ℕ
 said_of (Ok said) = said
 said_of (Err cause) = ([], [])
@@ -71,7 +75,7 @@ returns_text : (line : List ℕ) (result : Result (Vec ℕ × Bor (List ℕ)) Re
     → IsSaid line result → Says line (Ok (text, rest)) → ReturnsText result text rest
 returns_text line (Ok said) text rest h k =
     (ap (λ (r : Result (List ℕ × List ℕ) Cause). (said_of r).0) (one_saying h k), ap (λ (r : Result (List ℕ × List ℕ) Cause). (said_of r).1) (one_saying h k))
-returns_text line (Err (Fault cause)) text rest h k = let e : Err cause ≡ Ok (text, rest) = one_saying h k in absurd (cc)
+returns_text line (Err (Fault cause)) text rest h k = absurd (subst (λ (r : Result (List ℕ × List ℕ) Cause). IsText r) (sym (one_saying h k)) tt)
 returns_text line (Err Memory) text rest h k = refl
 
 abbrev error_of : Result (List ℕ × List ℕ) Cause → ReadError
@@ -80,8 +84,7 @@ error_of (Err cause) = Fault cause
 
 returns_fault : (line : List ℕ) (result : Result (Vec ℕ × Bor (List ℕ)) ReadError) (cause : Cause)
     → IsSaid line result → Says line (Err cause) → (result ≡ Err (Fault cause)) ⊎ (result ≡ Err Memory)
-returns_fault line (Ok said) cause h k =
-    let e : Ok (said.0.items, said.1.now) ≡ Err cause = one_saying h k in absurd (cc)
+returns_fault line (Ok said) cause h k = absurd (subst (λ (r : Result (List ℕ × List ℕ) Cause). IsText r) (one_saying h k) tt)
 returns_fault line (Err (Fault found)) cause h k = inl (ap (λ (r : Result (List ℕ × List ℕ) Cause). Err (error_of r)) (one_saying h k))
 returns_fault line (Err Memory) cause h k = inr refl
 

@@ -20,7 +20,7 @@ returns-in-Bad-clause-said c = c.said.invariant.fails c.in-Bad.cause (fails c.sa
 
 pub said-preserved : goal.said-preserved
 said-preserved c = record {
-  done = more_said c.args.line.now _ _ _ c.in-Byte.byte c.said.rest.now c.in-Byte.after.now c.said.invariant.done c.in_ok-push.ensures.items (sym c.in-Byte.ensures.front);
+  done = more_said c.args.line.now _ _ _ c.in-Byte.byte c.said.rest.now c.in-Byte.after.now c.said.invariant.done c.in_ok-push-in-Byte.ensures.items (sym c.in-Byte.ensures.front);
   fails = λ cause h. c.said.invariant.fails cause (fails_later c.said.rest.now c.in-Byte.after.now c.in-Byte.byte cause (sym c.in-Byte.ensures.front) h);
   shorter = omega (arith, c.in-Byte.ensures.shorter, c.said.invariant.shorter);
 }
