@@ -1,5 +1,5 @@
 -- Codes of characters, by their digits.
-use Rattle.std.proofs.Common.{◌≡◌, ◌+◌, ◌*◌, ◌<◌, ◌≤◌, ℕ, suc, List, [], ◌∷◌, Bool, true, false, Option, Some, None, nat_lt, ap, ◌∙◌, arith, lt-ltb, le-ltb, if◌then◌else◌}
+use Rattle.std.proofs.Common.{◌≡◌, ◌+◌, ◌*◌, ◌<◌, ◌≤◌, ℕ, suc, List, [], ◌∷◌, Bool, true, false, Some, None, nat_lt, ap, ◌∙◌, arith, lt-ltb, le-ltb, if◌then◌else◌}
 use Rattle.po_catalog.specs.Quoted.{digit_value, hexadecimal, octal, of_ascii}
 
 pub hexadecimal_digit : (n b : ℕ) (s : List ℕ) → digit_value b < 16 → hexadecimal n (b ∷ s) ≡ hexadecimal (n * 16 + digit_value b) s

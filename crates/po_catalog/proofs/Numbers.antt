@@ -1,5 +1,5 @@
 -- The number of a line is one more than the newlines before it.
-use Rattle.std.proofs.Common.{◌≡◌, ◌⊎◌, ◌+◌, ◌==◌, ◌∙◌, ℕ, List, [], ◌∷◌, ◌++◌, Bool, true, false, All, Option, Some, None, refl, sym, ap, subst, arith, inl, inr, if◌then◌else◌}
+use Rattle.std.proofs.Common.{◌≡◌, ◌+◌, ◌==◌, ◌∙◌, ℕ, List, [], ◌∷◌, ◌++◌, Bool, true, false, All, refl, sym, ap, arith, inl, inr, if◌then◌else◌}
 use Rattle.std.proofs.lemmas.Bool.{cases_Bool}
 use Rattle.std.proofs.lemmas.List.Elements.{All-nil, All-cons, All-tail, All-same, All-weaker}
 use Rattle.po_catalog.specs.FileLines.{begun_with, cut_at, first_begun_with, lines_left, lines_of, newlines, numbered, NumbersCountNewlines}

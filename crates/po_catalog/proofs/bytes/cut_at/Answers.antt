@@ -1,5 +1,5 @@
 use Rattle.std.proofs.Common.{◌∙◌, arith}
-use Rattle.po_catalog.proofs.Cuts.{cut_later, cut_here, cut_nowhere}
+use Rattle.po_catalog.proofs.Cuts.{cut_later}
 use Rattle.po_catalog.proofs.bytes.cut_at.Goals as goal
 
 pub loop-place-preserved : goal.loop-place-preserved

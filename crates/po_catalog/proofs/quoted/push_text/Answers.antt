@@ -1,6 +1,5 @@
-use Rattle.std.proofs.Common.{◌≡◌, ◌∙◌, ◌++◌, ℕ, List, [], ◌∷◌, Ok, Err, refl, sym, ap, subst, append_assoc, arith}
-use Rattle.po_catalog.specs.declared.fault.Cause.{Cause}
-use Rattle.po_catalog.specs.Quoted.{Says, ends, goes, fails, fails_later}
+use Rattle.std.proofs.Common.{sym, arith}
+use Rattle.po_catalog.specs.Quoted.{fails, fails_later}
 use Rattle.po_catalog.proofs.Sayings.{nothing_said, more_said, whole_said}
 use Rattle.po_catalog.proofs.quoted.push_text.Goals as goal
 
