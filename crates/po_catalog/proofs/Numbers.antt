@@ -47,11 +47,11 @@ at_byte b k s e h =
     let later = lines_left (cut_at 10 s).1 in
     let front : (after : List ℕ) × (s ≡ line ++ after) = cut_front 10 s in
     let whole : lines_of (b ∷ s) ≡ (b ∷ line) ∷ later
-        = ap (λ (t : Bool). if t then [] ∷ lines_of s else first_begun_with b (lines_of s)) e ∙ ap (first_begun_with b) (first_line s) in
+    = ap (λ (t : Bool). if t then [] ∷ lines_of s else first_begun_with b (lines_of s)) e ∙ ap (first_begun_with b) (first_line s) in
     let first : IsNumberedFrom k (b ∷ s) (k, b ∷ line) = ([], front.0, ap (λ (t : List ℕ). b ∷ t) front.1, omega arith) in
     let rest : All (IsNumberedFrom k s) (numbered (k + 1) later)
-        = All-tail (IsNumberedFrom k s) (k, line) (numbered (k + 1) later)
-          (All-same (IsNumberedFrom k s) ((k, line) ∷ numbered (k + 1) later) (numbered k (lines_of s)) (sym (ap (numbered k) (first_line s))) h) in
+    = All-tail (IsNumberedFrom k s) (k, line) (numbered (k + 1) later)
+    (All-same (IsNumberedFrom k s) ((k, line) ∷ numbered (k + 1) later) (numbered k (lines_of s)) (sym (ap (numbered k) (first_line s))) h) in
     All-same (IsNumberedFrom k (b ∷ s)) (numbered k (lines_of (b ∷ s))) ((k, b ∷ line) ∷ numbered (k + 1) later) (ap (numbered k) whole)
     (All-cons (IsNumberedFrom k (b ∷ s)) (k, b ∷ line) (numbered (k + 1) later) first
     (All-weaker (IsNumberedFrom k s) (IsNumberedFrom k (b ∷ s)) (λ x. behind_byte b k s x e) (numbered (k + 1) later) rest))

@@ -50,11 +50,12 @@ nothing_said line old = ([], sym (append-nil old), λ more after h. h)
 pub more_said : (line old new next : List ℕ) (b : ℕ) (rest after : List ℕ) → IsSaidBefore line old new rest → next ≡ new ++ b ∷ []
     → said_front rest ≡ Ok (Byte b after) → IsSaidBefore line old next after
 more_said line old new next b rest after h pushed front =
-    let said = h.0 in
-    (said ++ b ∷ [],
-     pushed ∙ (ap (λ (t : List ℕ). t ++ b ∷ []) h.1 ∙ append_assoc old said (b ∷ [])),
-     λ more behind k. subst (λ (t : List ℕ). Says line (Ok (t, behind))) (sym (append_assoc said (b ∷ []) more))
-         (h.2 (b ∷ more) behind (goes rest after more behind b front k)))
+    let said = h.0 in (
+      said ++ b ∷ [],
+      pushed ∙ (ap (λ (t : List ℕ). t ++ b ∷ []) h.1 ∙ append_assoc old said (b ∷ [])),
+      λ more behind k. subst (λ (t : List ℕ). Says line (Ok (t, behind))) (sym (append_assoc said (b ∷ []) more))
+          (h.2 (b ∷ more) behind (goes rest after more behind b front k)),
+    )
 
 -- the text ends
 pub whole_said : (line old new rest after : List ℕ) → IsSaidBefore line old new rest → said_front rest ≡ Ok (End after)

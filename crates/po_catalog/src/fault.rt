@@ -46,16 +46,20 @@ impl fmt::Display for Cause {
         f.write_str(match self {
             Cause::NotUtf8 => "it has bytes that are no UTF-8: save the file as UTF-8",
             Cause::UnclosedText => "a text isn't closed: end it with a quotation mark in its line",
-            Cause::UnknownEscape => "a backslash begins no known escape: write two for the character itself",
+            Cause::UnknownEscape =>
+                "a backslash begins no known escape: write two for the character itself",
             Cause::UnknownWord => "it is no line of a .po file: correct it",
             Cause::BadIndex => "msgstr[ has no index below 100 and ]: write msgstr[0] and so on",
             Cause::StrayText => "a text has no keyword before it: write msgid or msgstr",
             Cause::NoText => "a keyword has no text behind it: write one in quotation marks",
             Cause::StrayPluralId => "msgid_plural doesn't stand behind its msgid: move it there",
             Cause::FormWithoutId => "msgstr has no msgid before it: write one",
-            Cause::FormWithoutIndex => "msgstr has no index beside msgid_plural: write msgstr[0] and so on",
-            Cause::IndexWithoutPluralId => "msgstr has an index, and no msgid_plural is before it: write one, or msgstr alone",
-            Cause::WrongIndex => "the index isn't the next one: number the forms from 0 on, each once",
+            Cause::FormWithoutIndex =>
+                "msgstr has no index beside msgid_plural: write msgstr[0] and so on",
+            Cause::IndexWithoutPluralId =>
+                "msgstr has an index, and no msgid_plural is before it: write one, or msgstr alone",
+            Cause::WrongIndex =>
+                "the index isn't the next one: number the forms from 0 on, each once",
             Cause::SecondForm => "msgstr stands twice: remove one of them",
             Cause::NoForm => "the message has no msgstr: write one",
         })
