@@ -1,8 +1,9 @@
 //! The kinds of the upper crates: `icu_plurals`, `plural_message`, `plural_checker`,
 //! `plural_fallback`, `message_report`, `form_commands`, `example_callers`, `message_pattern`,
-//! `message_format` and `plural_exports`.
+//! `message_format`, `plural_exports` and `po_catalog`.
 
 mod callers;
+mod catalogs;
 mod checker;
 mod element_values;
 mod elements;
@@ -38,4 +39,5 @@ pub fn make(kind: &str, call: &mut Call) -> bool {
         || pattern_texts::make(kind, call)
         || exports::make(kind, call)
         || exported_bytes::make(kind, call)
+        || catalogs::make(kind, call)
 }

@@ -1,0 +1,5 @@
+pub mod Cuts
+pub mod Runs
+pub mod Codes
+pub mod Sayings
+pub mod Numbers

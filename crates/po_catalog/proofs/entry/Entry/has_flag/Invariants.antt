@@ -1,0 +1,5 @@
+use Rattle.std.proofs.Common.{length}
+use Rattle.po_catalog.proofs.entry.Entry.has_flag.Given as goal
+
+abbrev pub decreases-flags : goal.decreases-flags
+decreases-flags l = length l.rest

@@ -1,0 +1,5 @@
+-- No definitions of the subject: views of private types, for private contracts.
+pub mod ByteClasses
+pub mod FrontViews
+pub mod LineViews
+pub mod QuotedViews

@@ -1,0 +1,8 @@
+-- gettext's catalogs
+pub mod Causes
+pub mod FileLines
+pub mod PoBytes
+pub mod Quoted
+pub mod ReadTexts
+-- not definitions of the subject
+pub mod Inner

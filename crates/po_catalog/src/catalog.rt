@@ -1,0 +1,60 @@
+//! A catalog, read from the bytes of a file.
+
+use crate::entry::{Entry, Text};
+use crate::fault::Fault;
+use crate::header::{charset_in, field_in};
+use crate::line::Lines;
+use crate::reader::Reader;
+use std::alloc::{AllocError, Global};
+
+/// A catalog: its messages, and what is wrong in it.
+#[derive(Debug, Drop)]
+pub struct Catalog {
+    /// The messages, in their order; the header is one of them.
+    pub entries: Vec<Entry>,
+    /// What is wrong, in the order in which it is met.
+    pub faults: Vec<Fault>,
+}
+
+impl Catalog {
+    /// Reads a catalog. Any bytes are read: what is wrong is a fault with its line, and everything
+    /// else is read. Memory is taken for the texts; the error is that it ran out.
+    pub fn read(alloc: Global, bytes: &[u8]) -> Result<Catalog, AllocError> {
+        let mut reader = Reader::new(alloc);
+        let mut lines = Lines::of(without_mark(bytes));
+        'lines: while let Some(line) = lines.next_line() {
+            reader.read_line(line.number, line.bytes)?;
+        }
+        reader.catalog()
+    }
+
+    /// The header: the first message with an empty id, no context, and a text.
+    pub fn header(&self) -> Option<&Entry> {
+        for entry in &self.entries {
+            if entry.is_header() {
+                return Some(entry);
+            }
+        }
+        None
+    }
+
+    /// The value of a field of the header, without white space around it. The name is compared
+    /// without regard to case; the first field of this name that has a value counts.
+    pub fn header_field(&self, name: &[u8]) -> Option<&[u8]> {
+        let text: &Text = self.header()?.forms.first()?;
+        field_in(&text.bytes, name)
+    }
+
+    /// The charset that the header's `Content-Type` names, if it does.
+    pub fn charset(&self) -> Option<&[u8]> {
+        charset_in(self.header_field(b"Content-Type")?)
+    }
+}
+
+// The bytes behind the mark of UTF-8 at their front, if it is there.
+fn without_mark(bytes: &[u8]) -> &[u8] {
+    match bytes {
+        [0xef, 0xbb, 0xbf, rest @ ..] => rest,
+        _ => bytes,
+    }
+}

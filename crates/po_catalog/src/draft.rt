@@ -1,0 +1,108 @@
+//! The message that is being read.
+
+use crate::entry::{Entry, Text};
+use crate::fault::Cause;
+use crate::front::Keyword;
+use std::alloc::{AllocError, Global};
+
+// Where a text goes.
+#[derive(Clone, Copy)]
+pub(crate) enum Place {
+    Nowhere,
+    Context,
+    Id,
+    PluralId,
+    Form,
+}
+
+// A text that is being read.
+#[derive(Drop)]
+pub(crate) struct Field {
+    pub(crate) place: Place,
+    pub(crate) text: Text,
+    // Whether there was a text, maybe an empty one.
+    pub(crate) is_given: bool,
+}
+
+impl Field {
+    // A text that goes somewhere.
+    pub(crate) fn new(alloc: Global, place: Place, line: usize) -> Self {
+        Field {
+            place,
+            text: Text::new(alloc, line),
+            is_given: false,
+        }
+    }
+
+    // A text that is passed over.
+    pub(crate) fn nowhere(alloc: Global) -> Self {
+        Field {
+            place: Place::Nowhere,
+            text: Text::new(alloc, 0),
+            is_given: true,
+        }
+    }
+}
+
+impl Entry {
+    // Takes a text.
+    pub(crate) fn take(&mut self, place: Place, text: Text) -> Result<(), AllocError> {
+        match place {
+            Place::Nowhere => (),
+            Place::Context => self.context = Some(text),
+            Place::Id => self.id = Some(text),
+            Place::PluralId => self.plural_id = Some(text),
+            Place::Form => self.forms.push(text)?,
+        }
+        Ok(())
+    }
+
+    // Whether the keyword begins another message.
+    pub(crate) fn ends_before(&self, keyword: Keyword) -> bool {
+        match keyword {
+            Keyword::Domain => true,
+            Keyword::Context => self.context.is_some() || self.has_id(),
+            Keyword::Id => self.has_id(),
+            Keyword::PluralId | Keyword::Form(_) => false,
+        }
+    }
+
+    // Whether a text of the message stands that is behind its context.
+    fn has_id(&self) -> bool {
+        self.id.is_some() || (self.plural_id.is_some() || !self.forms.is_empty())
+    }
+
+    // Where the text of the keyword goes.
+    pub(crate) fn place_of(&self, keyword: Keyword) -> Result<Place, Cause> {
+        match keyword {
+            Keyword::Domain => Ok(Place::Nowhere),
+            Keyword::Context => Ok(Place::Context),
+            Keyword::Id => Ok(Place::Id),
+            Keyword::PluralId => self.plural_place(),
+            Keyword::Form(index) => self.form_place(index),
+        }
+    }
+
+    // Where the text of `msgid_plural` goes.
+    fn plural_place(&self) -> Result<Place, Cause> {
+        if self.id.is_some() && (self.plural_id.is_none() && self.forms.is_empty()) {
+            Ok(Place::PluralId)
+        } else {
+            Err(Cause::StrayPluralId)
+        }
+    }
+
+    // Where the text of `msgstr` goes.
+    fn form_place(&self, index: Option<usize>) -> Result<Place, Cause> {
+        if self.id.is_none() {
+            return Err(Cause::FormWithoutId);
+        }
+        match index {
+            None if self.plural_id.is_some() => Err(Cause::FormWithoutIndex),
+            None if !self.forms.is_empty() => Err(Cause::SecondForm),
+            Some(_) if self.plural_id.is_none() => Err(Cause::IndexWithoutPluralId),
+            Some(index) if index != self.forms.len() => Err(Cause::WrongIndex),
+            _ => Ok(Place::Form),
+        }
+    }
+}

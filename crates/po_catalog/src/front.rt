@@ -1,0 +1,103 @@
+//! What stands at the front of a line.
+
+ghost use Rattle.std.specs.Prelude.{◌≤◌, ◌<◌, length, IfSome};
+ghost use Rattle.po_catalog.specs.Inner.FrontViews.{IsBehind, IsNotLonger};
+
+use crate::bytes::{Class, after_white, split_run};
+use crate::fault::Cause;
+
+// A keyword; `msgstr` with its index, if it has one.
+#[derive(Clone, Copy)]
+pub(crate) enum Keyword {
+    Domain,
+    Context,
+    Id,
+    PluralId,
+    Form(Option<usize>),
+}
+
+// What stands at the front of a line, and what follows it.
+pub(crate) enum Front<'l> {
+    // Nothing more, or a comment.
+    End,
+    Keyword(Keyword, &'l [u8]),
+    // The quotation mark before a text.
+    Quote(&'l [u8]),
+    Bad(Cause),
+}
+
+// The front of a line.
+pub(crate) fn front_of(line: &[u8]) -> Front<'_>
+    ensures { IsBehind result line.now }
+{
+    let text = after_white(line);
+    match text {
+        [] | [b'#', ..] => Front::End,
+        [b'"', rest @ ..] => Front::Quote(rest),
+        _ => word_front(text),
+    }
+}
+
+// The keyword at the front.
+fn word_front(text: &[u8]) -> Front<'_>
+    ensures { IsBehind result text.now }
+{
+    let (word, rest) = split_run(Class::Word, text);
+    if word == b"msgid".as_slice() {
+        Front::Keyword(Keyword::Id, rest)
+    } else if word == b"msgstr".as_slice() {
+        form_front(rest)
+    } else if word == b"msgid_plural".as_slice() {
+        Front::Keyword(Keyword::PluralId, rest)
+    } else if word == b"msgctxt".as_slice() {
+        Front::Keyword(Keyword::Context, rest)
+    } else if word == b"domain".as_slice() {
+        Front::Keyword(Keyword::Domain, rest)
+    } else {
+        Front::Bad(Cause::UnknownWord)
+    }
+}
+
+// The keyword `msgstr`, with what follows it.
+fn form_front(rest: &[u8]) -> Front<'_>
+    ensures { IsNotLonger result rest.now }
+{
+    let [b'[', inner @ ..] = after_white(rest) else {
+        return Front::Keyword(Keyword::Form(None), rest);
+    };
+    let Some((index, after)) = index_front(after_white(inner)) else {
+        return Front::Bad(Cause::BadIndex);
+    };
+    match after_white(after) {
+        [b']', behind @ ..] => Front::Keyword(Keyword::Form(Some(index)), behind),
+        _ => Front::Bad(Cause::BadIndex),
+    }
+}
+
+// The index of one or two digits at the front, and what follows it.
+fn index_front(text: &[u8]) -> Option<(usize, &[u8])>
+    ensures { IfSome result (λ index. length index.1.now ≤ length text.now) }
+{
+    let [first, after @ ..] = text else {
+        return None;
+    };
+    let first = digit_of(*first)?;
+    let [second, rest @ ..] = after else {
+        return Some((first, after));
+    };
+    match digit_of(*second) {
+        Some(second) => Some((first * 10 + second, rest)),
+        None => Some((first, after)),
+    }
+}
+
+// The value of a digit.
+fn digit_of(byte: u8) -> Option<usize>
+    ensures { IfSome result (λ value. value < 10) }
+{
+    if b'0' <= byte && byte <= b'9' {
+        Some(usize::from(byte - b'0'))
+    } else {
+        None
+    }
+}
