@@ -1,6 +1,6 @@
 //! The kinds of the upper crates: `icu_plurals`, `plural_message`, `plural_checker`,
 //! `plural_fallback`, `message_report`, `form_commands`, `example_callers`, `message_pattern`,
-//! `message_format` and `plural_exports`.
+//! `message_format`, `gettext_plural` and `plural_exports`.
 
 mod callers;
 mod checker;
@@ -17,6 +17,7 @@ mod packed_texts;
 mod packing;
 mod pattern_texts;
 mod patterns;
+mod plural_forms;
 mod styled_patterns;
 
 use crate::call::Call;
@@ -36,6 +37,7 @@ pub fn make(kind: &str, call: &mut Call) -> bool {
         || patterns::make(kind, call)
         || styled_patterns::make(kind, call)
         || pattern_texts::make(kind, call)
+        || plural_forms::make(kind, call)
         || exports::make(kind, call)
         || exported_bytes::make(kind, call)
 }

@@ -1,0 +1,94 @@
+-- The loop over the bytes of an expression.
+use Rattle.std.proofs.Common.{◌≡◌, ℕ, List, [], ◌∷◌, ◌++◌, length, true, false, Result, Ok, Err, refl, sym, ap, ◌∙◌, subst, append_assoc}
+use Rattle.gettext_plural.specs.declared.error.FaultKind.{FaultKind}
+use Rattle.gettext_plural.specs.declared.token.Token.{Token}
+use Rattle.gettext_plural.specs.PluralExpressions.{Formula}
+use Rattle.gettext_plural.specs.PluralTokens.{AreTokensOf, at_end, at_blank, at_token, front, is_blank, is_end}
+use Rattle.gettext_plural.specs.Inner.FormulaViews.{Reads, Stops}
+use Rattle.gettext_plural.specs.Inner.PluralMachine.{Stage, expects, step, finish, ended, proceed, run}
+use Rattle.gettext_plural.proofs.TokenCuts.{front_ends, tokens_exist}
+
+-- all tokens, if these are the tokens of the rest
+pub record Continued (text : List ℕ) (s : Stage) (ts : List Token) : Type 0 where
+  pub all : List Token
+  pub cut : AreTokensOf text all
+  pub same : run (expects []) all ≡ run s ts
+
+-- the text is read up to the rest, which is behind these bytes, and leads to the stage
+pub record HasTaken (text : List ℕ) (s : Stage) (rest : List ℕ) : Type 0 where
+  pub taken : List ℕ
+  pub parts : text ≡ taken ++ rest
+  pub goes_on : (ts : List Token) → AreTokensOf rest ts → Continued text s ts
+
+pub none_taken : (text : List ℕ) → HasTaken text (expects []) text
+none_taken text = record { taken = []; parts = refl; goes_on = λ ts cut. record { all = ts; cut = cut; same = refl } }
+
+pub blank_taken : (text : List ℕ) (s : Stage) (b : ℕ) (rest : List ℕ) → is_end (b ∷ rest) ≡ false → is_blank b ≡ true → HasTaken text s (b ∷ rest) → HasTaken text s rest
+blank_taken text s b rest no white h = record {
+  taken = h.taken ++ b ∷ [];
+  parts = h.parts ∙ sym (append_assoc h.taken (b ∷ []) rest);
+  goes_on = λ ts cut. h.goes_on ts (at_blank b rest ts no white cut);
+}
+
+pub token_taken : (text : List ℕ) (s next : Stage) (b : ℕ) (rest after : List ℕ) (t : Token) → is_end (b ∷ rest) ≡ false → is_blank b ≡ false → t ≡ (front b rest).0
+    → after ≡ (front b rest).1 → step s t ≡ Ok next → HasTaken text s (b ∷ rest) → HasTaken text next after
+unfolding run
+token_taken text s next b rest after t no black first behind does h =
+    let f = front_ends b rest in
+    let whole : rest ≡ f.0 ++ after = f.1 ∙ ap (λ x. f.0 ++ x) (sym behind) in
+    record {
+      taken = h.taken ++ (b ∷ f.0);
+      parts = h.parts ∙ ap (λ x. h.taken ++ b ∷ x) whole ∙ sym (append_assoc h.taken (b ∷ f.0) after);
+      goes_on = λ ts cut.
+          let P : List ℕ → Type 0 = λ x. AreTokensOf x ts in
+          let Q : Token → Type 0 = λ x. step s x ≡ Ok next in
+          let k = h.goes_on ((front b rest).0 ∷ ts) (at_token b rest ts no black (subst P behind cut)) in
+          record {
+            all = k.all;
+            cut = k.cut;
+            same = k.same ∙ ap (λ r. proceed ((front b rest).0 ∷ ts) r (λ n. run n ts)) (subst Q first does);
+          };
+    }
+
+-- a token at which the reader stops
+pub token_stops : (text : List ℕ) (s : Stage) (b : ℕ) (rest : List ℕ) (t : Token) (kind : FaultKind) → is_end (b ∷ rest) ≡ false → is_blank b ≡ false
+    → t ≡ (front b rest).0 → step s t ≡ Err kind → HasTaken text s (b ∷ rest) → Stops text kind (length (b ∷ rest))
+unfolding run
+token_stops text s b rest t kind no black first does h =
+    let ts = tokens_exist (front b rest).1 in
+    let there = at_token b rest ts.0 no black ts.1 in
+    let k = h.goes_on ((front b rest).0 ∷ ts.0) there in
+    let Q : Token → Type 0 = λ x. step s x ≡ Err kind in
+    record {
+      all = k.all;
+      more = (front b rest).0 ∷ ts.0;
+      taken = h.taken;
+      rest = b ∷ rest;
+      cut = k.cut;
+      parts = h.parts;
+      remains = refl;
+      there = there;
+      stops = k.same ∙ ap (λ r. proceed ((front b rest).0 ∷ ts.0) r (λ n. run n ts.0)) (subst Q first does);
+    }
+
+pub end_stops : (text : List ℕ) (s : Stage) (rest : List ℕ) (kind : FaultKind) → is_end rest ≡ true → finish s ≡ Err kind → HasTaken text s rest → Stops text kind (length rest)
+unfolding run
+end_stops text s rest kind yes does h =
+    let k = h.goes_on [] (at_end rest yes) in
+    record {
+      all = k.all;
+      more = [];
+      taken = h.taken;
+      rest = rest;
+      cut = k.cut;
+      parts = h.parts;
+      remains = refl;
+      there = at_end rest yes;
+      stops = k.same ∙ ap ended does;
+    }
+
+pub end_reads : (text : List ℕ) (s : Stage) (rest : List ℕ) (e : Formula) → is_end rest ≡ true → finish s ≡ Ok e → HasTaken text s rest → Reads text e
+unfolding run
+end_reads text s rest e yes does h =
+    let k = h.goes_on [] (at_end rest yes) in
+    (k.all, k.cut, k.same ∙ ap ended does)
