@@ -22,11 +22,14 @@ is_within n is =
     (λ no. let clash : (nat_le 1 n && nat_le n FORMS_LIMIT) ≡ (false && nat_le n FORMS_LIMIT) = ap (λ b. b && nat_le n FORMS_LIMIT) no.0 in absurd cc)
     (leb_tells 1 n)
 
-by_test : (b : Bool) (n count : ℕ) (f : Fault) → is_count n ≡ b → cond b (Ok {E = Fault} n) (Err f) ≡ Ok count → IsWithin count
-by_test true n count f yes is = let same : n ≡ count = cc in subst IsWithin same (is_within n yes)
-by_test false n count f no is = absurd cc
+abbrev counted_as : ℕ → Result ℕ Fault
+counted_as n = Ok n
 
-counted : (d : Bool) (n count : ℕ) (f : Fault) → cond (d && is_count n) (Ok {E = Fault} n) (Err f) ≡ Ok count → IsWithin count
+by_test : (b : Bool) (n count : ℕ) (f : Fault) → is_count n ≡ b → cond b (counted_as n) (Err f) ≡ Ok count → IsWithin count
+by_test true n count f passes is = let same : n ≡ count = cc in subst IsWithin same (is_within n passes)
+by_test false n count f fails is = absurd cc
+
+counted : (d : Bool) (n count : ℕ) (f : Fault) → cond (d && is_count n) (counted_as n) (Err f) ≡ Ok count → IsWithin count
 counted false n count f is = absurd cc
 counted true n count f is = by_test (is_count n) n count f refl is
 

@@ -9,7 +9,7 @@ use Rattle.gettext_plural.specs.declared.token.Token.{Token}
 use Rattle.gettext_plural.specs.declared.token.Token.TheVariants.{Number, N, Not, Joint, Question, Colon, Open, Close, Junk}
 use Rattle.gettext_plural.specs.PluralExpressions.{Formula, the_n, negated, joined, chosen, binding, Spells}
 use Rattle.gettext_plural.specs.PluralAnswers.{Begins, NoneGoesOn, behind_operand, end_in_operand, ends_operand, missing}
-use Rattle.gettext_plural.specs.Inner.PluralMachine.{Waiting, bracket, negation, left_of, question, colon, Stage, expects, has, unwind, step, whole, finish, finished, ended, coloned, closed, proceed, run, colon_stage, close_stage}
+use Rattle.gettext_plural.specs.Inner.PluralMachine.{Waiting, bracket, negation, left_of, question, colon, Outcome, Stage, expects, has, unwind, step, whole, finish, finished, ended, coloned, closed, proceed, run, colon_stage, close_stage}
 use Rattle.gettext_plural.proofs.Levels.{left_ends}
 use Rattle.gettext_plural.proofs.MachineComplete.{read_whole}
 use Rattle.gettext_plural.proofs.MachineSound.{IfStage, run_sound}
@@ -234,13 +234,17 @@ none_goes_on before [] kind last leads fails = λ e s.
     let same : run (expects []) (before ++ []) ≡ run (expects []) before = ap (run (expects [])) (append-nil before) in
     let here : run (expects []) (before ++ []) ≡ ended (finish last) = leads [] in
     let fault : ended (finish last) ≡ ended (Err kind) = ap ended fails in
-    let clash : Ok e ≡ ended (Err kind) = sym whole_is ∙ sym same ∙ here ∙ fault in
+    let good : Outcome = Ok e in
+    let bad : Outcome = ended (Err kind) in
+    let clash : good ≡ bad = sym whole_is ∙ sym same ∙ here ∙ fault in
     absurd cc
 none_goes_on before (t ∷ more) kind last leads fails = λ behind e s.
     let whole_is : run (expects []) (before ++ t ∷ behind) ≡ Ok e = read_whole (before ++ t ∷ behind) e s in
     let here : run (expects []) (before ++ t ∷ behind) ≡ run last (t ∷ behind) = leads (t ∷ behind) in
     let fault : run last (t ∷ behind) ≡ Err (kind, t ∷ behind) = ap (λ r. proceed (t ∷ behind) r (λ next. run next behind)) fails in
-    let clash : Ok e ≡ Err (kind, t ∷ behind) = sym whole_is ∙ here ∙ fault in
+    let good : Outcome = Ok e in
+    let bad : Outcome = Err (kind, t ∷ behind) in
+    let clash : good ≡ bad = sym whole_is ∙ here ∙ fault in
     absurd cc
 
 -- where the reader stops is the first fault

@@ -24,16 +24,16 @@ pub none_taken : (text : List ℕ) → HasTaken text (expects []) text
 none_taken text = record { taken = []; parts = refl; goes_on = λ ts cut. record { all = ts; cut = cut; same = refl } }
 
 pub blank_taken : (text : List ℕ) (s : Stage) (b : ℕ) (rest : List ℕ) → is_end (b ∷ rest) ≡ false → is_blank b ≡ true → HasTaken text s (b ∷ rest) → HasTaken text s rest
-blank_taken text s b rest no white h = record {
+blank_taken text s b rest not_last white h = record {
   taken = h.taken ++ b ∷ [];
   parts = h.parts ∙ sym (append_assoc h.taken (b ∷ []) rest);
-  goes_on = λ ts cut. h.goes_on ts (at_blank b rest ts no white cut);
+  goes_on = λ ts cut. h.goes_on ts (at_blank b rest ts not_last white cut);
 }
 
 pub token_taken : (text : List ℕ) (s next : Stage) (b : ℕ) (rest after : List ℕ) (t : Token) → is_end (b ∷ rest) ≡ false → is_blank b ≡ false → t ≡ (front b rest).0
     → after ≡ (front b rest).1 → step s t ≡ Ok next → HasTaken text s (b ∷ rest) → HasTaken text next after
 unfolding run
-token_taken text s next b rest after t no black first behind does h =
+token_taken text s next b rest after t not_last black first behind does h =
     let f = front_ends b rest in
     let whole : rest ≡ f.0 ++ after = f.1 ∙ ap (λ x. f.0 ++ x) (sym behind) in
     record {
@@ -42,7 +42,7 @@ token_taken text s next b rest after t no black first behind does h =
       goes_on = λ ts cut.
           let P : List ℕ → Type 0 = λ x. AreTokensOf x ts in
           let Q : Token → Type 0 = λ x. step s x ≡ Ok next in
-          let k = h.goes_on ((front b rest).0 ∷ ts) (at_token b rest ts no black (subst P behind cut)) in
+          let k = h.goes_on ((front b rest).0 ∷ ts) (at_token b rest ts not_last black (subst P behind cut)) in
           record {
             all = k.all;
             cut = k.cut;
@@ -54,9 +54,9 @@ token_taken text s next b rest after t no black first behind does h =
 pub token_stops : (text : List ℕ) (s : Stage) (b : ℕ) (rest : List ℕ) (t : Token) (kind : FaultKind) → is_end (b ∷ rest) ≡ false → is_blank b ≡ false
     → t ≡ (front b rest).0 → step s t ≡ Err kind → HasTaken text s (b ∷ rest) → Stops text kind (length (b ∷ rest))
 unfolding run
-token_stops text s b rest t kind no black first does h =
+token_stops text s b rest t kind not_last black first does h =
     let ts = tokens_exist (front b rest).1 in
-    let there = at_token b rest ts.0 no black ts.1 in
+    let there = at_token b rest ts.0 not_last black ts.1 in
     let k = h.goes_on ((front b rest).0 ∷ ts.0) there in
     let Q : Token → Type 0 = λ x. step s x ≡ Err kind in
     record {
@@ -73,8 +73,8 @@ token_stops text s b rest t kind no black first does h =
 
 pub end_stops : (text : List ℕ) (s : Stage) (rest : List ℕ) (kind : FaultKind) → is_end rest ≡ true → finish s ≡ Err kind → HasTaken text s rest → Stops text kind (length rest)
 unfolding run
-end_stops text s rest kind yes does h =
-    let k = h.goes_on [] (at_end rest yes) in
+end_stops text s rest kind is_last does h =
+    let k = h.goes_on [] (at_end rest is_last) in
     record {
       all = k.all;
       more = [];
@@ -83,12 +83,12 @@ end_stops text s rest kind yes does h =
       cut = k.cut;
       parts = h.parts;
       remains = refl;
-      there = at_end rest yes;
+      there = at_end rest is_last;
       stops = k.same ∙ ap ended does;
     }
 
 pub end_reads : (text : List ℕ) (s : Stage) (rest : List ℕ) (e : Formula) → is_end rest ≡ true → finish s ≡ Ok e → HasTaken text s rest → Reads text e
 unfolding run
-end_reads text s rest e yes does h =
-    let k = h.goes_on [] (at_end rest yes) in
+end_reads text s rest e is_last does h =
+    let k = h.goes_on [] (at_end rest is_last) in
     (k.all, k.cut, k.same ∙ ap ended does)

@@ -46,9 +46,9 @@ tokens_within (suc n) (b ∷ s) le =
     let shorter : length (front b s).1 ≤ n = omega (arith, ap length h.1, length-append h.0 (front b s).1) in
     let more : (ts : List Token) × AreTokensOf (front b s).1 ts = tokens_within n (front b s).1 shorter in
     ⊎_elim
-    (λ yes. ([], at_end (b ∷ s) yes))
-    (λ no.
-    ⊎_elim (λ white. (rest.0, at_blank b s rest.0 no white rest.1)) (λ black. ((front b s).0 ∷ more.0, at_token b s more.0 no black more.1)) (told (is_blank b)))
+    (λ is_last. ([], at_end (b ∷ s) is_last))
+    (λ not_last.
+    ⊎_elim (λ white. (rest.0, at_blank b s rest.0 not_last white rest.1)) (λ black. ((front b s).0 ∷ more.0, at_token b s more.0 not_last black more.1)) (told (is_blank b)))
     (told (is_end (b ∷ s)))
 
 pub tokens_exist : (s : List ℕ) → (ts : List Token) × AreTokensOf s ts
@@ -57,17 +57,17 @@ tokens_exist s = tokens_within (length s) s (omega arith)
 -- ---- There are no others
 
 no_tokens : (s : List ℕ) (ts : List Token) → is_end s ≡ true → AreTokensOf s ts → ts ≡ []
-no_tokens s ts yes (at_end r e) = refl
-no_tokens s ts yes (at_blank b r us e white more) = absurd cc
-no_tokens s ts yes (at_token b r us e black more) = absurd cc
+no_tokens s ts is_last (at_end r e) = refl
+no_tokens s ts is_last (at_blank b r us e white more) = absurd cc
+no_tokens s ts is_last (at_token b r us e black more) = absurd cc
 
 behind_blank : (b : ℕ) (s x : List ℕ) (ts : List Token) → x ≡ b ∷ s → is_end (b ∷ s) ≡ false → is_blank b ≡ true → AreTokensOf x ts → AreTokensOf s ts
-behind_blank b s x ts is no white (at_end r e) = let same = ap is_end is in absurd cc
-behind_blank b s x ts is no white (at_blank a r us e w more) =
+behind_blank b s x ts is not_last white (at_end r e) = let same = ap is_end is in absurd cc
+behind_blank b s x ts is not_last white (at_blank a r us e w more) =
     let same : r ≡ s = cc in
     let P : List ℕ → Type 0 = λ y. AreTokensOf y us in
     subst P same more
-behind_blank b s x ts is no white (at_token a r us e black more) =
+behind_blank b s x ts is not_last white (at_token a r us e black more) =
     let same : a ≡ b = cc in
     let clash = ap is_blank same in
     absurd cc
@@ -78,12 +78,12 @@ record FirstOf (b : ℕ) (s : List ℕ) (ts : List Token) : Type 0 where
   there : AreTokensOf (front b s).1 rest
 
 first_token : (b : ℕ) (s x : List ℕ) (ts : List Token) → x ≡ b ∷ s → is_end (b ∷ s) ≡ false → is_blank b ≡ false → AreTokensOf x ts → FirstOf b s ts
-first_token b s x ts is no black (at_end r e) = let same = ap is_end is in absurd cc
-first_token b s x ts is no black (at_blank a r us e white more) =
+first_token b s x ts is not_last black (at_end r e) = let same = ap is_end is in absurd cc
+first_token b s x ts is not_last black (at_blank a r us e white more) =
     let same : a ≡ b = cc in
     let clash = ap is_blank same in
     absurd cc
-first_token b s x ts is no black (at_token a r us e w more) =
+first_token b s x ts is not_last black (at_token a r us e w more) =
     let first : a ≡ b = cc in
     let second : r ≡ s = cc in
     let both : front a r ≡ front b s = ap (λ y. front y r) first ∙ ap (front b) second in
@@ -91,10 +91,10 @@ first_token b s x ts is no black (at_token a r us e w more) =
     record { rest = us; is = ap (λ it. it.0 ∷ us) both; there = subst P (ap (λ it. it.1) both) more }
 
 pub one_cut : (s : List ℕ) (ts us : List Token) → AreTokensOf s ts → AreTokensOf s us → ts ≡ us
-one_cut s ts us (at_end r yes) k = sym (no_tokens r us yes k)
-one_cut s ts us (at_blank b r vs no white more) k = one_cut r vs us more (behind_blank b r (b ∷ r) us refl no white k)
-one_cut s ts us (at_token b r vs no black more) k =
-    let f = first_token b r (b ∷ r) us refl no black k in
+one_cut s ts us (at_end r is_last) k = sym (no_tokens r us is_last k)
+one_cut s ts us (at_blank b r vs not_last white more) k = one_cut r vs us more (behind_blank b r (b ∷ r) us refl not_last white k)
+one_cut s ts us (at_token b r vs not_last black more) k =
+    let f = first_token b r (b ∷ r) us refl not_last black k in
     ap (λ x. (front b r).0 ∷ x) (one_cut (front b r).1 vs f.rest more f.there) ∙ sym f.is
 
 -- ---- The bytes from a token on
@@ -109,11 +109,11 @@ pub tokens_from : (s : List ℕ) (all before more : List Token) → AreTokensOf 
 tokens_from s all [] more k is =
     let P : List Token → Type 0 = λ ts. AreTokensOf s ts in
     record { taken = []; rest = s; parts = refl; there = subst P is k }
-tokens_from s all (t ∷ before) more (at_end r yes) is = absurd cc
-tokens_from s all (t ∷ before) more (at_blank b r us no white k) is =
+tokens_from s all (t ∷ before) more (at_end r is_last) is = absurd cc
+tokens_from s all (t ∷ before) more (at_blank b r us not_last white k) is =
     let h = tokens_from r us (t ∷ before) more k is in
     record { taken = b ∷ h.taken; rest = h.rest; parts = ap (λ x. b ∷ x) h.parts; there = h.there }
-tokens_from s all (t ∷ before) more (at_token b r us no black k) is =
+tokens_from s all (t ∷ before) more (at_token b r us not_last black k) is =
     let tail : us ≡ before ++ more = cc in
     let h = tokens_from (front b r).1 us before more k tail in
     let f = front_ends b r in

@@ -53,6 +53,7 @@ fn take(
 }
 
 // Takes a token where an operand is expected.
+#[tactic(auto, using(crate::proofs::PendingViews::pushed))]
 fn begin(
     pending: &mut Vec<Pending>,
     token: Token,
@@ -71,7 +72,11 @@ fn begin(
             pending.push(Pending::Bracket)?;
             Ok(None)
         }
-        _ => Err(fault(FaultKind::ExpectedOperand, left)),
+        Token::Joint(_) => Err(fault(FaultKind::ExpectedOperand, left)),
+        Token::Question => Err(fault(FaultKind::ExpectedOperand, left)),
+        Token::Colon => Err(fault(FaultKind::ExpectedOperand, left)),
+        Token::Close => Err(fault(FaultKind::ExpectedOperand, left)),
+        Token::Junk => Err(fault(FaultKind::ExpectedOperand, left)),
     }
 }
 
@@ -90,7 +95,11 @@ fn follow(
         Token::Question => question(alloc, pending, operand, left),
         Token::Colon => colon(alloc, pending, operand, left),
         Token::Close => close(alloc, pending, operand, left),
-        _ => Err(fault(FaultKind::ExpectedOperator, left)),
+        Token::Number(_) => Err(fault(FaultKind::ExpectedOperator, left)),
+        Token::N => Err(fault(FaultKind::ExpectedOperator, left)),
+        Token::Not => Err(fault(FaultKind::ExpectedOperator, left)),
+        Token::Open => Err(fault(FaultKind::ExpectedOperator, left)),
+        Token::Junk => Err(fault(FaultKind::ExpectedOperator, left)),
     }
 }
 
@@ -133,13 +142,14 @@ fn colon(
     ensures { IsStep (has (pendings_view pending.old.items) (formula_view operand)) Token.Colon left pending.new.items result }
 {
     let yes = unwind(alloc, pending, 0, operand)?;
-    match pending.pop() {
-        Some(Pending::Question(condition)) => {
-            pending.push(Pending::Colon(condition, yes))?;
-            Ok(None)
-        }
-        _ => Err(fault(FaultKind::ExpectedOperator, left)),
-    }
+    let Some(last) = pending.pop() else {
+        return Err(fault(FaultKind::ExpectedOperator, left));
+    };
+    let Some(condition) = last.condition() else {
+        return Err(fault(FaultKind::ExpectedOperator, left));
+    };
+    pending.push(Pending::Colon(condition, yes))?;
+    Ok(None)
 }
 
 // Takes `)` behind an operand.
@@ -152,9 +162,13 @@ fn close(
     ensures { IsStep (has (pendings_view pending.old.items) (formula_view operand)) Token.Close left pending.new.items result }
 {
     let inner = unwind(alloc, pending, 0, operand)?;
-    match pending.pop() {
-        Some(Pending::Bracket) => Ok(Some(inner)),
-        _ => Err(fault(FaultKind::ExpectedOperator, left)),
+    let Some(last) = pending.pop() else {
+        return Err(fault(FaultKind::ExpectedOperator, left));
+    };
+    if last.is_bracket() {
+        Ok(Some(inner))
+    } else {
+        Err(fault(FaultKind::ExpectedOperator, left))
     }
 }
 
@@ -178,6 +192,7 @@ fn finish(
 }
 
 // Ends all that ends before an operator that binds so much, and returns the operand before it.
+#[tactic(auto, using(crate::proofs::PendingViews::stays_so, crate::proofs::PendingViews::ends_so))]
 fn unwind(
     alloc: Global,
     pending: &mut Vec<Pending>,
@@ -194,6 +209,7 @@ fn unwind(
 }
 
 // Takes the innermost, if it ends before an operator that binds so much.
+#[tactic(auto, using(crate::proofs::PendingViews::one_popped, crate::proofs::PendingViews::put_back))]
 fn pop_closed(pending: &mut Vec<Pending>, binding: u8) -> Result<Option<Pending>, AllocError>
     ensures { IfOk result (λ last. IsPopped binding (pendings_view pending.old.items) (pendings_view pending.new.items) last) }
 {

@@ -48,16 +48,35 @@ jointed o it = expects (left_of o it.1 ∷ it.0)
 abbrev pub questioned : List Waiting × Formula → Stage
 questioned it = expects (question it.1 ∷ it.0)
 
+-- the condition of a `?`
+abbrev pub condition_in : Waiting → Option Formula
+condition_in bracket = None
+condition_in negation = None
+condition_in (left_of o a) = None
+condition_in (question a) = Some a
+condition_in (colon a b) = None
+
+abbrev pub colon_with : Option Formula → List Waiting → Formula → Result Stage FaultKind
+colon_with None ws b = Err ExpectedOperator
+colon_with (Some a) ws b = Ok (expects (colon a b ∷ ws))
+
 abbrev pub colon_stage : List Waiting → Formula → Result Stage FaultKind
-colon_stage (question a ∷ ws) b = Ok (expects (colon a b ∷ ws))
-colon_stage _ b = Err ExpectedOperator
+colon_stage [] b = Err ExpectedOperator
+colon_stage (w ∷ ws) b = colon_with (condition_in w) ws b
 
 abbrev pub coloned : List Waiting × Formula → Result Stage FaultKind
 coloned it = colon_stage it.0 it.1
 
+abbrev pub is_bracket : Waiting → Bool
+is_bracket bracket = true
+is_bracket negation = false
+is_bracket (left_of o a) = false
+is_bracket (question a) = false
+is_bracket (colon a b) = false
+
 abbrev pub close_stage : List Waiting → Formula → Result Stage FaultKind
-close_stage (bracket ∷ ws) a = Ok (has ws a)
-close_stage _ a = Err ExpectedOperator
+close_stage [] a = Err ExpectedOperator
+close_stage (w ∷ ws) a = cond (is_bracket w) (Ok (has ws a)) (Err ExpectedOperator)
 
 abbrev pub closed : List Waiting × Formula → Result Stage FaultKind
 closed it = close_stage it.0 it.1
