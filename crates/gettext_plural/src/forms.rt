@@ -33,6 +33,7 @@ impl PluralForms {
     ///
     /// It allocates the expression. The error is the text's first fault, with the byte where it is,
     /// or out of memory.
+    #[tactic(auto, using(crate::proofs::Told::too_long))]
     pub fn parse(alloc: Global, text: &[u8]) -> Result<PluralForms, PluralFormsError>
         ensures { ParsesExactly text.now (forms_read result) }
     {
