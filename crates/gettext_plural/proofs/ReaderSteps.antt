@@ -1,24 +1,16 @@
 -- The loop over the bytes of an expression.
-use Rattle.std.proofs.Common.{◌≡◌, ℕ, List, [], ◌∷◌, ◌++◌, length, true, false, Result, Ok, Err, refl, sym, ap, ◌∙◌, subst, append_assoc}
+use Rattle.std.proofs.Common.{◌≡◌, ◌+◌, ℕ, List, [], ◌∷◌, ◌++◌, length, true, false, Result, Ok, Err, refl, sym, ap, ◌∙◌, subst, append_assoc, arith}
 use Rattle.gettext_plural.specs.declared.error.FaultKind.{FaultKind}
+use Rattle.gettext_plural.specs.declared.error.ReadError.{ReadError}
+use Rattle.gettext_plural.specs.declared.error.ReadError.TheVariants as read
+use Rattle.gettext_plural.specs.declared.expression.Expression.{Expression}
 use Rattle.gettext_plural.specs.declared.token.Token.{Token}
 use Rattle.gettext_plural.specs.PluralExpressions.{Formula}
+use Rattle.gettext_plural.specs.PluralViews.{formula_view}
 use Rattle.gettext_plural.specs.PluralTokens.{AreTokensOf, at_end, at_blank, at_token, front, is_blank, is_end}
-use Rattle.gettext_plural.specs.Inner.FormulaViews.{Reads, Stops}
+use Rattle.gettext_plural.specs.Inner.FormulaViews.{Continued, HasTaken, IsFaultOr, IsFinish, IsReading, IsStopped, Reads, Stops}
 use Rattle.gettext_plural.specs.Inner.PluralMachine.{Stage, expects, step, finish, ended, proceed, run}
 use Rattle.gettext_plural.proofs.TokenCuts.{front_ends, tokens_exist}
-
--- all tokens, if these are the tokens of the rest
-pub record Continued (text : List ℕ) (s : Stage) (ts : List Token) : Type 0 where
-  pub all : List Token
-  pub cut : AreTokensOf text all
-  pub same : run (expects []) all ≡ run s ts
-
--- the text is read up to the rest, which is behind these bytes, and leads to the stage
-pub record HasTaken (text : List ℕ) (s : Stage) (rest : List ℕ) : Type 0 where
-  pub taken : List ℕ
-  pub parts : text ≡ taken ++ rest
-  pub goes_on : (ts : List Token) → AreTokensOf rest ts → Continued text s ts
 
 pub none_taken : (text : List ℕ) → HasTaken text (expects []) text
 none_taken text = record { taken = []; parts = refl; goes_on = λ ts cut. record { all = ts; cut = cut; same = refl } }
@@ -92,3 +84,22 @@ unfolding run
 end_reads text s rest e is_last does h =
     let k = h.goes_on [] (at_end rest is_last) in
     (k.all, k.cut, k.same ∙ ap ended does)
+
+-- an error of a token is a fault where the text stops, or out of memory
+pub error_stops : (text : List ℕ) (s : Stage) (b : ℕ) (rest : List ℕ) (t : Token) (n : ℕ) (e : ReadError) → is_end (b ∷ rest) ≡ false → is_blank b ≡ false
+    → t ≡ (front b rest).0 → n ≡ length rest + 1 → IsFaultOr (step s t) n e → HasTaken text s (b ∷ rest) → IsStopped text e
+error_stops text s b rest t n read.Memory not_last black first size does h = tt
+error_stops text s b rest t n (read.Fault f) not_last black first size does h =
+    let P : ℕ → Type 0 = λ m. Stops text f.kind m in
+    let left : f.left ≡ n = does.0 in
+    let all : f.left ≡ length (b ∷ rest) = omega arith in
+    subst P (sym all) (token_stops text s b rest t f.kind not_last black first does.1 h)
+
+-- what the end returns is what is read
+pub finish_reads : (text : List ℕ) (s : Stage) (rest : List ℕ) (n : ℕ) (r : Result Expression ReadError) → is_end rest ≡ true → n ≡ length rest → IsFinish s n r
+    → HasTaken text s rest → IsReading text r
+finish_reads text s rest n (Ok e) is_last size does h = end_reads text s rest (formula_view e) is_last does h
+finish_reads text s rest n (Err read.Memory) is_last size does h = tt
+finish_reads text s rest n (Err (read.Fault f)) is_last size does h =
+    let P : ℕ → Type 0 = λ m. Stops text f.kind m in
+    subst P (sym (does.0 ∙ size)) (end_stops text s rest f.kind is_last does.1 h)

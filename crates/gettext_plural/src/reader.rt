@@ -1,9 +1,10 @@
 //! Reading an expression: each token does what it does to what was read before it, and what waits
 //! for an operand stands in a list, the innermost last.
 
-ghost use Rattle.std.specs.Prelude.{◌≡◌, [], IfOk};
+ghost use Rattle.std.specs.Prelude.{◌≡◌, ◌≤◌, ◌+◌, ℕ, List, ◌∷◌, true, false, IfOk, IfErr, IfSome, MatchOption, length};
+ghost use Rattle.gettext_plural.specs.PluralTokens.{is_end};
 ghost use Rattle.gettext_plural.specs.PluralViews.{formula_view};
-ghost use Rattle.gettext_plural.specs.Inner.FormulaViews.{pendings_view, stage_view, IsPopped, IsStep, IsFinish, IsReading};
+ghost use Rattle.gettext_plural.specs.Inner.FormulaViews.{pendings_view, stage_view, HasTaken, IsPopped, IsStep, IsFinish, IsReading, IsStopped};
 ghost use Rattle.gettext_plural.specs.Inner.PluralMachine.{unwind, expects, has};
 
 use crate::error::{Fault, FaultKind, ReadError};
@@ -20,19 +21,59 @@ pub(crate) fn read(alloc: Global, text: &[u8]) -> Result<Expression, ReadError>
     let mut pending = Vec::new(alloc);
     let mut operand = None;
     let mut rest = text;
-    'tokens: while let [first, behind @ ..] = rest {
-        if is_end(rest) {
-            break;
+    'bytes: while let Some((first, behind)) = next_byte(rest) {
+        let left = rest.len();
+        match advance(alloc, &mut pending, operand, first, behind, left) {
+            Ok(step) => {
+                operand = step.0;
+                rest = step.1;
+            }
+            Err(error) => return Err(error),
         }
-        if is_blank(*first) {
-            rest = behind;
-            continue;
-        }
-        let (token, after) = token_at(*first, behind);
-        operand = take(alloc, &mut pending, operand, token, rest.len())?;
-        rest = after;
     }
-    finish(alloc, &mut pending, operand, rest.len())
+    let end = rest.len();
+    finish(alloc, &mut pending, operand, end)
+}
+
+// Returns the next byte of an expression, and what follows it.
+fn next_byte(text: &[u8]) -> Option<(u8, &[u8])>
+    ensures next { MatchOption result (is_end text.now ≡ true) (λ it. (text.now ≡ it.0 ∷ it.1.now) × (is_end (it.0 ∷ it.1.now) ≡ false)) }
+    ensures size { IfSome result (λ it. length text.now ≡ length it.1.now + 1) }
+{
+    if is_end(text) {
+        return None;
+    }
+    match text {
+        [first, behind @ ..] => Some((*first, behind)),
+        [] => None,
+    }
+}
+
+// Takes a blank, or a token that begins with a byte, where so many bytes are left, and returns the
+// operand that was read then, and what follows.
+fn advance<'a>(
+    alloc: Global,
+    pending: &mut Vec<Pending>,
+    operand: Option<Expression>,
+    first: u8,
+    behind: &'a [u8],
+    left: usize,
+) -> Result<(Option<Expression>, &'a [u8]), ReadError>
+    requires { left ≡ length behind.now + 1 }
+    ensures taken { IfOk result (λ it. (text : List ℕ) → is_end (first ∷ behind.now) ≡ false → HasTaken text (stage_view pending.old.items operand) (first ∷ behind.now)
+        → HasTaken text (stage_view pending.new.items it.0) it.1.now) }
+    ensures stopped { IfErr result (λ e. (text : List ℕ) → is_end (first ∷ behind.now) ≡ false → HasTaken text (stage_view pending.old.items operand) (first ∷ behind.now)
+        → IsStopped text e) }
+    ensures shorter { IfOk result (λ it. length it.1.now ≤ length behind.now) }
+{
+    if is_blank(first) {
+        return Ok((operand, behind));
+    }
+    let (token, after) = token_at(first, behind);
+    match take(alloc, pending, operand, token, left) {
+        Ok(operand) => Ok((operand, after)),
+        Err(error) => Err(error),
+    }
 }
 
 // Takes a token, where so many bytes are left, and returns the operand that was read then, unless
@@ -181,9 +222,21 @@ fn finish(
 ) -> Result<Expression, ReadError>
     ensures { IsFinish (stage_view pending.old.items operand) left result }
 {
-    let Some(operand) = operand else {
-        return Err(fault(FaultKind::ExpectedOperand, left));
-    };
+    match operand {
+        None => Err(fault(FaultKind::ExpectedOperand, left)),
+        Some(operand) => end_at(alloc, pending, operand, left),
+    }
+}
+
+// Takes the end behind an operand.
+fn end_at(
+    alloc: Global,
+    pending: &mut Vec<Pending>,
+    operand: Expression,
+    left: usize,
+) -> Result<Expression, ReadError>
+    ensures { IsFinish (has (pendings_view pending.old.items) (formula_view operand)) left result }
+{
     let whole = unwind(alloc, pending, 0, operand)?;
     match pending.pop() {
         None => Ok(whole),

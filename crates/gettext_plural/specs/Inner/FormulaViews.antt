@@ -76,6 +76,18 @@ pub record Stops (text : List ℕ) (kind : FaultKind) (left : ℕ) : Type 0 wher
 abbrev pub Reads : List ℕ → Formula → Type 0
 Reads text e = (ts : List Token) × AreTokensOf text ts × (run (expects []) ts ≡ Ok e)
 
+-- all tokens, if these are the tokens of the rest
+pub record Continued (text : List ℕ) (s : Stage) (ts : List Token) : Type 0 where
+  pub all : List Token
+  pub cut : AreTokensOf text all
+  pub same : run (expects []) all ≡ run s ts
+
+-- the text is read up to the rest, which is behind these bytes, and leads to the stage
+pub record HasTaken (text : List ℕ) (s : Stage) (rest : List ℕ) : Type 0 where
+  pub taken : List ℕ
+  pub parts : text ≡ taken ++ rest
+  pub goes_on : (ts : List Token) → AreTokensOf rest ts → Continued text s ts
+
 abbrev pub IsStopped : List ℕ → ReadError → Type 0
 IsStopped text read.Memory = Unit {0}
 IsStopped text (read.Fault f) = Stops text f.kind f.left
