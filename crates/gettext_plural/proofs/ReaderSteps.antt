@@ -1,5 +1,5 @@
 -- The loop over the bytes of an expression.
-use Rattle.std.proofs.Common.{◌≡◌, ◌+◌, ℕ, List, [], ◌∷◌, ◌++◌, length, true, false, Result, Ok, Err, refl, sym, ap, ◌∙◌, subst, append_assoc, arith}
+use Rattle.std.proofs.Common.{◌≡◌, ℕ, List, [], ◌∷◌, ◌++◌, length, true, false, Result, Ok, Err, refl, sym, ap, ◌∙◌, subst, append_assoc}
 use Rattle.gettext_plural.specs.declared.error.FaultKind.{FaultKind}
 use Rattle.gettext_plural.specs.declared.error.ReadError.{ReadError}
 use Rattle.gettext_plural.specs.declared.error.ReadError.TheVariants as read
@@ -87,13 +87,11 @@ end_reads text s rest e is_last does h =
 
 -- an error of a token is a fault where the text stops, or out of memory
 pub error_stops : (text : List ℕ) (s : Stage) (b : ℕ) (rest : List ℕ) (t : Token) (n : ℕ) (e : ReadError) → is_end (b ∷ rest) ≡ false → is_blank b ≡ false
-    → t ≡ (front b rest).0 → n ≡ length rest + 1 → IsFaultOr (step s t) n e → HasTaken text s (b ∷ rest) → IsStopped text e
+    → t ≡ (front b rest).0 → n ≡ length (b ∷ rest) → IsFaultOr (step s t) n e → HasTaken text s (b ∷ rest) → IsStopped text e
 error_stops text s b rest t n read.Memory not_last black first size does h = tt
 error_stops text s b rest t n (read.Fault f) not_last black first size does h =
     let P : ℕ → Type 0 = λ m. Stops text f.kind m in
-    let left : f.left ≡ n = does.0 in
-    let all : f.left ≡ length (b ∷ rest) = omega arith in
-    subst P (sym all) (token_stops text s b rest t f.kind not_last black first does.1 h)
+    subst P (sym (does.0 ∙ size)) (token_stops text s b rest t f.kind not_last black first does.1 h)
 
 -- what the end returns is what is read
 pub finish_reads : (text : List ℕ) (s : Stage) (rest : List ℕ) (n : ℕ) (r : Result Expression ReadError) → is_end rest ≡ true → n ≡ length rest → IsFinish s n r

@@ -1,7 +1,7 @@
 //! Reading an expression: each token does what it does to what was read before it, and what waits
 //! for an operand stands in a list, the innermost last.
 
-ghost use Rattle.std.specs.Prelude.{◌≡◌, ◌≤◌, ◌+◌, ℕ, List, ◌∷◌, true, false, IfOk, IfErr, IfSome, MatchOption, length};
+ghost use Rattle.std.specs.Prelude.{◌≡◌, ◌≤◌, ℕ, List, ◌∷◌, true, false, IfOk, IfErr, MatchOption, length};
 ghost use Rattle.gettext_plural.specs.PluralTokens.{is_end};
 ghost use Rattle.gettext_plural.specs.PluralViews.{formula_view};
 ghost use Rattle.gettext_plural.specs.Inner.FormulaViews.{pendings_view, stage_view, HasTaken, IsPopped, IsStep, IsFinish, IsReading, IsStopped};
@@ -15,6 +15,7 @@ use crate::token::{Operator, Token};
 use std::alloc::{AllocError, Global};
 
 // Returns the expression at the front of a text, up to its end.
+#[tactic(auto, using(crate::proofs::ReaderSteps::none_taken, crate::proofs::ReaderSteps::finish_reads))]
 pub(crate) fn read(alloc: Global, text: &[u8]) -> Result<Expression, ReadError>
     ensures { IsReading text.now result }
 {
@@ -22,44 +23,37 @@ pub(crate) fn read(alloc: Global, text: &[u8]) -> Result<Expression, ReadError>
     let mut operand = None;
     let mut rest = text;
     'bytes: while let Some((first, behind)) = next_byte(rest) {
-        let left = rest.len();
-        match advance(alloc, &mut pending, operand, first, behind, left) {
-            Ok(step) => {
-                operand = step.0;
-                rest = step.1;
+        match advance(alloc, &mut pending, operand, first, behind) {
+            Ok((read, after)) => {
+                operand = read;
+                rest = after;
             }
             Err(error) => return Err(error),
         }
     }
-    let end = rest.len();
-    finish(alloc, &mut pending, operand, end)
+    finish(alloc, &mut pending, operand, rest.len())
 }
 
 // Returns the next byte of an expression, and what follows it.
 fn next_byte(text: &[u8]) -> Option<(u8, &[u8])>
-    ensures next { MatchOption result (is_end text.now ≡ true) (λ it. (text.now ≡ it.0 ∷ it.1.now) × (is_end (it.0 ∷ it.1.now) ≡ false)) }
-    ensures size { IfSome result (λ it. length text.now ≡ length it.1.now + 1) }
+    ensures { MatchOption result (is_end text.now ≡ true) (λ it. (text.now ≡ it.0 ∷ it.1.now) × (is_end (it.0 ∷ it.1.now) ≡ false)) }
 {
-    if is_end(text) {
-        return None;
-    }
     match text {
-        [first, behind @ ..] => Some((*first, behind)),
-        [] => None,
+        [first, behind @ ..] if !is_end(text) => Some((*first, behind)),
+        _ => None,
     }
 }
 
-// Takes a blank, or a token that begins with a byte, where so many bytes are left, and returns the
-// operand that was read then, and what follows.
+// Takes a blank, or a token that begins with a byte, and returns the operand that was read then, and
+// what follows.
+#[tactic(auto, using(crate::proofs::ReaderSteps::blank_taken, crate::proofs::ReaderSteps::token_taken, crate::proofs::ReaderSteps::error_stops))]
 fn advance<'a>(
     alloc: Global,
     pending: &mut Vec<Pending>,
     operand: Option<Expression>,
     first: u8,
     behind: &'a [u8],
-    left: usize,
 ) -> Result<(Option<Expression>, &'a [u8]), ReadError>
-    requires { left ≡ length behind.now + 1 }
     ensures taken { IfOk result (λ it. (text : List ℕ) → is_end (first ∷ behind.now) ≡ false → HasTaken text (stage_view pending.old.items operand) (first ∷ behind.now)
         → HasTaken text (stage_view pending.new.items it.0) it.1.now) }
     ensures stopped { IfErr result (λ e. (text : List ℕ) → is_end (first ∷ behind.now) ≡ false → HasTaken text (stage_view pending.old.items operand) (first ∷ behind.now)
@@ -69,11 +63,10 @@ fn advance<'a>(
     if is_blank(first) {
         return Ok((operand, behind));
     }
+    let left = behind.len().saturating_add(1);
     let (token, after) = token_at(first, behind);
-    match take(alloc, pending, operand, token, left) {
-        Ok(operand) => Ok((operand, after)),
-        Err(error) => Err(error),
-    }
+    let operand = take(alloc, pending, operand, token, left)?;
+    Ok((operand, after))
 }
 
 // Takes a token, where so many bytes are left, and returns the operand that was read then, unless
