@@ -1,5 +1,5 @@
 -- The levels of the grammar, and what waits at them.
-use Rattle.std.proofs.Common.{◌≡◌, ℕ, zero, suc, ◌+◌, ◌-◌, ◌<◌, ◌≤◌, List, [], ◌∷◌, Bool, true, false, cond, nat_eq, refl, sym, ap, ◌∙◌, subst, ⊎_elim, arith}
+use Rattle.std.proofs.Common.{◌≡◌, ℕ, zero, suc, ◌+◌, ◌-◌, ◌<◌, ◌≤◌, List, ◌∷◌, true, false, nat_eq, refl, sym, subst, ⊎_elim, arith}
 use Rattle.std.proofs.lemmas.Bool.{cond-false, cond-true}
 use Rattle.std.proofs.lemmas.Bool.Decides.{eqb_tells, leb_tells}
 use Rattle.std.specs.Prelude.{nat_le}
@@ -7,7 +7,7 @@ use Rattle.gettext_plural.specs.declared.token.Operator.{Operator}
 use Rattle.gettext_plural.specs.declared.token.Operator.TheVariants.{Or, And, Equal, Unequal, Below, Above, AtMost, AtLeast, Plus, Minus, Times, Over, Remainder}
 use Rattle.gettext_plural.specs.declared.token.Token.{Token}
 use Rattle.gettext_plural.specs.PluralExpressions.{Formula, joined, chosen, binding, Spells, spells_tighter}
-use Rattle.gettext_plural.specs.Inner.PluralMachine.{Waiting, bracket, negation, left_of, question, colon, unwind}
+use Rattle.gettext_plural.specs.Inner.PluralMachine.{Waiting, left_of, colon, unwind}
 
 pub binding_low : (o : Operator) → 1 ≤ binding o
 binding_low Or = omega arith

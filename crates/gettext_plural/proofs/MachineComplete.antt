@@ -1,9 +1,9 @@
 -- What the grammar spells is read.
-use Rattle.std.proofs.Common.{◌≡◌, ℕ, zero, suc, ◌<◌, ◌≤◌, List, [], ◌∷◌, ◌++◌, Ok, refl, sym, ap, ◌∙◌, arith, append_assoc}
+use Rattle.std.proofs.Common.{◌≡◌, ℕ, suc, ◌≤◌, List, [], ◌∷◌, ◌++◌, Ok, refl, sym, ap, ◌∙◌, arith, append_assoc}
 use Rattle.std.proofs.lemmas.List.{append-nil}
 use Rattle.gettext_plural.specs.declared.token.Operator.{Operator}
 use Rattle.gettext_plural.specs.declared.token.Token.{Token}
-use Rattle.gettext_plural.specs.declared.token.Token.TheVariants.{Number, N, Not, Joint, Question, Colon, Open, Close}
+use Rattle.gettext_plural.specs.declared.token.Token.TheVariants.{Not, Joint, Question, Colon, Open, Close}
 use Rattle.gettext_plural.specs.PluralExpressions.{Formula, number, the_n, negated, joined, chosen, binding}
 use Rattle.gettext_plural.specs.PluralExpressions.{Spells, spells_number, spells_n, spells_brackets, spells_negation, spells_join, spells_choice, spells_tighter}
 use Rattle.gettext_plural.specs.Inner.PluralMachine.{Waiting, bracket, negation, left_of, question, colon, expects, has, unwind, jointed, questioned, coloned, closed, finished, ended, proceed, run}

@@ -1,13 +1,13 @@
 -- What is read is what the grammar spells.
-use Rattle.std.proofs.Common.{◌≡◌, ℕ, zero, suc, ◌<◌, ◌≤◌, List, [], ◌∷◌, ◌++◌, Result, Ok, Err, refl, sym, ap, ◌∙◌, subst, ⊎_elim, arith, append_assoc}
+use Rattle.std.proofs.Common.{◌≡◌, ℕ, suc, ◌≤◌, List, [], ◌∷◌, ◌++◌, Result, Ok, Err, refl, sym, ap, ◌∙◌, subst, ⊎_elim, arith, append_assoc}
 use Rattle.std.proofs.lemmas.List.{append-nil}
 use Rattle.std.proofs.lemmas.Bool.{cases_lt}
 use Rattle.gettext_plural.specs.declared.error.FaultKind.{FaultKind}
 use Rattle.gettext_plural.specs.declared.token.Operator.{Operator}
 use Rattle.gettext_plural.specs.declared.token.Token.{Token}
 use Rattle.gettext_plural.specs.declared.token.Token.TheVariants.{Number, N, Not, Joint, Question, Colon, Open, Close, Junk}
-use Rattle.gettext_plural.specs.PluralExpressions.{Formula, number, the_n, negated, joined, chosen, binding}
-use Rattle.gettext_plural.specs.PluralExpressions.{Spells, spells_number, spells_n, spells_brackets, spells_negation, spells_join, spells_choice, spells_tighter}
+use Rattle.gettext_plural.specs.PluralExpressions.{Formula, negated, joined, chosen, binding}
+use Rattle.gettext_plural.specs.PluralExpressions.{Spells, spells_number, spells_n, spells_brackets, spells_negation, spells_join, spells_choice}
 use Rattle.gettext_plural.specs.Inner.PluralMachine.{Waiting, bracket, negation, left_of, question, colon, Stage, expects, has, unwind, step, whole, finish, ended, proceed, run, colon_stage, close_stage}
 use Rattle.gettext_plural.proofs.Levels.{binding_low, binding_high, loosened, left_ends, left_stays, colon_ends, colon_stays}
 

@@ -1,13 +1,12 @@
 -- Where the reader stops, the tokens before it are those of the beginning of an expression, and with
 -- the next one they are not.
-use Rattle.std.proofs.Common.{◌≡◌, ℕ, ◌≤◌, List, [], ◌∷◌, ◌++◌, Bool, true, false, cond, Result, Ok, Err, refl, sym, ap, ◌∙◌, subst, arith, append_assoc}
+use Rattle.std.proofs.Common.{◌≡◌, List, [], ◌∷◌, ◌++◌, true, false, cond, Result, Ok, Err, refl, sym, ap, ◌∙◌, subst, arith, append_assoc}
 use Rattle.std.proofs.lemmas.List.{append-nil}
 use Rattle.gettext_plural.specs.declared.error.FaultKind.{FaultKind}
 use Rattle.gettext_plural.specs.declared.error.FaultKind.TheVariants.{ExpectedOperand, ExpectedOperator, Unfinished}
-use Rattle.gettext_plural.specs.declared.token.Operator.{Operator}
 use Rattle.gettext_plural.specs.declared.token.Token.{Token}
 use Rattle.gettext_plural.specs.declared.token.Token.TheVariants.{Number, N, Not, Joint, Question, Colon, Open, Close, Junk}
-use Rattle.gettext_plural.specs.PluralExpressions.{Formula, the_n, negated, joined, chosen, binding, Spells}
+use Rattle.gettext_plural.specs.PluralExpressions.{Formula, the_n, negated, joined, chosen}
 use Rattle.gettext_plural.specs.PluralAnswers.{Begins, NoneGoesOn, behind_operand, end_in_operand, ends_operand, missing}
 use Rattle.gettext_plural.specs.Inner.PluralMachine.{Waiting, bracket, negation, left_of, question, colon, Outcome, Stage, expects, has, unwind, step, whole, finish, finished, ended, coloned, closed, proceed, run, colon_stage, close_stage}
 use Rattle.gettext_plural.proofs.Levels.{left_ends}

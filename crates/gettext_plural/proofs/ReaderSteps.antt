@@ -8,7 +8,7 @@ use Rattle.gettext_plural.specs.declared.token.Token.{Token}
 use Rattle.gettext_plural.specs.PluralExpressions.{Formula}
 use Rattle.gettext_plural.specs.PluralViews.{formula_view}
 use Rattle.gettext_plural.specs.PluralTokens.{AreTokensOf, at_end, at_blank, at_token, front, is_blank, is_end}
-use Rattle.gettext_plural.specs.Inner.FormulaViews.{Continued, HasTaken, IsFaultOr, IsFinish, IsReading, IsStopped, Reads, Stops}
+use Rattle.gettext_plural.specs.Inner.FormulaViews.{HasTaken, IsFaultOr, IsFinish, IsReading, IsStopped, Reads, Stops}
 use Rattle.gettext_plural.specs.Inner.PluralMachine.{Stage, expects, step, finish, ended, proceed, run}
 use Rattle.gettext_plural.proofs.TokenCuts.{front_ends, tokens_exist}
 

@@ -1,5 +1,5 @@
 -- What the reader of whole texts returns is the only answer.
-use Rattle.std.proofs.Common.{◌≡◌, ◌⊎◌, ℕ, ◌-◌, ◌<◌, ◌≤◌, List, [], ◌∷◌, ◌++◌, length, Bool, true, false, ◌&&◌, cond, Result, Ok, Err, refl, sym, ap, ◌∙◌, subst, inl, inr, ⊎_elim, arith}
+use Rattle.std.proofs.Common.{◌≡◌, ◌⊎◌, ℕ, ◌-◌, ◌<◌, ◌≤◌, List, [], ◌∷◌, ◌++◌, length, Result, Ok, Err, refl, sym, ap, ◌∙◌, subst, inl, inr, ⊎_elim, arith}
 use Rattle.std.proofs.lemmas.List.{append-nil}
 use Rattle.std.proofs.lemmas.Bool.{cases_lt}
 use Rattle.gettext_plural.specs.declared.error.Fault.{Fault}
@@ -14,9 +14,9 @@ use Rattle.gettext_plural.specs.declared.token.Token.{Token}
 use Rattle.gettext_plural.specs.PluralTokens.{AreTokensOf}
 use Rattle.gettext_plural.specs.PluralExpressions.{Formula, Forms, IsExpression, Spells}
 use Rattle.gettext_plural.specs.PluralHeaders.{header}
-use Rattle.gettext_plural.specs.PluralAnswers.{Begins, NoneGoesOn, HasExpressionFault, HasFault, HasFaultBefore, HasFaultBehind, HasFaultWithin, IsFaultOf, IsPluralForms, IsWhatIsSaid, ParsesExactly, SaysOrFails, missing}
+use Rattle.gettext_plural.specs.PluralAnswers.{NoneGoesOn, HasExpressionFault, HasFault, HasFaultBefore, HasFaultWithin, IsPluralForms, IsWhatIsSaid, ParsesExactly, SaysOrFails}
 use Rattle.gettext_plural.specs.Inner.PluralMachine.{Outcome, expects, run}
-use Rattle.gettext_plural.specs.Inner.FormulaViews.{HasRead, IsParsedError, Reads, Stops, StopsBehind, error_at}
+use Rattle.gettext_plural.specs.Inner.FormulaViews.{HasRead, IsParsedError, Reads, Stops, error_at}
 use Rattle.gettext_plural.proofs.MachineComplete.{read_whole}
 use Rattle.gettext_plural.proofs.MachineSound.{run_sound}
 use Rattle.gettext_plural.proofs.MachineStops.{IsFirst, is_first}

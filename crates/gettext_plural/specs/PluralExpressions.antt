@@ -2,7 +2,7 @@
 -- operators that bind alike group to the left, and `? :` groups to the right.
 --     Spells level tokens e
 --     IsExpression text e
-use Rattle.std.specs.Prelude.{◌≡◌, ℕ, suc, List, [], ◌∷◌, ◌++◌}
+use Rattle.std.specs.Prelude.{ℕ, suc, List, [], ◌∷◌, ◌++◌}
 use Rattle.gettext_plural.specs.declared.token.Operator.{Operator}
 use Rattle.gettext_plural.specs.declared.token.Operator.TheVariants.{Or, And, Equal, Unequal, Below, Above, AtMost, AtLeast, Plus, Minus, Times, Over, Remainder}
 use Rattle.gettext_plural.specs.declared.token.Token.{Token}

@@ -2,7 +2,7 @@
 -- of a number's form.
 --     formula_value e n      none after a division by 0
 --     index_of forms n
-use Rattle.std.specs.Prelude.{ℕ, zero, suc, ◌+◌, ◌*◌, ◌-◌, ◌/◌, ◌%◌, ◌^◌, Bool, cond, not, ◌&&◌, ◌||◌, nat_eq, nat_lt, nat_le, Option, Some, None, Result, Ok, Err}
+use Rattle.std.specs.Prelude.{ℕ, ◌+◌, ◌*◌, ◌-◌, ◌/◌, ◌%◌, ◌^◌, Bool, cond, not, ◌&&◌, ◌||◌, nat_eq, nat_lt, nat_le, Option, Some, None, Result, Ok, Err}
 use Rattle.gettext_plural.specs.declared.error.IndexError.{IndexError}
 use Rattle.gettext_plural.specs.declared.error.IndexError.TheVariants.{DividesByZero, TooLarge}
 use Rattle.gettext_plural.specs.declared.token.Operator.{Operator}

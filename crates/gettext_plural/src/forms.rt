@@ -5,7 +5,7 @@ ghost use Rattle.gettext_plural.specs.PluralValues.{below, index_of};
 ghost use Rattle.gettext_plural.specs.PluralAnswers.{ParsesExactly};
 ghost use Rattle.gettext_plural.specs.Inner.FormulaViews.{IsParsed, error_at};
 
-use crate::error::{IndexError, PluralFormsError, ReadError, FaultKind};
+use crate::error::{FaultKind, IndexError, PluralFormsError, ReadError};
 use crate::expression::Expression;
 use crate::header::header;
 use crate::reader::read;

@@ -1,7 +1,6 @@
 -- Not definitions of the subject: what private types stand for, and what private calls return, by
 -- the reader of expressions.
 use Rattle.std.specs.Prelude.{◌≡◌, ◌⊎◌, ℕ, ◌-◌, List, [], ◌∷◌, ◌++◌, length, true, Option, Some, None, Result, Ok, Err}
-use Rattle.gettext_plural.specs.declared.error.Fault.{Fault}
 use Rattle.gettext_plural.specs.declared.error.FaultKind.{FaultKind}
 use Rattle.gettext_plural.specs.declared.error.PluralFormsError as error
 use Rattle.gettext_plural.specs.declared.error.PluralFormsError.TheVariants as errors

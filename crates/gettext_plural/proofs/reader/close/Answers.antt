@@ -19,6 +19,6 @@ returns-else-is_bracket c =
     let operand = formula_view c.args.operand in
     let P : ReadError → Type 0 = λ e. IsFaultOr (closed (unwind 0 before operand)) c.args.left e in
     let stops = close_stops before operand c.unwind.new.pending.items c.pop.new.self.items c.in-Some.last c.in_ok-inner.inner c.in_ok-inner.ensures c.in-Some.ensures.items
-        (sym c.is_bracket.ensures ∙ c.if-is_bracket.false)
+    (sym c.is_bracket.ensures ∙ c.if-is_bracket.false)
     in
     subst P (sym c.fault-else-is_bracket.ensures) (refl, stops)

@@ -1,4 +1,4 @@
-use Rattle.std.proofs.Common.{◌≡◌, Option, None, Some, refl, sym, subst, ◌∙◌}
+use Rattle.std.proofs.Common.{◌≡◌, Option, None, Some, refl, sym, subst}
 use Rattle.std.specs.Prelude.{MatchOption}
 use Rattle.gettext_plural.specs.declared.error.ReadError.{ReadError}
 use Rattle.gettext_plural.specs.declared.expression.Expression.{Expression}
