@@ -1,6 +1,6 @@
 //! The kinds of the upper crates: `icu_plurals`, `plural_message`, `plural_checker`,
 //! `plural_fallback`, `message_report`, `form_commands`, `example_callers`, `message_pattern`,
-//! `message_format`, `plural_exports` and `po_catalog`.
+//! `message_format`, `gettext_plural`, `plural_exports` and `po_catalog`.
 
 mod callers;
 mod catalogs;
@@ -18,6 +18,7 @@ mod packed_texts;
 mod packing;
 mod pattern_texts;
 mod patterns;
+mod plural_forms;
 mod styled_patterns;
 
 use crate::call::Call;
@@ -37,6 +38,7 @@ pub fn make(kind: &str, call: &mut Call) -> bool {
         || patterns::make(kind, call)
         || styled_patterns::make(kind, call)
         || pattern_texts::make(kind, call)
+        || plural_forms::make(kind, call)
         || exports::make(kind, call)
         || exported_bytes::make(kind, call)
         || catalogs::make(kind, call)

@@ -1,0 +1,122 @@
+-- Not definitions of the subject: what private types stand for, and what private calls return, by
+-- the reader of expressions.
+use Rattle.std.specs.Prelude.{◌≡◌, ◌⊎◌, ℕ, ◌-◌, List, [], ◌∷◌, ◌++◌, length, true, Option, Some, None, Result, Ok, Err}
+use Rattle.gettext_plural.specs.declared.error.FaultKind.{FaultKind}
+use Rattle.gettext_plural.specs.declared.error.PluralFormsError as error
+use Rattle.gettext_plural.specs.declared.error.PluralFormsError.TheVariants as errors
+use Rattle.gettext_plural.specs.declared.error.ReadError.{ReadError}
+use Rattle.gettext_plural.specs.declared.error.ReadError.TheVariants as read
+use Rattle.gettext_plural.specs.declared.expression.Expression.{Expression}
+use Rattle.gettext_plural.specs.declared.forms.PluralForms.{PluralForms}
+use Rattle.gettext_plural.specs.declared.pending.Pending.{Pending}
+use Rattle.gettext_plural.specs.declared.pending.Pending.TheVariants.{Bracket, Negation, Left, Question, Colon}
+use Rattle.gettext_plural.specs.declared.token.Token.{Token}
+use Rattle.gettext_plural.specs.PluralTokens.{AreTokensOf}
+use Rattle.gettext_plural.specs.PluralExpressions.{Formula, Forms}
+use Rattle.gettext_plural.specs.PluralHeaders.{header}
+use Rattle.gettext_plural.specs.PluralViews.{formula_view, forms_of}
+use Rattle.gettext_plural.specs.Inner.PluralMachine.{Waiting, bracket, negation, left_of, question, colon, Stage, expects, has, closes, unwind, step, finish, run}
+
+-- ---- Views
+
+abbrev pub pending_view : Pending → Waiting
+pending_view Bracket = bracket
+pending_view Negation = negation
+pending_view (Left o a) = left_of o (formula_view a)
+pending_view (Question a) = question (formula_view a)
+pending_view (Colon a b) = colon (formula_view a) (formula_view b)
+
+-- the last comes first
+abbrev pub pendings_onto : List Pending → List Waiting → List Waiting
+pendings_onto [] ws = ws
+pendings_onto (p ∷ ps) ws = pendings_onto ps (pending_view p ∷ ws)
+
+abbrev pub pendings_view : List Pending → List Waiting
+pendings_view ps = pendings_onto ps []
+
+abbrev pub stage_view : List Pending → Option Expression → Stage
+stage_view ps None = expects (pendings_view ps)
+stage_view ps (Some e) = has (pendings_view ps) (formula_view e)
+
+-- ---- What the parts of the reader return
+
+-- the innermost, if it ends before such an operator
+abbrev pub IsPopped : ℕ → List Waiting → List Waiting → Option Pending → Type 0
+IsPopped m old new None = (new ≡ old) × ((e : Formula) → unwind m old e ≡ (old, e))
+IsPopped m old new (Some p) = (old ≡ pending_view p ∷ new) × (closes m (pending_view p) ≡ true)
+
+abbrev pub IsFaultOr : {A : Type 0} → Result A FaultKind → ℕ → ReadError → Type 0
+IsFaultOr answer left read.Memory = Unit {0}
+IsFaultOr answer left (read.Fault f) = (f.left ≡ left) × (answer ≡ Err f.kind)
+
+-- what a token does, where so many bytes are left
+abbrev pub IsStep : Stage → Token → ℕ → List Pending → Result (Option Expression) ReadError → Type 0
+IsStep s t left ps (Ok operand) = step s t ≡ Ok (stage_view ps operand)
+IsStep s t left ps (Err e) = IsFaultOr (step s t) left e
+
+-- what the end does
+abbrev pub IsFinish : Stage → ℕ → Result Expression ReadError → Type 0
+IsFinish s left (Ok e) = finish s ≡ Ok (formula_view e)
+IsFinish s left (Err e) = IsFaultOr (finish s) left e
+
+-- the reader stops with this fault where so many bytes are left
+pub record Stops (text : List ℕ) (kind : FaultKind) (left : ℕ) : Type 0 where
+  pub all : List Token
+  pub more : List Token
+  pub taken : List ℕ
+  pub rest : List ℕ
+  pub cut : AreTokensOf text all
+  pub parts : text ≡ taken ++ rest
+  pub remains : left ≡ length rest
+  pub there : AreTokensOf rest more
+  pub stops : run (expects []) all ≡ Err (kind, more)
+
+-- the reader reads this from the text
+abbrev pub Reads : List ℕ → Formula → Type 0
+Reads text e = (ts : List Token) × AreTokensOf text ts × (run (expects []) ts ≡ Ok e)
+
+-- all tokens, if these are the tokens of the rest
+pub record Continued (text : List ℕ) (s : Stage) (ts : List Token) : Type 0 where
+  pub all : List Token
+  pub cut : AreTokensOf text all
+  pub same : run (expects []) all ≡ run s ts
+
+-- the text is read up to the rest, which is behind these bytes, and leads to the stage
+pub record HasTaken (text : List ℕ) (s : Stage) (rest : List ℕ) : Type 0 where
+  pub taken : List ℕ
+  pub parts : text ≡ taken ++ rest
+  pub goes_on : (ts : List Token) → AreTokensOf rest ts → Continued text s ts
+
+abbrev pub IsStopped : List ℕ → ReadError → Type 0
+IsStopped text read.Memory = Unit {0}
+IsStopped text (read.Fault f) = Stops text f.kind f.left
+
+abbrev pub IsReading : List ℕ → Result Expression ReadError → Type 0
+IsReading text (Ok e) = Reads text (formula_view e)
+IsReading text (Err e) = IsStopped text e
+
+-- ---- A whole text
+
+pub record HasRead (text : List ℕ) (forms : Forms) : Type 0 where
+  pub rest : List ℕ
+  pub begins : header text ≡ Ok (forms.count, rest)
+  pub reads : Reads rest forms.formula
+
+pub record StopsBehind (text : List ℕ) (kind : FaultKind) (left : ℕ) : Type 0 where
+  pub count : ℕ
+  pub rest : List ℕ
+  pub begins : header text ≡ Ok (count, rest)
+  pub stops : Stops rest kind left
+
+abbrev pub IsParsedError : List ℕ → ReadError → Type 0
+IsParsedError text read.Memory = Unit {0}
+IsParsedError text (read.Fault f) = (header text ≡ Err f) ⊎ StopsBehind text f.kind f.left
+
+abbrev pub IsParsed : List ℕ → Result PluralForms ReadError → Type 0
+IsParsed text (Ok forms) = HasRead text (forms_of forms)
+IsParsed text (Err e) = IsParsedError text e
+
+-- the error, with the place of its fault
+abbrev pub error_at : List ℕ → ReadError → error.PluralFormsError
+error_at text read.Memory = errors.Memory
+error_at text (read.Fault f) = errors.Fault f.kind (length text - f.left)
