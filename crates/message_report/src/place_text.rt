@@ -118,11 +118,7 @@ fn form_text(alloc: Global, message: MessagePlace<'_>, name: &str) -> Result<Str
 }
 
 // Returns what is printed for a key of a message that names no form.
-fn other_key_text(
-    alloc: Global,
-    message: MessagePlace<'_>,
-    key: &str,
-) -> Result<String, AllocError>
+fn other_key_text(alloc: Global, message: MessagePlace<'_>, key: &str) -> Result<String, AllocError>
     ensures { IfOk result (λ text. string_bytes text ≡ named (message_place_text (message_place_view message.entry)) (name_text key.now)) }
 {
     let name = name_text(alloc, key)?;

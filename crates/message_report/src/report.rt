@@ -22,11 +22,7 @@ pub fn report_text(alloc: Global, found: &Found<'_>) -> Result<String, AllocErro
 }
 
 // Appends the line of each finding.
-fn push_lines(
-    alloc: Global,
-    text: &mut String,
-    findings: &[Finding<'_>],
-) -> Result<(), AllocError>
+fn push_lines(alloc: Global, text: &mut String, findings: &[Finding<'_>]) -> Result<(), AllocError>
     ensures { OnOk result (string_bytes text.new ≡ string_bytes text.old ++ flat_map printed_finding (map finding_view findings.now)) }
 {
     for finding in findings {

@@ -21,4 +21,4 @@ returns-in-Err-Fault c =
     (fault_found (languages_view c.args.languages.now) (pattern_place_view c.args.place) c.args.text.now c.as_bytes.result.now c.in-Err-Fault.kind
     c.in-Err-Fault.byte c.args.found.now c.add_no_pattern.new.found c.as_bytes.ensures.value
     (rw c.in-Err-Fault.field-0-is at c.in-Err-Fault.ensures))
-    c.add_no_pattern.ensures
+    (rw c.in-Err-Fault.field-0-is at c.add_no_pattern.ensures)
