@@ -23,4 +23,3 @@ mod plural_reference_rules;
 mod plural_reference_trees;
 mod plural_runtime_examples;
 mod plural_runtime_rules;
-mod po_catalog_growth;

@@ -4,7 +4,6 @@ use crate::tests::assertion::holds;
 use plural_documents::{
     JsonTextError, JsonTokens, Portion, Scratch, Sieve, json_outline, json_value,
 };
-use std::alloc::Global;
 use std::test::Fail;
 
 // The members with this key alone.
@@ -309,55 +308,4 @@ fn outlines_of_held_members(rt: HostRuntime) -> Result<(), Fail> {
         holds!(rt; printed.as_str() == want, key);
     }
     Ok(())
-}
-
-// Returns whether this is held of a document by two names; if nothing is told, it has to be no
-// JSON. `None` if memory ran out.
-fn reads_members(alloc: Global, text: &str, want: Option<&str>) -> Option<bool> {
-    let names = ["a", "b"];
-    let mut scratch = Scratch::new(alloc);
-    match (
-        JsonTokens::read_members(alloc, &names, text.as_bytes(), &mut scratch),
-        want,
-    ) {
-        (Ok(held), Some(want)) => {
-            let outline = held.outline(alloc, Any).ok()?;
-            let printed = outline.to_string(alloc).ok()?;
-            Some(printed.as_str() == want)
-        }
-        (Err(JsonTextError::Json), None) => Some(true),
-        (Err(JsonTextError::Memory), _) => None,
-        _ => Some(false),
-    }
-}
-
-// This runs under `rt try --test --fail-alloc N` for each N, and with memory too: at most one call
-// runs out of memory, and the others give their answers.
-#[test]
-fn growth_of_held_members(rt: HostRuntime) {
-    let rows = [
-        // Many tokens, and texts with escapes, in what is held and in what isn't.
-        (
-            "{\"b\": [1, 2, 3, 4, 5, 6, 7, 8, 9, 10, 11, 12, 13, 14, \"\\u00e9\"], \"c\": [\"\\u00e9\"]}",
-            Some("{\"b\":[1,2,3,4,5,6,7,8,9,10,11,12,13,14,\"é\"]}"),
-        ),
-        (
-            "{\"\\u0061\": {\"c\": [{}, [], null, true]}, \"c\": 1e308}",
-            Some("{\"a\":{\"c\":[{},[],null,true]}}"),
-        ),
-        // No object, nothing that is held, and faults.
-        ("[\"\\u00e9\", 2.5]", Some("[\"é\",2.5]")),
-        ("{\"c\": {\"a\": \"\\u00e9\"}}", Some("{}")),
-        ("{\"a\": \"\\u00e9\", \"c\": [1e999]}", None),
-        ("{\"a\": [1, 2, 3, 4, 5, 6]", None),
-    ];
-    let mut refused = 0u32;
-    for _ in 0..2u8 {
-        for (text, want) in rows {
-            let given = reads_members(rt.alloc(), text, want);
-            holds!(rt; given.unwrap_or(true), text);
-            refused = refused.saturating_add(u32::from(given.is_none()));
-        }
-    }
-    holds!(rt; refused <= 1, at refused);
 }
