@@ -199,7 +199,10 @@ fn quoted_bytes(call: &mut Call) {
 fn file_lines(call: &mut Call) {
     let text = call.text();
     let mut lines = Lines::of(text.as_bytes());
-    while let Some(line) = lines.next_line() {
+    for _ in 0..=text.len() {
+        let Some(line) = lines.next_line() else {
+            return;
+        };
         call.separate(" ");
         let number = line.number;
         let _ = write!(call, "{number}:");

@@ -3,7 +3,7 @@
 use crate::call::Call;
 use icu_plurals::JsonProvider;
 use message_report::run::run;
-use message_report::{Finding, MessageFile, RulesOfLocales, found_in_files};
+use message_report::{Finding, MessageFile, found_in_files};
 use plural_fallback::FallbackProvider;
 
 /// Makes the call of a kind of this file. Returns whether there is such a kind.
@@ -40,29 +40,24 @@ fn of_messages(call: &mut Call, printed: Printed) {
         document: &messages,
     };
     match printed {
-        Printed::Report => print_report(call, &source, file),
-        Printed::Findings => print_findings(call, &source, file),
-    }
-}
-
-// Prints the lines of the report of a file.
-fn print_report<S: RulesOfLocales>(call: &mut Call, source: &S, file: MessageFile<'_>) {
-    let mut report = Vec::new(call.alloc);
-    match run(call.alloc, source, &[file], &mut report) {
-        Ok(_) => print_lines(call, report.as_slice()),
-        Err(error) => call.print_error(&error),
-    }
-}
-
-// Prints the file, the place and the cause of each finding of a file.
-fn print_findings<S: RulesOfLocales>(call: &mut Call, source: &S, file: MessageFile<'_>) {
-    match found_in_files(call.alloc, source, &[file]) {
-        Ok(found) => {
-            for finding in found.findings() {
-                print_finding(call, finding);
+        Printed::Report => {
+            let mut report = Vec::new(call.alloc);
+            match run(call.alloc, &source, &[file], &mut report) {
+                Ok(_) => print_lines(call, report.as_slice()),
+                Err(error) => call.print_error(&error),
             }
         }
-        Err(_) => call.out_of_memory(),
+        Printed::Findings => match found_in_files(call.alloc, &source, &[file]) {
+            Ok(found) => print_findings(call, found.findings()),
+            Err(_) => call.out_of_memory(),
+        },
+    }
+}
+
+// Prints the file, the place and the cause of each finding.
+fn print_findings(call: &mut Call, findings: &[Finding<'_>]) {
+    for finding in findings {
+        print_finding(call, finding);
     }
 }
 
