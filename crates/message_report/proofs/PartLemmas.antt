@@ -1,5 +1,5 @@
 -- The members of a part.
-use Rattle.std.proofs.Common.{◌≡◌, ℕ, List, [], ◌∷◌, length, Bool, true, false, Some, None, refl, arith, String, Global}
+use Rattle.std.proofs.Common.{◌≡◌, List, [], ◌∷◌, length, Bool, true, false, Some, None, refl, arith, String, Global}
 use Rattle.std.specs.Prelude.{◌||◌, ◌↔◌, not, IsTrue, Option, is_some}
 use Rattle.icu_plurals.specs.declared.PluralRuleType.{PluralRuleType}
 use Rattle.icu_plurals.specs.declared.PluralRuleType.TheVariants.{Cardinal, Ordinal}

@@ -1,4 +1,4 @@
-use Rattle.std.proofs.Common.{◌-◌, List, length, take, drop, get_or, ap, refl, ◌∙◌}
+use Rattle.std.proofs.Common.{◌-◌, List, length, take, drop, get_or, ap, refl}
 use Rattle.icu_plurals.specs.Categories.{name_of}
 use Rattle.icu_plurals.specs.declared.PluralCategory.{PluralCategory}
 use Rattle.icu_plurals.specs.declared.PluralCategory.TheVariants.{Zero}
