@@ -1,7 +1,8 @@
 -- The notes of the keys under which rules are found, where these aren't the locales that are asked
 -- for.
 --     note_text place part locale key      the note of a key
---     IsNote document place part locale note      that of a locale, if it has a key
+--     IsKeyNote document place part locale note      that of a locale's first key, if it has one
+--     IsNote document place part locale note      the same, if the language is known
 --     AreFileNotes document files notes      those of the locales of files of messages
 --     IsNoted AreNotes IsResult input old new result      a result, and what was written of its
 --         notes
