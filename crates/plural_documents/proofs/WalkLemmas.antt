@@ -41,6 +41,9 @@ no_end variant.Null other is = absurd (cc)
 number_is_no_end : (n : Option Num) → Held.number n ≡ Held.end_array → ⊥
 number_is_no_end n is = absurd (cc)
 
+pub text_is_no_end : (s : List ℕ) → Held.string s ≡ Held.end_array → ⊥
+text_is_no_end s is = absurd (cc)
+
 -- what is no key doesn't stand for one
 pub no_key : (first : HeldToken) → ((name : Bor (List ℕ)) → first ≡ variant.Key name → ⊥) → (k : List ℕ) → held_token first ≡ Held.key k → ⊥
 no_key variant.BeginObject other k is = absurd (cc)

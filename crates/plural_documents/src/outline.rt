@@ -104,6 +104,9 @@ fn whole_items<S: Sieve>(
         match first {
             HeldToken::EndArray => break,
             HeldToken::Number(number) => items.push(Value::Number(number))?,
+            HeldToken::String(words) => {
+                items.push(Value::String(String::from_str(alloc, words)?))?
+            }
             _ => items.push(outlined::<S>(alloc, first, left, None)?)?,
         }
     }

@@ -1,4 +1,4 @@
-use Rattle.std.proofs.Common.{◌⊎◌, inl, inr, ◌≡◌, ℕ, suc, ◌≤◌, ◌∷◌, List, length, refl, sym, ap, subst, ◌∙◌, arith}
+use Rattle.std.proofs.Common.{◌⊎◌, inl, inr, ◌≡◌, ℕ, suc, ◌≤◌, ◌∷◌, List, length, None, refl, sym, ap, subst, ◌∙◌, arith}
 use Rattle.plural_documents.specs.Inner.HeldTokens.{Held, held_token}
 use Rattle.plural_documents.specs.declared.held_token.HeldToken.{HeldToken}
 use Rattle.plural_documents.specs.declared.held_token.HeldToken.TheVariants as variant
@@ -10,7 +10,7 @@ use Rattle.plural_documents.proofs.outline.+build.Goals as goal
 use Rattle.serde_json.specs.Data.{null}
 use Rattle.serde_json.specs.View.{members_view, view}
 use Rattle.serde_json.proofs.Views.{view-Array, view-Object}
-use Rattle.plural_documents.proofs.WalkLemmas.{MembersGoOn, item_added, items_ended, member_added, members_ended, members_not_cut, no_end, no_key, number_added}
+use Rattle.plural_documents.proofs.WalkLemmas.{MembersGoOn, item_added, items_ended, member_added, members_ended, members_not_cut, no_end, no_key, number_added, text_is_no_end}
 use Rattle.plural_documents.proofs.ItemLemmas.{items_after, with_no_more}
 use Rattle.plural_documents.proofs.outline.+build.Goals.{outlined_members-in-Some+in_default-first, outlined_members-in_default, whole_items-in-Some+in-EndArray, whole_items-in_default}
 
@@ -102,6 +102,18 @@ whole_items-loop-first-preserved-in_ok-push-in-Number g n c = (
       rw (c.in_ok-push-in-Number.ensures.items)
       (number_added g.S.Sieve.keeps c.loop-first.items.items _ now.0 c.next.new.self rest now.1 whole
       (sym (c.in-Some.ensures ∙ ap (λ t. held_token t ∷ c.next.new.self) c.in-Number.is) ∙ now.2) now.3 now.4)),
+  one_shorter (length c.next.new.self) (length c.next.new.self) (length c.loop-first.left) (length c.args.left.now)
+      (same_length (length c.next.new.self)) (ap length c.in-Some.ensures) c.loop-first.invariant.1,
+)
+
+pub whole_items-loop-first-preserved-in_ok-push-in-String : goal.whole_items-loop-first-preserved-in_ok-push-in-String
+whole_items-loop-first-preserved-in_ok-push-in-String g n c = (
+  (λ items rest whole is read.
+      let now = c.loop-first.invariant.0 items rest whole is read in
+      rw (c.in_ok-push-in-String.ensures.items)
+      (item_added g.S.Sieve.keeps c.loop-first.items.items _ now.0 (Held.string _) c.next.new.self rest c.next.new.self now.1 whole
+      (sym (c.in-Some.ensures ∙ ap (λ t. held_token t ∷ c.next.new.self) c.in-String.is) ∙ now.2) (text_is_no_end _) now.3 now.4
+      (rw (view_string _, c.in_ok-from_str-in-String.ensures.ok) (string_outlined g.S.Sieve.keeps None _ c.next.new.self)))),
   one_shorter (length c.next.new.self) (length c.next.new.self) (length c.loop-first.left) (length c.args.left.now)
       (same_length (length c.next.new.self)) (ap length c.in-Some.ensures) c.loop-first.invariant.1,
 )
