@@ -1,5 +1,5 @@
 -- What is held of a token that comes.
-use Rattle.std.proofs.Common.{◌≡◌, List, ◌∷◌, Bool, true, false, Some, None}
+use Rattle.std.proofs.Common.{◌≡◌, Bool, true, false, Some, None}
 use Rattle.std.specs.Bool.{MatchBool}
 use Rattle.std.specs.Prelude.{Option, MatchOption, if◌then◌else◌}
 use Rattle.json.specs.Token.{Token}

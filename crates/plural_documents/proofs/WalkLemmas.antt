@@ -103,7 +103,7 @@ module _ {S : Type 0} (keeps : S → List ℕ → Portion S) where
       → ItemsGoOn (values ++ value.Number n ∷ []) ts rest whole
   number_added values n others ts rest more whole is read so_far =
       item_added values (value.Number n) others (Held.number (Some (number_view n))) ts rest ts more whole is (number_is_no_end (Some (number_view n)))
-          read so_far (rw (view_number n) (number_outlined keeps None (number_view n) ts))
+      read so_far (rw (view_number n) (number_outlined keeps None (number_view n) ts))
 
   -- ---- Members
 

@@ -55,9 +55,5 @@ impl<'a> HeldToken<'a> {
 fn held_if<'a>(comes: bool, held: HeldToken<'a>) -> Option<HeldToken<'a>>
     ensures { result ≡ (if comes then Some held.entry else None) }
 {
-    if comes {
-        Some(held)
-    } else {
-        None
-    }
+    if comes { Some(held) } else { None }
 }

@@ -17,8 +17,7 @@ returns-in-String c =
 pub returns-in-Some : goal.returns-in-Some
 returns-in-Some c =
     let token = Token.number c.in-Number.text.now in
-    let is : Some (number_view c.in-Some.number) ≡ number_of c.in-Number.text.now =
-        ap (option_map number_view) (sym c.in-Some.is) ∙ c.json_number.ensures in
+    let is : Some (number_view c.in-Some.number) ≡ number_of c.in-Number.text.now = ap (option_map number_view) (sym c.in-Some.is) ∙ c.json_number.ensures in
     rw (c.in-Number.is)
     (held_if_it_comes c.pass_scalar-in-Some.result c.args.place.now token c.pass_scalar-in-Some.new.self _ c.held_if-in-Some.result
     (c.pass_scalar-in-Some.ensures token refl) (ap is_some (sym is)) (ap Held.number is) c.held_if-in-Some.ensures)
