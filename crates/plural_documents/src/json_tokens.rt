@@ -105,10 +105,7 @@ fn read_tokens<'a>(
     let mut is_held = true;
     while let Some(token) = reader.next() {
         let is_outermost = place.is_outermost();
-        if !place.pass(token) {
-            return Err(JsonTextError::Json);
-        }
-        let Some(held) = HeldToken::of(token) else {
+        let Some(held) = HeldToken::of(token, &mut place) else {
             return Err(JsonTextError::Json);
         };
         is_held = is_held_after(is_outermost, is_held, names, held);
