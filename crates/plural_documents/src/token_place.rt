@@ -1,7 +1,7 @@
 //! Which tokens may come at a place of a JSON text.
 
 ghost use Rattle.std.specs.Bool.{MatchBool};
-ghost use Rattle.std.specs.Prelude.{◌≡◌, ◌==◌, [], length, true};
+ghost use Rattle.std.specs.Prelude.{◌≡◌, [], length, true};
 ghost use Rattle.json.specs.Token.{key};
 ghost use Rattle.plural_documents.specs.Inner.OpenBrackets.{GoesByScalar, IsAfter, IsRefused, Passes, beginning, ending, goes_on, may_have_value};
 
@@ -33,25 +33,19 @@ impl TokenPlace {
         !self.is_due && self.open.innermost().is_none()
     }
 
-    // Returns whether it is right in the outermost object or array.
+    // Returns how many objects and arrays are open.
     #[inline(always)]
-    pub(crate) fn is_outermost(&self) -> bool
-        ensures { result ≡ (length self.now.open == 1) }
+    pub(crate) fn depth(&self) -> u32
+        ensures { result ≡ length self.now.open }
     {
-        self.open.depth() == 1
+        self.open.depth()
     }
 
     // Returns whether it goes on in an object, if this is true, or in an array.
     fn goes_on(&self, is_object: bool) -> bool
         ensures { result ≡ goes_on is_object self.now.is_due self.now.open }
     {
-        if self.is_due {
-            return false;
-        }
-        match self.open.innermost() {
-            Some(first) => first == is_object,
-            None => false,
-        }
+        !self.is_due && self.open.is_in(is_object)
     }
 
     // Returns whether a value may come.
