@@ -52,10 +52,9 @@ try_program() {
             echo "$name: the program could not be compiled" >&2
             exit 70
         fi
-        # A clone that can't be written to, or was edited meanwhile, keeps none.
-        if [ "$(tried_from | sha256sum)" = "$from" ] && mkdir -p "${kept%/*}" 2>/dev/null; then
-            rm -f "${kept%/*}"/*
-            cp "$program" "$kept.new" && mv "$kept.new" "$kept"
+        # A clone that was edited meanwhile, or can't be written to, keeps none.
+        if [ "$(tried_from | sha256sum)" = "$from" ]; then
+            { mkdir -p "${kept%/*}" && rm -f "${kept%/*}"/* && cp "$program" "$kept.$$" && mv "$kept.$$" "$kept"; } 2>/dev/null || true
         fi
     fi
     echo "$name: this run isn't proved; tools/build proves the program and keeps it" >&2
