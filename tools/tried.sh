@@ -40,7 +40,7 @@ try_program() {
     kept=$crate/out/tried/${from%% *}
     program=$kept
     if [ ! -x "$kept" ]; then
-        echo "$name: compiling the program, for up to a minute; the next calls find it" >&2
+        echo "$name: compiling the program takes about a minute; the next calls find it" >&2
         room=$(mktemp -d)
         trap 'rm -rf "$room"' EXIT
         trap 'exit 130' INT
