@@ -5,6 +5,7 @@ pub mod JsonTextLemmas
 pub mod HeldLemmas
 pub mod HeldOutlines
 pub mod HeldPartLemmas
+pub mod HeldTokenLemmas
 pub mod HeldValues
 pub mod OutlineLemmas
 pub mod KindLemmas

@@ -186,9 +186,3 @@ module _ (most : ℕ) where
   no_scalar t false [] ts is may comes = nothing_left t ts comes
   no_scalar t false (true ∷ opened) ts is may comes = in_object t opened ts is (follows most [] false (true ∷ opened) t ts comes)
   no_scalar t false (false ∷ opened) ts is may comes = absurd (true≢false may)
-
-  pub no_bad : (is_due : Bool) (opened : List Bool) (ts : List Token) → Next is_due opened (Token.bad ∷ ts) → ⊥
-  no_bad true opened ts comes = follows most [] true opened Token.bad ts comes
-  no_bad false [] ts comes = nothing_left Token.bad ts comes
-  no_bad false (true ∷ opened) ts comes = follows most [] false (true ∷ opened) Token.bad ts comes
-  no_bad false (false ∷ opened) ts comes = follows most [] false (false ∷ opened) Token.bad ts comes

@@ -11,12 +11,14 @@ use Rattle.plural_documents.specs.declared.outline.Portion.{Portion}
 use Rattle.plural_documents.proofs.ItemLemmas.{after_one_more, items_after}
 use Rattle.plural_documents.proofs.HeldLemmas.{no_members_left, rest_of}
 use Rattle.plural_documents.proofs.OpenLemmas.{joined}
-use Rattle.plural_documents.proofs.OutlinedLemmas.{held_map, some_is}
+use Rattle.plural_documents.proofs.OutlinedLemmas.{held_map, number_outlined, some_is, view_number}
 use Rattle.plural_documents.proofs.OutlineLemmas.{AreSorted, members_put, sorted_put}
-use Rattle.serde_json.specs.Data.{Items, no_items, item, Members, put}
+use Rattle.serde_json.specs.Data.{Items, no_items, item, Members, Num, put}
 use Rattle.serde_json.specs.Read.{of_items, of_json, of_members}
-use Rattle.serde_json.specs.View.{view}
+use Rattle.serde_json.specs.View.{number_view, view}
+use Rattle.serde_json.specs.declared.number.Number.{Number}
 use Rattle.serde_json.specs.declared.value.Value.{Value}
+use Rattle.serde_json.specs.declared.value.Value.TheVariants as value
 
 pub held_then : {A B : Type 0} (o : Option A) (next : A → Option B) (b : B) → option_and_then next o ≡ Some b → (a : A) × (o ≡ Some a) × (next a ≡ Some b)
 held_then None next b is = absurd (cc)
@@ -35,6 +37,12 @@ no_end (variant.String s) other is = absurd (cc)
 no_end (variant.Number s) other is = absurd (cc)
 no_end (variant.Bool b) other is = absurd (cc)
 no_end variant.Null other is = absurd (cc)
+
+number_is_no_end : (n : Option Num) → Held.number n ≡ Held.end_array → ⊥
+number_is_no_end n is = absurd (cc)
+
+pub text_is_no_end : (s : List ℕ) → Held.string s ≡ Held.end_array → ⊥
+text_is_no_end s is = absurd (cc)
 
 -- what is no key doesn't stand for one
 pub no_key : (first : HeldToken) → ((name : Bor (List ℕ)) → first ≡ variant.Key name → ⊥) → (k : List ℕ) → held_token first ≡ Held.key k → ⊥
@@ -88,6 +96,14 @@ module _ {S : Type 0} (keeps : S → List ℕ → Portion S) where
         so_far ∙ ap (items_after values) (after.2 ∙ ap (λ d. item d after.0) (some_is first.0 (view value) kept.1))
             ∙ sym (after_one_more values value after.0),
       )
+
+  -- one more number
+  pub number_added : (values : List Value) (n : Number) (others : json.Items) (ts rest : List Held) (more whole : Items)
+      → Held.number (Some (number_view n)) ∷ ts ≡ held_items others ++ rest → of_items others ≡ Some more → whole ≡ items_after values more
+      → ItemsGoOn (values ++ value.Number n ∷ []) ts rest whole
+  number_added values n others ts rest more whole is read so_far =
+      item_added values (value.Number n) others (Held.number (Some (number_view n))) ts rest ts more whole is (number_is_no_end (Some (number_view n)))
+      read so_far (rw (view_number n) (number_outlined keeps None (number_view n) ts))
 
   -- ---- Members
 

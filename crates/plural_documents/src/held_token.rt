@@ -1,11 +1,12 @@
 //! The tokens of a JSON text that are held.
 
-ghost use Rattle.std.specs.Prelude.{◌≡◌, false, true, MatchOption};
+ghost use Rattle.std.specs.Prelude.{◌≡◌, MatchOption, Some, None, if◌then◌else◌};
 ghost use Rattle.json.specs.Reads.{token_of};
-ghost use Rattle.plural_documents.specs.Inner.HeldParts.{fits};
-ghost use Rattle.plural_documents.specs.Inner.HeldTokens.{held_of, held_token};
+ghost use Rattle.plural_documents.specs.Inner.HeldParts.{IsHeldAt, IsUnfit};
+ghost use Rattle.plural_documents.specs.Inner.HeldTokens.{held_token};
 
 use crate::json_number::json_number;
+use crate::token_place::TokenPlace;
 use json::Token;
 use serde_json::Number;
 
@@ -24,26 +25,35 @@ pub(crate) enum HeldToken<'a> {
 }
 
 impl<'a> HeldToken<'a> {
-    // Returns what is held of a token, unless it is a number that is too large, or a fault.
+    // Goes on behind a token, and returns what is held of it, unless it may not come there, is a
+    // number that is too large, or a fault.
     #[inline(always)]
-    pub(crate) fn of(token: Token<'a>) -> Option<HeldToken<'a>>
-        ensures { MatchOption result (fits (token_of token.entry) ≡ false)
-            (λ held. (fits (token_of token.entry) ≡ true) × (held_token held ≡ held_of (token_of token.entry))) }
+    pub(crate) fn of(token: Token<'a>, place: &mut TokenPlace) -> Option<HeldToken<'a>>
+        ensures { MatchOption result (IsUnfit place.old (token_of token.entry))
+            (λ held. IsHeldAt place.old (token_of token.entry) place.new (held_token held)) }
     {
         match token {
-            Token::BeginObject => Some(HeldToken::BeginObject),
-            Token::EndObject => Some(HeldToken::EndObject),
-            Token::BeginArray => Some(HeldToken::BeginArray),
-            Token::EndArray => Some(HeldToken::EndArray),
-            Token::Key(name) => Some(HeldToken::Key(name)),
-            Token::String(text) => Some(HeldToken::String(text)),
+            Token::BeginObject => held_if(place.begin(true), HeldToken::BeginObject),
+            Token::BeginArray => held_if(place.begin(false), HeldToken::BeginArray),
+            Token::EndObject => held_if(place.end(true), HeldToken::EndObject),
+            Token::EndArray => held_if(place.end(false), HeldToken::EndArray),
+            Token::Key(name) => held_if(place.pass_key(name), HeldToken::Key(name)),
+            Token::String(text) => held_if(place.pass_scalar(), HeldToken::String(text)),
             Token::Number(text) => match json_number(text) {
-                Some(number) => Some(HeldToken::Number(number)),
+                Some(number) => held_if(place.pass_scalar(), HeldToken::Number(number)),
                 None => None,
             },
-            Token::Bool(truth) => Some(HeldToken::Bool(truth)),
-            Token::Null => Some(HeldToken::Null),
+            Token::Bool(truth) => held_if(place.pass_scalar(), HeldToken::Bool(truth)),
+            Token::Null => held_if(place.pass_scalar(), HeldToken::Null),
             Token::Bad => None,
         }
     }
+}
+
+// Returns what is held of a token, if it may come.
+#[inline(always)]
+fn held_if<'a>(comes: bool, held: HeldToken<'a>) -> Option<HeldToken<'a>>
+    ensures { result ≡ (if comes then Some held.entry else None) }
+{
+    if comes { Some(held) } else { None }
 }

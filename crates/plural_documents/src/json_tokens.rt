@@ -1,6 +1,6 @@
 //! The tokens of a JSON text, read once.
 
-ghost use Rattle.std.specs.Prelude.{◌≡◌, ◌<◌, ◌++◌, [], ◌∷◌, Err, IfOk, OnOk, Some, None, length, map, if◌then◌else◌};
+ghost use Rattle.std.specs.Prelude.{◌≡◌, ◌==◌, ◌<◌, ◌++◌, [], ◌∷◌, Err, IfOk, OnOk, Some, None, length, map, if◌then◌else◌};
 ghost use Rattle.plural_documents.specs.Inner.HeldParts.{AreHeld, AreNoTokens, given_names, is_held_after, is_held_name, names_view};
 ghost use Rattle.plural_documents.specs.Inner.HeldTokens.{held_token};
 ghost use Rattle.plural_documents.specs.Outlines.{GivesHeldText, is_named};
@@ -104,14 +104,11 @@ fn read_tokens<'a>(
     let mut place = TokenPlace::start();
     let mut is_held = true;
     while let Some(token) = reader.next() {
-        let is_outermost = place.is_outermost();
-        if !place.pass(token) {
-            return Err(JsonTextError::Json);
-        }
-        let Some(held) = HeldToken::of(token) else {
+        let depth = place.depth();
+        let Some(held) = HeldToken::of(token, &mut place) else {
             return Err(JsonTextError::Json);
         };
-        is_held = is_held_after(is_outermost, is_held, names, held);
+        is_held = is_held_after(depth, is_held, names, held);
         if hold(is_held, held, &mut tokens).is_err() {
             return Err(JsonTextError::Memory);
         }
@@ -139,17 +136,12 @@ fn hold<'a>(
 }
 
 // Returns whether a token is held, and what comes after it, up to the next token that tells: in the
-// outermost object a key, and its end.
+// outermost object, where as many are open, a key, and its end.
 #[inline(always)]
-fn is_held_after(
-    is_outermost: bool,
-    is_held: bool,
-    names: Option<&[&str]>,
-    held: HeldToken<'_>,
-) -> bool
-    ensures { result ≡ is_held_after (is_held_name (given_names names.entry)) is_outermost (held_token held.entry) is_held }
+fn is_held_after(depth: u32, is_held: bool, names: Option<&[&str]>, held: HeldToken<'_>) -> bool
+    ensures { result ≡ is_held_after (is_held_name (given_names names.entry)) (depth == 1) (held_token held.entry) is_held }
 {
-    if !is_outermost {
+    if depth != 1 {
         return is_held;
     }
     match held {

@@ -2,7 +2,7 @@
 
 ghost use Rattle.std.specs.Prelude.{◌≡◌, ◌<◌, ◌≤◌, [], ◌∷◌, drop, length};
 ghost use Rattle.std.specs.Bool.{MatchBool};
-ghost use Rattle.plural_documents.specs.Inner.OpenKinds.{innermost};
+ghost use Rattle.plural_documents.specs.Inner.OpenKinds.{innermost, is_in};
 
 use std::marker::Model;
 
@@ -46,6 +46,18 @@ impl Nesting {
             return None;
         }
         Some(self.objects % 2 == 1)
+    }
+
+    // Returns whether the innermost is an object, if this is true, or an array.
+    #[inline(always)]
+    pub(crate) fn is_in(&self, is_object: bool) -> bool
+        ensures { result ≡ is_in is_object self.now }
+    {
+        if is_object {
+            self.objects % 2 == 1
+        } else {
+            self.count > 0 && self.objects % 2 == 0
+        }
     }
 
     // Returns how many are open.

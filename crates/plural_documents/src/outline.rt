@@ -101,10 +101,14 @@ fn whole_items<S: Sieve>(
 {
     let mut items = Vec::new(alloc);
     while let Some(first) = left.next() {
-        if let HeldToken::EndArray = first {
-            break;
+        match first {
+            HeldToken::EndArray => break,
+            HeldToken::Number(number) => items.push(Value::Number(number))?,
+            HeldToken::String(words) => {
+                items.push(Value::String(String::from_str(alloc, words)?))?
+            }
+            _ => items.push(outlined::<S>(alloc, first, left, None)?)?,
         }
-        items.push(outlined::<S>(alloc, first, left, None)?)?;
     }
     Ok(items)
 }

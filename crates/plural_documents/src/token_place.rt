@@ -1,13 +1,11 @@
 //! Which tokens may come at a place of a JSON text.
 
 ghost use Rattle.std.specs.Bool.{MatchBool};
-ghost use Rattle.std.specs.Prelude.{◌≡◌, ◌==◌, [], length, true};
-ghost use Rattle.json.specs.Reads.{token_of};
+ghost use Rattle.std.specs.Prelude.{◌≡◌, [], length, true};
 ghost use Rattle.json.specs.Token.{key};
 ghost use Rattle.plural_documents.specs.Inner.OpenBrackets.{GoesByScalar, IsAfter, IsRefused, Passes, beginning, ending, goes_on, may_have_value};
 
 use crate::nesting::Nesting;
-use json::Token;
 
 // A place of a text: what is open there, and whether a value has to come, as at the start and after
 // a key.
@@ -35,42 +33,19 @@ impl TokenPlace {
         !self.is_due && self.open.innermost().is_none()
     }
 
-    // Returns whether it is right in the outermost object or array.
+    // Returns how many objects and arrays are open.
     #[inline(always)]
-    pub(crate) fn is_outermost(&self) -> bool
-        ensures { result ≡ (length self.now.open == 1) }
+    pub(crate) fn depth(&self) -> u32
+        ensures { result ≡ length self.now.open }
     {
-        self.open.depth() == 1
-    }
-
-    // Goes on behind a token. It may not come here if this is false.
-    pub(crate) fn pass(&mut self, token: Token<'_>) -> bool
-        ensures { MatchBool result (Passes self.old (token_of token.entry) self.new) (IsRefused self.old (token_of token.entry)) }
-    {
-        match token {
-            Token::BeginObject => self.begin(true),
-            Token::BeginArray => self.begin(false),
-            Token::EndObject => self.end(true),
-            Token::EndArray => self.end(false),
-            Token::Key(name) => self.pass_key(name),
-            Token::Null | Token::Bool(_) | Token::Number(_) | Token::String(_) => {
-                self.pass_scalar()
-            }
-            Token::Bad => false,
-        }
+        self.open.depth()
     }
 
     // Returns whether it goes on in an object, if this is true, or in an array.
     fn goes_on(&self, is_object: bool) -> bool
         ensures { result ≡ goes_on is_object self.now.is_due self.now.open }
     {
-        if self.is_due {
-            return false;
-        }
-        match self.open.innermost() {
-            Some(first) => first == is_object,
-            None => false,
-        }
+        !self.is_due && self.open.is_in(is_object)
     }
 
     // Returns whether a value may come.
@@ -80,8 +55,8 @@ impl TokenPlace {
         self.is_due || self.goes_on(false)
     }
 
-    // Goes on in an object or an array.
-    fn begin(&mut self, is_object: bool) -> bool
+    // Goes on in an object or an array. It may not come here if this is false.
+    pub(crate) fn begin(&mut self, is_object: bool) -> bool
         ensures { MatchBool result (Passes self.old (beginning is_object) self.new) (IsRefused self.old (beginning is_object)) }
     {
         if !self.may_have_value() {
@@ -91,8 +66,8 @@ impl TokenPlace {
         self.open.open(is_object)
     }
 
-    // Goes on behind an object or an array.
-    fn end(&mut self, is_object: bool) -> bool
+    // Goes on behind an object or an array, unless it is false.
+    pub(crate) fn end(&mut self, is_object: bool) -> bool
         ensures { MatchBool result (Passes self.old (ending is_object) self.new) (IsRefused self.old (ending is_object)) }
     {
         if !self.goes_on(is_object) {
@@ -102,8 +77,8 @@ impl TokenPlace {
         true
     }
 
-    // Goes on behind a key.
-    fn pass_key(&mut self, name: &str) -> bool
+    // Goes on behind a key, unless it is false.
+    pub(crate) fn pass_key(&mut self, name: &str) -> bool
         ensures { MatchBool result (Passes self.old (key name.now) self.new) (IsRefused self.old (key name.now)) }
     {
         if !self.goes_on(true) {
@@ -113,8 +88,8 @@ impl TokenPlace {
         true
     }
 
-    // Goes on behind a value that is no object and no array.
-    fn pass_scalar(&mut self) -> bool
+    // Goes on behind a value that is no object and no array, unless it is false.
+    pub(crate) fn pass_scalar(&mut self) -> bool
         ensures { GoesByScalar result self.old self.new }
     {
         if !self.may_have_value() {

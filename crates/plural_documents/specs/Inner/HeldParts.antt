@@ -1,13 +1,14 @@
 -- Not a definition of the subject: which tokens of a JSON text are held.
-use Rattle.std.specs.Prelude.{◌≡◌, ℕ, List, [], map, Bool, true, false, is_some, Option, Some, None, option_map, if◌then◌else◌}
+use Rattle.std.specs.Prelude.{◌≡◌, ℕ, List, [], ◌∷◌, map, Bool, true, false, is_some, Option, Some, None, option_map, if◌then◌else◌}
 use Rattle.std.specs.Borrow.{Bor}
 use Rattle.std.specs.List.{list_all}
 use Rattle.json.specs.Json as json
 use Rattle.json.specs.Token.{Token}
 use Rattle.json.specs.Tree.{json_tokens}
-use Rattle.plural_documents.specs.Inner.HeldTokens.{Held, held_tokens}
-use Rattle.plural_documents.specs.Inner.OpenBrackets.{Comes, most_open}
+use Rattle.plural_documents.specs.Inner.HeldTokens.{Held, held_of, held_tokens}
+use Rattle.plural_documents.specs.Inner.OpenBrackets.{Comes, IsAfter, Passes, most_open}
 use Rattle.plural_documents.specs.Outlines.{HeldText, IsHeld, is_named}
+use Rattle.plural_documents.specs.declared.token_place.TokenPlace.{TokenPlace}
 use Rattle.serde_json.specs.Data.{Data}
 use Rattle.serde_json.specs.Read.{number_of, of_json}
 
@@ -70,6 +71,14 @@ fits (Token.number text) = is_some (number_of text)
 fits (Token.boolean truth) = true
 fits Token.null = true
 fits Token.bad = false
+
+-- the token comes after the old place and fits, what comes after it comes after the new one, and this is held of it
+abbrev pub IsHeldAt : TokenPlace → Token → TokenPlace → Held → Type 0
+IsHeldAt old token new held = Passes old token new × (fits token ≡ true) × (held ≡ held_of token)
+
+-- it doesn't come after the place, or doesn't fit
+abbrev pub IsUnfit : TokenPlace → Token → Type 0
+IsUnfit place token = (tokens : List Token) → IsAfter place (token ∷ tokens) → fits token ≡ true → ⊥
 
 -- the tokens of a text are those of one value, as serde_json reads it, and these are held of them
 abbrev pub AreHeld : (List ℕ → Bool) → List Token → List Held → Type 0

@@ -1,11 +1,12 @@
 -- Not a definition of the subject: what is open at a place of a JSON text, and which tokens may come
 -- there.
-use Rattle.std.specs.Prelude.{◌≡◌, ℕ, suc, ◌-◌, ◌≤◌, List, [], ◌∷◌, ◌++◌, length, Bool, true, false, not}
+use Rattle.std.specs.Prelude.{◌≡◌, ℕ, suc, ◌-◌, ◌≤◌, List, [], ◌∷◌, ◌++◌, length, Bool, true, false}
 use Rattle.std.specs.Bool.{MatchBool}
 use Rattle.json.specs.Json.{Json, Items, Members}
 use Rattle.json.specs.Token.{Token}
 use Rattle.json.specs.Tree.{depth, items_depth, items_tokens, json_tokens, members_depth, members_tokens}
 use Rattle.plural_documents.specs.Inner.HeldTokens.{held_of, opened_after}
+use Rattle.plural_documents.specs.Inner.OpenKinds.{is_in}
 use Rattle.plural_documents.specs.declared.token_place.TokenPlace.{TokenPlace}
 
 -- ---- What completes it
@@ -55,9 +56,7 @@ IsRefused place token = (tokens : List Token) → IsAfter place (token ∷ token
 -- it goes on in an object, if this is true, or in an array
 abbrev pub goes_on : Bool → Bool → List Bool → Bool
 goes_on is_object true opened = false
-goes_on is_object false [] = false
-goes_on true false (first ∷ opened) = first
-goes_on false false (first ∷ opened) = not first
+goes_on is_object false opened = is_in is_object opened
 
 -- a value may come
 abbrev pub may_have_value : Bool → List Bool → Bool

@@ -1,4 +1,4 @@
-use Rattle.std.proofs.Common.{◌⊎◌, inl, inr, ◌≡◌, ℕ, suc, ◌≤◌, ◌∷◌, List, length, refl, sym, ap, subst, ◌∙◌, arith}
+use Rattle.std.proofs.Common.{◌⊎◌, inl, inr, ◌≡◌, ℕ, suc, ◌≤◌, ◌∷◌, List, length, None, refl, sym, ap, subst, ◌∙◌, arith}
 use Rattle.plural_documents.specs.Inner.HeldTokens.{Held, held_token}
 use Rattle.plural_documents.specs.declared.held_token.HeldToken.{HeldToken}
 use Rattle.plural_documents.specs.declared.held_token.HeldToken.TheVariants as variant
@@ -10,12 +10,15 @@ use Rattle.plural_documents.proofs.outline.+build.Goals as goal
 use Rattle.serde_json.specs.Data.{null}
 use Rattle.serde_json.specs.View.{members_view, view}
 use Rattle.serde_json.proofs.Views.{view-Array, view-Object}
-use Rattle.plural_documents.proofs.WalkLemmas.{MembersGoOn, item_added, items_ended, member_added, members_ended, members_not_cut, no_end, no_key}
+use Rattle.plural_documents.proofs.WalkLemmas.{MembersGoOn, item_added, items_ended, member_added, members_ended, members_not_cut, no_end, no_key, number_added, text_is_no_end}
 use Rattle.plural_documents.proofs.ItemLemmas.{items_after, with_no_more}
 use Rattle.plural_documents.proofs.outline.+build.Goals.{outlined_members-in-Some+in_default-first, outlined_members-in_default, whole_items-in-Some+in-EndArray, whole_items-in_default}
 
 one_shorter : (n m k most : ℕ) → n ≤ m → k ≡ suc m → k ≤ most → n ≤ most
 one_shorter n m k most less more within = omega arith
+
+same_length : (n : ℕ) → n ≤ n
+same_length n = omega arith
 
 pub keep_member-returns-in_default-clause-keeps : goal.keep_member-returns-in_default-clause-keeps
 keep_member-returns-in_default-clause-keeps g n c value rest whole is read = absurd (no_value value rest (sym c.in_default.ensures.0 ∙ is))
@@ -92,15 +95,38 @@ put_outlined-returns-clause-puts g n c =
     (members_view c.args.members.now.entries) (members_view c.put_value.new.members.entries) c.in_ok-value.ensures.outlined)
     c.put_value.ensures
 
+pub whole_items-loop-first-preserved-in_ok-push-in-Number : goal.whole_items-loop-first-preserved-in_ok-push-in-Number
+whole_items-loop-first-preserved-in_ok-push-in-Number g n c = (
+  (λ items rest whole is read.
+      let now = c.loop-first.invariant.0 items rest whole is read in
+      rw (c.in_ok-push-in-Number.ensures.items)
+      (number_added g.S.Sieve.keeps c.loop-first.items.items _ now.0 c.next.new.self rest now.1 whole
+      (sym (c.in-Some.ensures ∙ ap (λ t. held_token t ∷ c.next.new.self) c.in-Number.is) ∙ now.2) now.3 now.4)),
+  one_shorter (length c.next.new.self) (length c.next.new.self) (length c.loop-first.left) (length c.args.left.now)
+      (same_length (length c.next.new.self)) (ap length c.in-Some.ensures) c.loop-first.invariant.1,
+)
+
+pub whole_items-loop-first-preserved-in_ok-push-in-String : goal.whole_items-loop-first-preserved-in_ok-push-in-String
+whole_items-loop-first-preserved-in_ok-push-in-String g n c = (
+  (λ items rest whole is read.
+      let now = c.loop-first.invariant.0 items rest whole is read in
+      rw (c.in_ok-push-in-String.ensures.items)
+      (item_added g.S.Sieve.keeps c.loop-first.items.items _ now.0 (Held.string _) c.next.new.self rest c.next.new.self now.1 whole
+      (sym (c.in-Some.ensures ∙ ap (λ t. held_token t ∷ c.next.new.self) c.in-String.is) ∙ now.2) (text_is_no_end _) now.3 now.4
+      (rw (view_string _, c.in_ok-from_str-in-String.ensures.ok) (string_outlined g.S.Sieve.keeps None _ c.next.new.self)))),
+  one_shorter (length c.next.new.self) (length c.next.new.self) (length c.loop-first.left) (length c.args.left.now)
+      (same_length (length c.next.new.self)) (ap length c.in-Some.ensures) c.loop-first.invariant.1,
+)
+
 pub whole_items-loop-first-preserved : goal.whole_items-loop-first-preserved
 whole_items-loop-first-preserved g n c = (
   (λ items rest whole is read.
       let now = c.loop-first.invariant.0 items rest whole is read in
-      rw (c.in_ok-push.ensures.items)
+      rw (c.in_ok-push-in_default-first.ensures.items)
       (item_added g.S.Sieve.keeps c.loop-first.items.items _ now.0 _ c.next.new.self rest c.outlined.new.left now.1 whole
-      (sym c.in-Some.ensures ∙ now.2) (no_end c.in-Some.first c.in_default-first.not-EndArray) now.3 now.4 c.in_ok-outlined.ensures.outlined)),
+      (sym c.in-Some.ensures ∙ now.2) (no_end c.in-Some.first c.in_default-first.not-EndArray) now.3 now.4 c.in_ok-outlined-in_default-first.ensures.outlined)),
   one_shorter (length c.outlined.new.left) (length c.next.new.self) (length c.loop-first.left) (length c.args.left.now)
-      c.in_ok-outlined.ensures.shorter (ap length c.in-Some.ensures) c.loop-first.invariant.1,
+      c.in_ok-outlined-in_default-first.ensures.shorter (ap length c.in-Some.ensures) c.loop-first.invariant.1,
 )
 
 pub whole_items-returns-clause-items : goal.whole_items-returns-clause-items
