@@ -1,6 +1,7 @@
 -- Notes of keys, one after the other, and after an answer.
 use Rattle.std.proofs.Common.{◌≡◌, ℕ, ◌+◌, ◌<◌, List, [], ◌∷◌, ◌++◌, length, get_or, drop, Option, Result, Ok, Err, inl, inr, refl, sym, ap, subst, ◌∙◌, append_assoc, add-one, arith, String, Global}
-use Rattle.std.specs.Prelude.{Bool, true, false, not, Some}
+use Rattle.std.specs.Prelude.{◌⊎◌, Bool, true, false, not, Some, IfOk, string_bytes}
+use Rattle.std.specs.declared.alloc.AllocError.{AllocError}
 use Rattle.std.specs.Io.KnownBytes.{Appends}
 use Rattle.std.proofs.KnownBytes.{Keeps-refl}
 use Rattle.std.proofs.Math.Seq.{drop-cons}
@@ -8,6 +9,7 @@ use Rattle.std.proofs.lemmas.List.{append-nil}
 use Rattle.message_report.specs.MessagesReportText.{messages_report_text}
 use Rattle.message_report.specs.declared.file.MessageFile.{MessageFile}
 use Rattle.plural_documents.specs.Inputs.{IsPartWritten}
+use Rattle.plural_fallback.specs.UnknownLanguages.{is_unknown}
 use Rattle.plural_fallback.specs.declared.locales.Part.{Part}
 use Rattle.plural_fallback.specs.declared.locales.Part.TheVariants.{Cardinal, Ordinal}
 use Rattle.serde_json.specs.Data.{Data, Members, no_members, member}
@@ -18,14 +20,29 @@ use Rattle.form_commands.specs.InputLines.{lines_of}
 use Rattle.form_commands.specs.Inner.NoteSteps.{Notes, NotesAfter, Writes}
 use Rattle.form_commands.specs.Inner.RunSteps.{AnswersLines, Checks}
 use Rattle.form_commands.specs.Inner.PrintedSteps.{Grows}
-use Rattle.form_commands.specs.KeyNotes.{AreFileNotes, AreLocaleNotes, AreMemberNotes, AreNoted, IsFileNote, IsNote, IsNoted, IsNoteIf, has_members, is_asked}
-use Rattle.form_commands.specs.Languages.{IsKnown}
+use Rattle.form_commands.specs.KeyNotes.{AreFileNotes, AreLocaleNotes, AreMemberNotes, AreNoted, IsFileNote, IsKeyNote, IsNote, IsNoted, IsNoteIf, has_members, is_asked, note_text}
+use Rattle.form_commands.specs.Languages.{IsKeyOf, IsKnown, IsKnownIn}
 use Rattle.form_commands.specs.PrintedTexts.{PrintedText}
 use Rattle.form_commands.specs.declared.error.FormsError.{FormsError}
 use Rattle.form_commands.specs.declared.error.FormsError.TheVariants.{Memory}
 use Rattle.form_commands.specs.declared.error.LanguageError.{LanguageError}
 use Rattle.form_commands.specs.declared.error.Verdict.{Verdict}
 use Rattle.form_commands.proofs.AnswerLemmas.{document_answered, lines_answered, report_checked}
+
+-- ---- A locale
+
+-- the note of the first key
+pub key_note : (document : Data) (place : List ℕ) (part : Part) (locale key : List ℕ) (r : Result (String Global) AllocError)
+    → IsKeyOf document part locale key → IfOk r (λ note. string_bytes note ≡ note_text place part locale key)
+    → IfOk r (λ note. IsKeyNote document place part locale (string_bytes note))
+key_note document place part locale key (Ok note) first is = inl (key, first, is)
+key_note document place part locale key (Err error) first is = is
+
+-- a first key that isn't `root`, or another one, is known
+pub known_key : (document : Data) (part : Part) (locale key : List ℕ) → IsKeyOf document part locale key
+    → (is_unknown locale key ≡ false) ⊎ IsKnownIn document locale → IsKnown document part locale
+known_key document part locale key first (inl another) = inl (inl (key, first, another))
+known_key document part locale key first (inr known) = inr known
 
 -- ---- The locales of a document
 

@@ -16,7 +16,7 @@ use Rattle.serde_json.specs.Data.{Data}
 use Rattle.serde_json.specs.View.{view}
 use Rattle.serde_json.specs.declared.Value.{Value}
 use Rattle.form_commands.specs.Inner.RulesOutline.{HoldsPart, IsServedBy, Serves, StaysInside, is_inside, keeps}
-use Rattle.form_commands.specs.KeyNotes.{IsNote}
+use Rattle.form_commands.specs.KeyNotes.{IsKeyNote}
 use Rattle.form_commands.specs.Languages.{HasNoKey, IsFoundAt, IsFoundFor, IsKeyOf, key_after, most_locales, value_at}
 use Rattle.form_commands.specs.declared.error.LanguageError.{LanguageError}
 use Rattle.form_commands.specs.declared.language.Language.{Language}
@@ -117,7 +117,7 @@ module _ (part : Part) (locale : List ℕ) (locales : KeptLocales) (whole docume
       )
   found_for answer (inr none) = inr (none.0, no_key none.0 none.1, none.2)
 
-  noted : (place note : List ℕ) → IsNote document place part locale note → IsNote whole place part locale note
+  noted : (place note : List ℕ) → IsKeyNote document place part locale note → IsKeyNote whole place part locale note
   noted place note (inl found) = inl (found.0, first_key found.0 found.1, found.2)
   noted place note (inr none) = inr (none.0, no_key none.0 none.1, none.2)
 

@@ -11,7 +11,7 @@ use Rattle.form_commands.specs.FormsAnswers.{Answers, IsAnsweredLines, IsAnswere
 use Rattle.form_commands.specs.Inner.NoteSteps.{NotesAfter, Writes}
 use Rattle.form_commands.specs.Inner.RulesOutline.{Serves}
 use Rattle.form_commands.specs.Inner.RunSteps.{AnswersFirst, AnswersLines, GivesRules, GivesRulesIn}
-use Rattle.form_commands.specs.KeyNotes.{IsNote}
+use Rattle.form_commands.specs.KeyNotes.{IsKeyNote, IsNote}
 use Rattle.form_commands.specs.Languages.{IsKnown}
 use Rattle.form_commands.specs.PrintedTexts.{PrintedText}
 use Rattle.form_commands.specs.declared.error.FormsError.{FormsError}
@@ -60,14 +60,14 @@ module _ (part : Part) (locale : List ℕ) (document whole : Data) (serves : Ser
   printed_served Prints (Err error) is = is
 
   notes_after : (A B : Result Verdict FormsError → Type 0) → ((r : Result Verdict FormsError) → A r → B r)
-      → (old new : Option (List ℕ)) (r : Result Verdict FormsError) → NotesAfter A (IsNote document [] part locale) old new r
+      → (old new : Option (List ℕ)) (r : Result Verdict FormsError) → NotesAfter A (IsKeyNote document [] part locale) old new r
       → NotesAfter B (IsNote whole [] part locale) old new r
-  notes_after A B answers old new r (inl n) = inl (n.0, n.1, answers n.0 n.2, serves.1 [] n.1 n.3, n.4)
+  notes_after A B answers old new r (inl n) = inl (n.0, n.1, answers n.0 n.2, inl (known, serves.1 [] n.1 n.3), n.4)
   notes_after A B answers old new r (inr n) = inr (answers (Err Memory) n.0, n.1, n.2)
 
   -- a text and its notes
   pub text_served : (Prints : code.Language → PrintedText → Type 0) (old new before after : Option (List ℕ)) (r : Result Verdict FormsError)
-      → NotesAfter (Writes (AnswersFirst Prints part locale document) old new) (IsNote document [] part locale) before after r
+      → NotesAfter (Writes (AnswersFirst Prints part locale document) old new) (IsKeyNote document [] part locale) before after r
       → NotesAfter (Writes (Answers Prints part locale whole) old new) (IsNote whole [] part locale) before after r
   text_served Prints old new before after r is =
       notes_after (Writes (AnswersFirst Prints part locale document) old new) (Writes (Answers Prints part locale whole) old new)
@@ -81,7 +81,7 @@ module _ (part : Part) (locale : List ℕ) (document whole : Data) (serves : Ser
 
   -- the lines of another input and their notes
   pub lines_served : (taken left old new before after : Option (List ℕ)) (r : Result Verdict FormsError)
-      → NotesAfter (AnswersLines document part locale taken left old new) (IsNote document [] part locale) before after r
+      → NotesAfter (AnswersLines document part locale taken left old new) (IsKeyNote document [] part locale) before after r
       → NotesAfter (AnswersLines whole part locale taken left old new) (IsNote whole [] part locale) before after r
   lines_served taken left old new before after r is =
       notes_after (AnswersLines document part locale taken left old new) (AnswersLines whole part locale taken left old new)

@@ -11,7 +11,6 @@ use Rattle.std.specs.Option.{option_and_then}
 use Rattle.message_report.specs.declared.file.MessageFile.{MessageFile}
 use Rattle.plural_documents.specs.Inputs.{IsPartWritten}
 use Rattle.plural_fallback.specs.LocalesJson.{part_name}
-use Rattle.plural_fallback.specs.UnknownLanguages.{is_unknown}
 use Rattle.plural_fallback.specs.declared.error.FallbackError.{FallbackError}
 use Rattle.plural_fallback.specs.declared.locales.Part.{Part}
 use Rattle.plural_fallback.specs.declared.locales.Part.TheVariants.{Cardinal, Ordinal}
@@ -19,24 +18,29 @@ use Rattle.serde_json.specs.Data.{Data, Members, no_members, member}
 use Rattle.serde_json.specs.Find.{get, as_object}
 use Rattle.serde_json.specs.View.{view}
 use Rattle.form_commands.specs.FormsAnswers.{IsDocumentIn}
-use Rattle.form_commands.specs.Languages.{HasNoKey, IsKeyOf}
+use Rattle.form_commands.specs.Languages.{HasNoKey, IsKeyOf, IsKnown, IsUnknown}
 use Rattle.form_commands.specs.declared.error.FormsError.{FormsError}
 use Rattle.form_commands.specs.declared.error.Verdict.{Verdict}
 
 -- ---- One locale
 
--- `plural_forms: pt-AO: cardinal rules of pt-PT`; of a key that is the locale, nothing, nor of an
--- unknown language, which has no rules. Before the locale is the place, if there is one.
+-- `plural_forms: pt-AO: cardinal rules of pt-PT`; of a key that is the locale, nothing. Before the
+-- locale is the place, if there is one.
 abbrev pub note_text : List ℕ → Part → List ℕ → List ℕ → List ℕ
 note_text place part locale key =
-    if bytes_eq key locale || is_unknown locale key then []
+    if bytes_eq key locale then []
     else (codes "plural_forms: " ++ (place ++ (locale ++ (codes ": " ++ (part_name part ++ (codes " rules of " ++ (key ++ codes "\n")))))))
 
 -- that of the first key of the locale's chain, if there is one
-abbrev pub IsNote : Data → List ℕ → Part → List ℕ → List ℕ → Type 0
-IsNote document place part locale note =
+abbrev pub IsKeyNote : Data → List ℕ → Part → List ℕ → List ℕ → Type 0
+IsKeyNote document place part locale note =
     ((key : List ℕ) × IsKeyOf document part locale key × (note ≡ note_text place part locale key))
     ⊎ ((reason : FallbackError) × HasNoKey document part locale reason × (note ≡ []))
+
+-- an unknown language has no rules, and so no note
+abbrev pub IsNote : Data → List ℕ → Part → List ℕ → List ℕ → Type 0
+IsNote document place part locale note =
+    (IsKnown document part locale × IsKeyNote document place part locale note) ⊎ (IsUnknown document part locale × (note ≡ []))
 
 -- ---- Files of messages
 

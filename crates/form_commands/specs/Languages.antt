@@ -1,7 +1,8 @@
 -- The rules that a document has for a locale: those of the first key along the locale's chain,
 -- unless the language is unknown.
 --     IsFoundFor document part locale answer      the rules of the first key, or why there are none
---     IsUnknown document part locale      the first key is `root`, which wasn't asked for
+--     IsUnknown document part locale      the first key is `root`, which wasn't asked for, and the
+--         document has no other one for cardinal or ordinal numbers
 --     IsLanguageFor document part locale answer      the rules, or why there are none
 use Rattle.std.specs.Prelude.{◌≡◌, ◌⊎◌, ℕ, List, true, false, Option, Some, None, Result, Ok, Err}
 use Rattle.std.specs.Option.{option_and_then}
@@ -17,9 +18,10 @@ use Rattle.plural_fallback.specs.Chain.{next_of}
 use Rattle.plural_fallback.specs.FirstKeys.{IsFirstKey, Misses, key_at, locale_at}
 use Rattle.plural_fallback.specs.LocaleNames.{language}
 use Rattle.plural_fallback.specs.LocalesJson.{keys_under, parent_in, part_name}
-use Rattle.plural_fallback.specs.UnknownLanguages.{is_unknown}
+use Rattle.plural_fallback.specs.UnknownLanguages.{IsKnownLanguage, IsUnknownLanguage, is_unknown}
 use Rattle.plural_fallback.specs.declared.error.FallbackError.{FallbackError}
 use Rattle.plural_fallback.specs.declared.locales.Part.{Part}
+use Rattle.plural_fallback.specs.declared.locales.Part.TheVariants.{Cardinal, Ordinal}
 use Rattle.form_commands.specs.declared.error.LanguageError.{LanguageError}
 use Rattle.form_commands.specs.SimilarKeys.{similar_keys}
 use Rattle.form_commands.specs.declared.error.LanguageError.TheVariants.{NotFound, Refused, Unknown}
@@ -74,14 +76,30 @@ IsFoundFor document part locale answer =
 -- ---- An unknown language
 
 -- the first key is `root`, and neither `root` nor `und` was asked for
-abbrev pub IsUnknown : Data → Part → List ℕ → Type 0
-IsUnknown document part locale = (key : List ℕ) × IsKeyOf document part locale key × (is_unknown locale key ≡ true)
+abbrev pub HasRootsKey : Data → Part → List ℕ → Type 0
+HasRootsKey document part locale = (key : List ℕ) × IsKeyOf document part locale key × (is_unknown locale key ≡ true)
 
 -- it is another one, or there is none
-abbrev pub IsKnown : Data → Part → List ℕ → Type 0
-IsKnown document part locale =
+abbrev pub HasAnotherKey : Data → Part → List ℕ → Type 0
+HasAnotherKey document part locale =
     ((key : List ℕ) × IsKeyOf document part locale key × (is_unknown locale key ≡ false))
     ⊎ ((reason : FallbackError) × HasNoKey document part locale reason)
+
+-- another one is found for cardinal numbers, or for ordinal ones
+abbrev pub IsKnownIn : Data → List ℕ → Type 0
+IsKnownIn document locale =
+    IsKnownLanguage (keys_under (part_name Cardinal) document) (keys_under (part_name Ordinal) document) (next_of (parent_in document)) locale
+
+abbrev pub IsUnknownIn : Data → List ℕ → Type 0
+IsUnknownIn document locale =
+    IsUnknownLanguage (keys_under (part_name Cardinal) document) (keys_under (part_name Ordinal) document) (next_of (parent_in document)) locale
+
+-- the key of the part is that of `root`, and none is found for other numbers
+abbrev pub IsUnknown : Data → Part → List ℕ → Type 0
+IsUnknown document part locale = HasRootsKey document part locale × IsUnknownIn document locale
+
+abbrev pub IsKnown : Data → Part → List ℕ → Type 0
+IsKnown document part locale = HasAnotherKey document part locale ⊎ IsKnownIn document locale
 
 -- of an unknown language the error that names the keys of the part which are similar to it
 abbrev pub unknown_error : Data → Part → List ℕ → LanguageError

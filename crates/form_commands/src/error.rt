@@ -39,7 +39,8 @@ pub enum LanguageError {
     /// The chain of this locale gives no key in the part.
     NotFound(Part, Name, FallbackError),
     /// The language of this locale is unknown: of the chain only `root` has a key in the part, and
-    /// neither `root` nor `und` was asked for. These keys of the part are similar to it.
+    /// no other has one for cardinal or for ordinal numbers, and neither `root` nor `und` was asked
+    /// for. These keys of the part are similar to it.
     Unknown(Part, Name, SimilarKeys),
     /// What the part has under this key is refused. The reason is never out of memory.
     Refused(Part, Name, JsonError),

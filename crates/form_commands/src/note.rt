@@ -4,30 +4,32 @@ ghost use Rattle.std.specs.Prelude.{◌≡◌, ◌≢◌, ◌++◌, [], IfErr, I
 ghost use Rattle.std.specs.Option.{option_and_then};
 ghost use Rattle.form_commands.specs.Inner.NoteSteps.{Notes};
 ghost use Rattle.form_commands.specs.Inner.PrintedSteps.{Grows};
-ghost use Rattle.form_commands.specs.KeyNotes.{AreFileNotes, AreLocaleNotes, AreMemberNotes, IsFileNote, IsNote, IsNoteIf, has_some, is_asked, note_text};
+ghost use Rattle.form_commands.specs.KeyNotes.{AreFileNotes, AreLocaleNotes, AreMemberNotes, IsFileNote, IsKeyNote, IsNote, IsNoteIf, has_some, is_asked, note_text};
 ghost use Rattle.serde_json.specs.Find.{as_object, get};
 ghost use Rattle.serde_json.specs.View.{members_view, view};
 
 use crate::error::{FormsError, Verdict};
+use crate::unknown_language::is_unknown_by;
 use message_report::MessageFile;
 use plural_documents::write_output;
-use plural_fallback::{Part, find_first, is_unknown};
+use plural_fallback::{Part, find_first};
 use serde_json::{Map, Value};
 use std::alloc::{AllocError, Global};
 use std::io::Write;
 
-// Returns the note of a locale.
+// Returns the note of the first key of a locale.
 pub(crate) fn note_of(
     alloc: Global,
     document: &Value,
     part: Part,
     locale: &str,
 ) -> Result<String, AllocError>
-    ensures { IfOk result (λ notes. IsNote (view document.now) [] part locale.now (string_bytes notes)) }
+    ensures { IfOk result (λ note. IsKeyNote (view document.now) [] part locale.now (string_bytes note)) }
 {
-    let mut notes = String::new(alloc);
-    push_note(alloc, document, "", part, locale, &mut notes)?;
-    Ok(notes)
+    match find_first(document, part, locale) {
+        Ok(key) => note_text(alloc, "", part, locale, key),
+        Err(_) => Ok(String::new(alloc)),
+    }
 }
 
 // Returns the notes of the locales of files.
@@ -196,7 +198,7 @@ fn push_if(
     }
 }
 
-// Appends the note of a locale.
+// Appends the note of a locale, unless its language is unknown.
 fn push_note(
     alloc: Global,
     document: &Value,
@@ -208,6 +210,7 @@ fn push_note(
     ensures { OnOk result (Grows (IsNote (view document.now) place.now part locale.now) (string_bytes notes.old) (string_bytes notes.new)) }
 {
     match find_first(document, part, locale) {
+        Ok(key) if is_unknown_by(document, locale, key) => Ok(()),
         Ok(key) => push_key(alloc, place, part, locale, key, notes),
         Err(_) => Ok(()),
     }
@@ -238,7 +241,7 @@ fn note_text(
 ) -> Result<String, AllocError>
     ensures { IfOk result (λ note. string_bytes note ≡ note_text place.now part locale.now key.now) }
 {
-    if key == locale || is_unknown(locale, key) {
+    if key == locale {
         return Ok(String::new(alloc));
     }
     let name = part.as_str();

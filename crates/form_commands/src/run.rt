@@ -8,7 +8,8 @@ ghost use Rattle.form_commands.specs.Inner.NoteSteps.{NotesAfter, Writes};
 ghost use Rattle.form_commands.specs.Inner.QuestionViews.{words_view};
 ghost use Rattle.form_commands.specs.Inner.RulesOutline.{IsServedBy};
 ghost use Rattle.form_commands.specs.Inner.RunSteps.{AnswersFirst, AnswersLines, Checks, GivesDocument, GivesJsonValue, GivesRules, GivesRulesIn, Reports, WritesAnswer};
-ghost use Rattle.form_commands.specs.KeyNotes.{AreFileNotes, IsNote, IsNoted};
+ghost use Rattle.form_commands.specs.KeyNotes.{AreFileNotes, IsKeyNote, IsNote, IsNoted};
+ghost use Rattle.form_commands.specs.Languages.{HasRootsKey};
 ghost use Rattle.plural_documents.specs.Inputs.{IsInput, IsRead};
 ghost use Rattle.serde_json.specs.View.{view};
 
@@ -21,7 +22,7 @@ use crate::number::numbers_text;
 use crate::outline::rules_outline;
 use crate::printed::Printed;
 use crate::stream::answer_input;
-use crate::unknown_language::{is_unknown_in, unknown_language};
+use crate::unknown_language::{has_roots_key, known_in};
 use icu_plurals::{JsonError, JsonProvider};
 use message_report::run::run;
 use message_report::{Counts, MessageFile};
@@ -93,7 +94,7 @@ fn numbers_by<W: Write, E: Write>(
     notes: &mut E,
 ) -> Result<Verdict, FormsError>
     ensures answers { NotesAfter (Writes (AnswersFirst (IsNumbersAnswer (words_view numbers.now)) part locale.now (view document.now)) (W.contents writer.old) (W.contents writer.new))
-        (IsNote (view document.now) [] part locale.now) (E.contents notes.old) (E.contents notes.new) result }
+        (IsKeyNote (view document.now) [] part locale.now) (E.contents notes.old) (E.contents notes.new) result }
     ensures writes_nothing { IfErr result (λ e. e ≢ FormsError.Write → (writer.new ≡ writer.old) × (notes.new ≡ notes.old)) }
 {
     match note_of(alloc, document, part, locale) {
@@ -148,7 +149,7 @@ fn noted_lines<N: Read, W: Write, E: Write>(
     notes: &mut E,
 ) -> Result<Verdict, FormsError>
     ensures answers { NotesAfter (AnswersLines (view document.now) part locale.now (N.remaining numbers.old) (N.remaining numbers.new) (W.contents writer.old) (W.contents writer.new))
-        (IsNote (view document.now) [] part locale.now) (E.contents notes.old) (E.contents notes.new) result }
+        (IsKeyNote (view document.now) [] part locale.now) (E.contents notes.old) (E.contents notes.new) result }
     ensures touches_nothing { IfErr result (λ e. IsTrue (is_of_rules e) → (numbers.new ≡ numbers.old) × (writer.new ≡ writer.old)) }
     ensures notes_nothing { IfErr result (λ e. e ≢ FormsError.Write → notes.new ≡ notes.old) }
 {
@@ -199,7 +200,7 @@ fn gettext_by<W: Write, E: Write>(
     notes: &mut E,
 ) -> Result<Verdict, FormsError>
     ensures answers { NotesAfter (Writes (AnswersFirst IsGettextAnswer part locale.now (view document.now)) (W.contents writer.old) (W.contents writer.new))
-        (IsNote (view document.now) [] part locale.now) (E.contents notes.old) (E.contents notes.new) result }
+        (IsKeyNote (view document.now) [] part locale.now) (E.contents notes.old) (E.contents notes.new) result }
     ensures writes_nothing { IfErr result (λ e. e ≢ FormsError.Write → (writer.new ≡ writer.old) × (notes.new ≡ notes.old)) }
 {
     match note_of(alloc, document, part, locale) {
@@ -377,10 +378,28 @@ fn known_rules(
 ) -> Result<Value, FormsError>
     ensures { IsServedBy part locale.now bytes.now (view outline) → GivesRulesIn part locale.now bytes.now result }
 {
-    if is_unknown_in(&outline, part, locale) {
-        return Err(unknown_language(alloc, part, locale, bytes));
+    if has_roots_key(&outline, part, locale) {
+        return rules_of_root(alloc, part, locale, bytes, outline);
     }
     Ok(outline)
+}
+
+// Returns the same where the first key is `root`: the language may have another one for other
+// numbers, of which nothing is kept.
+fn rules_of_root(
+    alloc: Global,
+    part: Part,
+    locale: &str,
+    bytes: &[u8],
+    outline: Value,
+) -> Result<Value, FormsError>
+    ensures { HasRootsKey (view outline) part locale.now → IsServedBy part locale.now bytes.now (view outline)
+        → GivesRulesIn part locale.now bytes.now result }
+{
+    match known_in(alloc, part, locale, bytes) {
+        Ok(()) => Ok(outline),
+        Err(error) => Err(error),
+    }
 }
 
 // Returns the document in a reader.

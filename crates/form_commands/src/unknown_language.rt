@@ -1,26 +1,26 @@
-//! The error of an unknown language.
+//! Whether a language is known, and the error of an unknown one.
 
-ghost use Rattle.std.specs.Prelude.{◌≡◌, MatchBool, IfOk, option_map};
+ghost use Rattle.std.specs.Prelude.{◌≡◌, ◌⊎◌, MatchBool, IfOk, false, option_map, true};
 ghost use Rattle.std.specs.Option.{option_and_then};
-ghost use Rattle.form_commands.specs.Inner.RunSteps.{GivesUnknown};
-ghost use Rattle.form_commands.specs.Languages.{IsKnown, IsUnknown, unknown_error};
+ghost use Rattle.form_commands.specs.Inner.RunSteps.{GivesKnownIn, TellsKnown};
+ghost use Rattle.form_commands.specs.Languages.{HasAnotherKey, HasRootsKey, IsKnownIn, IsUnknownIn, unknown_error};
 ghost use Rattle.form_commands.specs.SimilarKeys.{similar_keys};
 ghost use Rattle.plural_fallback.specs.LocalesJson.{keys_under, part_name};
+ghost use Rattle.plural_fallback.specs.UnknownLanguages.{is_unknown};
 ghost use Rattle.serde_json.specs.Find.{as_object, get};
 ghost use Rattle.serde_json.specs.View.{members_view, view};
 
 use crate::error::{FormsError, LanguageError};
 use crate::name::Name;
-use crate::outline::{KeptLocales, RulesSieve};
 use crate::similar_keys::{SimilarKeys, similar_keys};
-use plural_documents::{JsonTextError, json_outline};
-use plural_fallback::{Part, find_first, is_unknown, language};
+use plural_documents::{JsonTextError, json_value};
+use plural_fallback::{Part, find_first, is_known, is_unknown, language};
 use serde_json::{Map, Value};
 use std::alloc::{AllocError, Global};
 
-// Returns whether the language of a locale is unknown by a document.
-pub(crate) fn is_unknown_in(document: &Value, part: Part, locale: &str) -> bool
-    ensures { MatchBool result (IsUnknown (view document.now) part locale.now) (IsKnown (view document.now) part locale.now) }
+// Returns whether the first key of a locale is `root`, which wasn't asked for.
+pub(crate) fn has_roots_key(document: &Value, part: Part, locale: &str) -> bool
+    ensures { MatchBool result (HasRootsKey (view document.now) part locale.now) (HasAnotherKey (view document.now) part locale.now) }
 {
     match find_first(document, part, locale) {
         Ok(key) => is_unknown(locale, key),
@@ -28,17 +28,41 @@ pub(crate) fn is_unknown_in(document: &Value, part: Part, locale: &str) -> bool
     }
 }
 
-// Returns the error of an unknown language, with the keys of the part of the JSON value of bytes.
-pub(crate) fn unknown_language(alloc: Global, part: Part, locale: &str, bytes: &[u8]) -> FormsError
-    ensures { GivesUnknown part locale.now bytes.now result }
+// Returns whether the language of a locale with this first key is unknown by a document.
+pub(crate) fn is_unknown_by(document: &Value, locale: &str, key: &str) -> bool
+    ensures { MatchBool result
+        ((is_unknown locale.now key.now ≡ true) × IsUnknownIn (view document.now) locale.now)
+        ((is_unknown locale.now key.now ≡ false) ⊎ IsKnownIn (view document.now) locale.now) }
 {
-    match json_outline(alloc, RulesSieve::Document(part, KeptLocales::All), bytes) {
-        Ok(document) => match unknown_error(alloc, part, locale, &document) {
-            Ok(error) => FormsError::Language(error),
-            Err(_) => FormsError::Memory,
-        },
-        Err(JsonTextError::Json) => FormsError::Json,
-        Err(JsonTextError::Memory) => FormsError::Memory,
+    is_unknown(locale, key) && !is_known(document, locale)
+}
+
+// Returns the error of an unknown language, if it is unknown by the JSON value of bytes.
+pub(crate) fn known_in(
+    alloc: Global,
+    part: Part,
+    locale: &str,
+    bytes: &[u8],
+) -> Result<(), FormsError>
+    ensures { GivesKnownIn part locale.now bytes.now result }
+{
+    match json_value(alloc, bytes) {
+        Ok(document) => known_by(alloc, part, locale, &document),
+        Err(JsonTextError::Json) => Err(FormsError::Json),
+        Err(JsonTextError::Memory) => Err(FormsError::Memory),
+    }
+}
+
+// Returns the same by a document.
+fn known_by(alloc: Global, part: Part, locale: &str, document: &Value) -> Result<(), FormsError>
+    ensures { TellsKnown part locale.now (view document.now) result }
+{
+    if is_known(document, locale) {
+        return Ok(());
+    }
+    match unknown_error(alloc, part, locale, document) {
+        Ok(error) => Err(FormsError::Language(error)),
+        Err(_) => Err(FormsError::Memory),
     }
 }
 

@@ -1,41 +1,39 @@
 -- The rules of a language, unless it is unknown.
-use Rattle.std.proofs.Common.{◌≡◌, ℕ, List, Bool, true, false, Option, Some, None, refl, sym, ap, subst, ◌∙◌}
-use Rattle.std.specs.Prelude.{if◌then◌else◌}
+use Rattle.std.proofs.Common.{◌≡◌, ◌⊎◌, ℕ, List, false, Option, Some, None, inl, inr, ap, ◌∙◌, sym}
 use Rattle.icu_plurals.specs.FiveRules.{FiveRules}
 use Rattle.icu_plurals.specs.declared.PluralRuleType.{PluralRuleType}
+use Rattle.icu_plurals.specs.declared.PluralRuleType.TheVariants.{Cardinal, Ordinal}
 use Rattle.plural_fallback.specs.Chain.{next_of}
 use Rattle.plural_fallback.specs.FirstKeys.{IsFirstKey, Misses, locale_at}
 use Rattle.plural_fallback.specs.UnknownLanguages.{is_unknown}
 use Rattle.plural_fallback.specs.declared.error.FallbackError.{FallbackError}
-use Rattle.plural_fallback.specs.declared.error.FallbackError.TheVariants.{NotFound, LongChain, NotLoaded}
 use Rattle.plural_fallback.specs.declared.first_key.TheConstants.{MOST_LOCALES}
-use Rattle.message_report.specs.RulesSource.{HasRules, RulesSource, chain_key, rules_under}
+use Rattle.plural_fallback.specs.declared.locales.Part.{Part}
+use Rattle.message_report.specs.Inner.KnownLanguages.{GivesKnown}
+use Rattle.message_report.specs.RulesSource.{HasRules, IsKnown, RulesSource, chain_key, source_of}
 
-module _ (source : RulesSource) (type : PluralRuleType) (locale : List ℕ) where
+module _ (cardinal ordinal : List ℕ → Option FiveRules) (keys : Part → List (List ℕ)) (parent : List ℕ → Option (List ℕ)) (locale : List ℕ) where
+  abbrev source : RulesSource
+  source = source_of cardinal ordinal keys parent
+
+  -- a language with a key of a type is known
+  known_by : (type : PluralRuleType) (key : List ℕ) → IsFirstKey MOST_LOCALES (chain_key source type locale) key
+      → (is_unknown locale key ≡ false) ⊎ IsKnown source locale → IsKnown source locale
+  known_by Cardinal key first (inl own) = inl (key, first, own)
+  known_by Ordinal key first (inl own) = inr (key, first, own)
+  known_by Cardinal key first (inr known) = known
+  known_by Ordinal key first (inr known) = known
+
   -- what the first key has
-  pub known_rules : (key : List ℕ) (rules : FiveRules) (given : Option FiveRules) → IsFirstKey MOST_LOCALES (chain_key source type locale) key
-      → source.under type key ≡ Some rules → given ≡ (if is_unknown locale key then None else Some rules) → HasRules source type locale given
-  known_rules key rules given first has is = by (is_unknown locale key) refl
-    where
-      by : (b : Bool) → is_unknown locale key ≡ b → HasRules source type locale given
-      by true unknown =
-          subst (HasRules source type locale) (sym (is ∙ ap (λ (b : Bool). if b then None else Some rules) unknown))
-          (NotLoaded, (key, first, ap (λ (b : Bool). if b then None else source.under type key) unknown))
-      by false known =
-          subst (HasRules source type locale) (sym (is ∙ ap (λ (b : Bool). if b then None else Some rules) known))
-          (key, first, ap (λ (b : Bool). if b then None else source.under type key) known ∙ has)
-
-  none_under : (key : List ℕ) → source.under type key ≡ None → rules_under source type locale key ≡ None
-  none_under key none = by (is_unknown locale key)
-    where
-      by : (b : Bool) → (if b then None else source.under type key) ≡ None
-      by true = refl
-      by false = none
+  pub known_rules : (type : PluralRuleType) (key : List ℕ) (rules : FiveRules) (given : Option FiveRules)
+      → IsFirstKey MOST_LOCALES (chain_key source type locale) key → source.under type key ≡ Some rules
+      → GivesKnown keys (next_of parent) locale key rules given → HasRules source type locale given
+  known_rules type key rules (Some given) first has gives =
+      (key, first, has ∙ ap (λ (r : FiveRules). Some r) (sym gives.0), known_by type key first gives.1)
+  known_rules type key rules None first has gives = inl gives
 
   -- that it has none
-  pub no_rules : (error : FallbackError)
-      → Misses MOST_LOCALES (locale_at (next_of source.parent) locale) (chain_key source type locale) (λ key. source.under type key ≡ None) error
+  pub no_rules : (type : PluralRuleType) (error : FallbackError)
+      → Misses MOST_LOCALES (locale_at (next_of parent) locale) (chain_key source type locale) (λ key. source.under type key ≡ None) error
       → HasRules source type locale None
-  no_rules NotFound none = (NotFound, none)
-  no_rules LongChain none = (LongChain, none)
-  no_rules NotLoaded none = (NotLoaded, (none.0, none.1, none_under none.0 none.2))
+  no_rules type error none = inr (error, none)

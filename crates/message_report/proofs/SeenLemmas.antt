@@ -1,6 +1,6 @@
 -- The walk over the numbers from 2, which sees the two least of each category.
 use Rattle.std.proofs.Common.{◌≡◌, ◌≢◌, ◌⊎◌, ℕ, ◌+◌, ◌<◌, ◌≤◌, zero, suc, Option, Some, None, refl, sym, ap, subst, ◌∙◌, arith, inl, inr}
-use Rattle.std.specs.Prelude.{Bool, true, false, IsFalse, IsSome, IsTrue}
+use Rattle.std.specs.Prelude.{IsSome}
 use Rattle.std.proofs.lemmas.Bool.{cases_order}
 use Rattle.icu_plurals.specs.Categories.{place_of}
 use Rattle.icu_plurals.specs.FiveRules.{FiveRules}
@@ -196,9 +196,3 @@ pub all_seen : (rules : FiveRules) (set : CategorySet) (seen : SeenNumbers) → 
 all_seen rules set seen so_far = record {
   at = λ c is_there. all_found rules c (seen_at seen c).first (seen_at seen c).second (so_far.at c);
 }
-
--- each category has two, or all numbers were looked at
-pub found_either : (rules : FiveRules) (set : CategorySet) (seen : SeenNumbers) (each : Bool) → (IsTrue each → AreFound rules set seen)
-    → (IsFalse each → AreSeenBelow rules 10000 seen) → AreFound rules set seen
-found_either rules set seen true found so_far = found refl
-found_either rules set seen false found so_far = all_seen rules set seen (so_far refl)

@@ -1,6 +1,7 @@
 -- No definitions of the subject: words of private contracts.
 pub mod ArgumentViews
 pub mod FormSteps
+pub mod KnownLanguages
 pub mod KnownNumbers
 pub mod LanguageViews
 pub mod ListedTexts

@@ -1,13 +1,13 @@
 -- Where the rules of a locale come from: a provider over keys, and the parents of locales.
 --     HasRules source type locale rules      the rules of the first key of the locale's chain, if
 --         there are some, and the language isn't unknown
-use Rattle.std.specs.Prelude.{◌≡◌, ℕ, List, Option, Some, None, if◌then◌else◌}
+use Rattle.std.specs.Prelude.{◌≡◌, ◌⊎◌, ℕ, List, Option, Some, None}
 use Rattle.icu_plurals.specs.FiveRules.{FiveRules}
 use Rattle.icu_plurals.specs.declared.PluralRuleType.{PluralRuleType}
 use Rattle.icu_plurals.specs.declared.PluralRuleType.TheVariants.{Cardinal, Ordinal}
 use Rattle.plural_fallback.specs.Chain.{next_of}
 use Rattle.plural_fallback.specs.FirstKeys.{key_at, locale_at, IsFirstKey, Misses}
-use Rattle.plural_fallback.specs.UnknownLanguages.{is_unknown}
+use Rattle.plural_fallback.specs.UnknownLanguages.{IsKnownLanguage, IsUnknownLanguage}
 use Rattle.plural_fallback.specs.declared.error.FallbackError.{FallbackError}
 use Rattle.plural_fallback.specs.declared.first_key.TheConstants.{MOST_LOCALES}
 use Rattle.plural_fallback.specs.declared.locales.Part.{Part}
@@ -42,16 +42,20 @@ source_of cardinal ordinal keys parent = record {
 abbrev pub chain_key : RulesSource → PluralRuleType → List ℕ → ℕ → Option (List ℕ)
 chain_key source type locale = key_at (source.keys type) (next_of source.parent) locale
 
--- the rules under the first key of a locale's chain; an unknown language has none
-abbrev pub rules_under : RulesSource → PluralRuleType → List ℕ → List ℕ → Option FiveRules
-rules_under source type locale key = if is_unknown locale key then None else source.under type key
+-- the language of a locale is known, or it is unknown
+abbrev pub IsKnown : RulesSource → List ℕ → Type 0
+IsKnown source locale = IsKnownLanguage (source.keys Cardinal) (source.keys Ordinal) (next_of source.parent) locale
 
--- the rules under the first key of the chain; or there is no key among the first locales, or no
--- rules under it
+abbrev pub IsUnknown : RulesSource → List ℕ → Type 0
+IsUnknown source locale = IsUnknownLanguage (source.keys Cardinal) (source.keys Ordinal) (next_of source.parent) locale
+
+-- the rules under the first key of the chain; or the language is unknown, or there is no key among
+-- the first locales, or no rules under it
 abbrev pub HasRules : RulesSource → PluralRuleType → List ℕ → Option FiveRules → Type 0
 HasRules source type locale (Some rules) =
-    (key : List ℕ) × IsFirstKey MOST_LOCALES (chain_key source type locale) key × (rules_under source type locale key ≡ Some rules)
+    (key : List ℕ) × IsFirstKey MOST_LOCALES (chain_key source type locale) key × (source.under type key ≡ Some rules)
+    × IsKnown source locale
 HasRules source type locale None =
-    (error : FallbackError)
-    × Misses MOST_LOCALES (locale_at (next_of source.parent) locale) (chain_key source type locale)
-    (λ key. rules_under source type locale key ≡ None) error
+    IsUnknown source locale
+    ⊎ ((error : FallbackError)
+    × Misses MOST_LOCALES (locale_at (next_of source.parent) locale) (chain_key source type locale) (λ key. source.under type key ≡ None) error)

@@ -6,7 +6,7 @@ ghost use Rattle.icu_plurals.specs.FiveRules.{FiveRules};
 ghost use Rattle.message_report.specs.Inner.SeenNumbers.{AreSeenBelow, AreFound, AreRepeated, TellsEach};
 
 use crate::seen_numbers::SeenNumbers;
-use icu_plurals::{CategoryTable, PluralOperands, PluralRules, PreparedRules};
+use icu_plurals::{CategoryTable, PluralCategory, PluralOperands, PluralRules, PreparedRules};
 use plural_checker::{CategorySet, WHOLE_LIMIT};
 
 // The rules themselves are asked for the numbers below this one, since tables of the categories
@@ -18,6 +18,38 @@ const TOLD: u16 = 128;
 
 // Then two numbers of each remainder by 100 are below this one.
 const TWICE_TOLD: u16 = 328;
+
+// Rules that are asked for the categories of numbers, by their tables or without.
+trait Asked {
+    ghost use Rattle.std.specs.Prelude.{ℕ};
+    ghost use Rattle.icu_plurals.specs.FiveRules.{FiveRules};
+    ghost use Rattle.plural_checker.specs.WholeNumbers.{HasWhole};
+
+    // The rules.
+    ghost rules: { Self → FiveRules };
+
+    // Returns the category of a number.
+    fn category_of(&self, number: u16) -> PluralCategory
+        ensures { HasWhole (rules self.now) result number };
+}
+
+impl Asked for PluralRules<'_> {
+    ghost rules = { λ rules. rules };
+
+    #[inline(always)]
+    fn category_of(&self, number: u16) -> PluralCategory {
+        self.category_for(PluralOperands::from(number))
+    }
+}
+
+impl Asked for PreparedRules<'_> {
+    ghost rules = { λ rules. rules };
+
+    #[inline(always)]
+    fn category_of(&self, number: u16) -> PluralCategory {
+        self.category_for_integer(u64::from(number))
+    }
+}
 
 // Returns the two least numbers from 2 of each of these categories, and of other.
 pub(crate) fn numbers_from_two(rules: &PluralRules<'_>, categories: CategorySet) -> SeenNumbers
@@ -53,7 +85,8 @@ fn see_by_tables(tables: &PreparedRules<'_>, categories: CategorySet, seen: &mut
     requires { AreSeenBelow tables.now ASKED seen.old }
     ensures { AreFound tables.now categories seen.new }
 {
-    if see_each(tables, ASKED, TWICE_TOLD, categories, seen) {
+    let common = tables.category_of(ASKED - 1);
+    if see_each(tables, common, ASKED, TWICE_TOLD, categories, seen) {
         return;
     }
     let bytes = tables.to_table();
@@ -66,32 +99,65 @@ fn see_by_tables(tables: &PreparedRules<'_>, categories: CategorySet, seen: &mut
     if tells_one(&told) {
         see_untold(tables.rules(), told_numbers(&told), categories, seen);
     } else {
-        see_each(tables, TWICE_TOLD, WHOLE_LIMIT, categories, seen);
+        see_last(tables, first_told(&bytes), categories, seen);
     }
 }
 
-// Sees each number from a start and before an end, until each category has two. Returns whether each
-// has.
-fn see_each(
+// Sees the last numbers, those before this one by the rules themselves, until each category has two.
+fn see_last(
     tables: &PreparedRules<'_>,
+    first_told: u16,
+    categories: CategorySet,
+    seen: &mut SeenNumbers,
+)
+    requires start { TWICE_TOLD ≤ first_told }
+    requires end { first_told ≤ WHOLE_LIMIT }
+    requires seen { AreSeenBelow tables.now TWICE_TOLD seen.old }
+    ensures { AreFound tables.now categories seen.new }
+{
+    let common = tables.category_of(TWICE_TOLD - 1);
+    let rules = tables.rules();
+    if !see_each(rules, common, TWICE_TOLD, first_told, categories, seen) {
+        see_each(tables, common, first_told, WHOLE_LIMIT, categories, seen);
+    }
+}
+
+// Returns the first of the last numbers that the bytes of a table may tell, if they tell none of
+// 100: they tell none below their bound, and none at all if the 100 are above it.
+fn first_told(bytes: &[u8; 236]) -> u16
+    ensures start { TWICE_TOLD ≤ result }
+    ensures end { result ≤ WHOLE_LIMIT }
+{
+    let bound = u64::from_le_bytes([
+        bytes[0], bytes[1], bytes[2], bytes[3], bytes[4], bytes[5], bytes[6], bytes[7],
+    ]);
+    if bound <= u64::from(TOLD) || bound >= u64::from(WHOLE_LIMIT) {
+        return WHOLE_LIMIT;
+    }
+    TWICE_TOLD.max(bound as u16)
+}
+
+// Sees each number from a start and before an end, until each category has two. Returns whether each
+// has. A further number of the common category is passed over once that has two: the numbers that
+// are far out are those of rare categories.
+fn see_each<R: Asked>(
+    rules: &R,
+    common: PluralCategory,
     start: u16,
     end: u16,
     categories: CategorySet,
     seen: &mut SeenNumbers,
 ) -> bool
-    requires seen { AreSeenBelow tables.now start seen.old }
+    requires seen { AreSeenBelow (R.rules rules.now) start seen.old }
     requires from { 2 ≤ start }
     requires order { start ≤ end }
     requires end { end ≤ WHOLE_LIMIT }
-    ensures found { IsTrue result → AreFound tables.now categories seen.new }
-    ensures seen { IsFalse result → AreSeenBelow tables.now end seen.new }
+    ensures found { IsTrue result → AreFound (R.rules rules.now) categories seen.new }
+    ensures seen { IsFalse result → AreSeenBelow (R.rules rules.now) end seen.new }
 {
-    // A further number of a category that has two is passed over. The numbers that are far out are
-    // those of rare categories; the number before the start mostly has the common one.
-    let common = tables.category_for_integer(u64::from(start - 1));
     let is_passed = seen.has_two(common);
     for number in start..end {
-        let category = tables.category_for_integer(u64::from(number));
+        let category = rules.category_of(number);
         if is_passed && category == common {
             continue;
         }

@@ -1,12 +1,13 @@
 //! The rules of locales.
 
-ghost use Rattle.std.specs.Prelude.{◌≡◌, None, Some, if◌then◌else◌, option_map};
+ghost use Rattle.std.specs.Prelude.{option_map};
 ghost use Rattle.icu_plurals.specs.FiveRules.{rules_of};
-ghost use Rattle.plural_fallback.specs.UnknownLanguages.{is_unknown};
+ghost use Rattle.message_report.specs.Inner.KnownLanguages.{GivesKnown};
+ghost use Rattle.plural_fallback.specs.Chain.{next_of};
 
 use icu_plurals::provider::PluralRulesData;
 use icu_plurals::{PluralRuleType, PluralsProvider};
-use plural_fallback::{FallbackProvider, Loaded, Locales, is_unknown};
+use plural_fallback::{FallbackProvider, Loaded, Locales, is_known, is_unknown};
 
 /// The rules of locales, each by its chain.
 pub trait RulesOfLocales {
@@ -18,8 +19,8 @@ pub trait RulesOfLocales {
     ghost source: { Self → RulesSource };
 
     /// Returns the rules of a type of the first key of a locale's chain; `None` if there is no key
-    /// among the first locales, or no rules under it, or if the language is unknown
-    /// ([`is_unknown`]).
+    /// among the first locales, or no rules under it, or if the language is unknown: the first key
+    /// is `root`, though that wasn't asked for, and the other type has no other one ([`is_known`]).
     fn rules_of(&self, rule_type: PluralRuleType, locale: &str) -> Option<PluralRulesData<'_>>
         ensures { HasRules (source self.now) rule_type locale.now (option_map rules_of result) };
 }
@@ -33,11 +34,11 @@ impl<'a, P: PluralsProvider, L: Locales> RulesOfLocales for FallbackProvider<'a,
     fn rules_of(&self, rule_type: PluralRuleType, locale: &str) -> Option<PluralRulesData<'_>> {
         match rule_type {
             PluralRuleType::Cardinal => match self.load_cardinal(locale) {
-                Ok(loaded) => known(locale, loaded),
+                Ok(loaded) => known(self.locales, locale, loaded),
                 Err(_) => None,
             },
             PluralRuleType::Ordinal => match self.load_ordinal(locale) {
-                Ok(loaded) => known(locale, loaded),
+                Ok(loaded) => known(self.locales, locale, loaded),
                 Err(_) => None,
             },
         }
@@ -45,10 +46,15 @@ impl<'a, P: PluralsProvider, L: Locales> RulesOfLocales for FallbackProvider<'a,
 }
 
 // Returns what was loaded for a locale, unless its language is unknown.
-fn known<'a>(locale: &str, loaded: Loaded<'a, PluralRulesData<'a>>) -> Option<PluralRulesData<'a>>
-    ensures { option_map rules_of result ≡ (if is_unknown locale.now loaded.entry.key.now then None else Some (rules_of loaded.entry.value)) }
+fn known<'a, L: Locales>(
+    locales: &L,
+    locale: &str,
+    loaded: Loaded<'a, PluralRulesData<'a>>,
+) -> Option<PluralRulesData<'a>>
+    ensures { GivesKnown (L.keys locales.now) (next_of (L.parent locales.now)) locale.now loaded.entry.key.now (rules_of loaded.entry.value)
+        (option_map rules_of result) }
 {
-    if is_unknown(locale, loaded.key) {
+    if is_unknown(locale, loaded.key) && !is_known(locales, locale) {
         return None;
     }
     Some(loaded.value)

@@ -17,4 +17,4 @@ pub use first_key::{MOST_LOCALES, find_first};
 pub use locale::{is_same, language};
 pub use locales::{Locales, Part};
 pub use provider::{FallbackProvider, Loaded};
-pub use unknown::is_unknown;
+pub use unknown::{is_known, is_unknown};

@@ -18,7 +18,7 @@ use Rattle.plural_fallback.specs.declared.locales.Part.{Part}
 use Rattle.serde_json.specs.Data.{Data}
 use Rattle.serde_json.specs.View.{view}
 use Rattle.serde_json.specs.declared.Value.{Value}
-use Rattle.form_commands.specs.KeyNotes.{IsNote}
+use Rattle.form_commands.specs.KeyNotes.{IsKeyNote}
 use Rattle.form_commands.specs.Languages.{HasNoKey, IsFoundFor, IsKeyOf, key_after, most_locales}
 use Rattle.form_commands.specs.declared.error.LanguageError.{LanguageError}
 use Rattle.form_commands.specs.declared.language.Language.{Language}
@@ -68,7 +68,7 @@ StaysInside locales document part locale = (n : ℕ) → n < most_locales → Is
 abbrev pub Serves : Part → List ℕ → Data → Data → Type 0
 Serves part locale document whole =
     ((answer : Result Language LanguageError) → IsFoundFor document part locale answer → IsFoundFor whole part locale answer)
-    × ((place note : List ℕ) → IsNote document place part locale note → IsNote whole place part locale note)
+    × ((place note : List ℕ) → IsKeyNote document place part locale note → IsKeyNote whole place part locale note)
     × ((key : List ℕ) → IsKeyOf document part locale key → IsKeyOf whole part locale key)
     × ((reason : FallbackError) → HasNoKey document part locale reason → HasNoKey whole part locale reason)
 

@@ -16,7 +16,7 @@ use Rattle.serde_json.specs.declared.Value.{Value}
 use Rattle.form_commands.specs.FormsAnswers.{IsDocumentIn, IsNoJson, IsStreamed, IsUntouched, rules_source, verdict_of_counts}
 use Rattle.form_commands.specs.Inner.FormsInputFaults.{report_fault}
 use Rattle.form_commands.specs.Inner.RulesOutline.{Serves}
-use Rattle.form_commands.specs.Languages.{IsFoundFor, IsKnown, IsUnknown, unknown_error}
+use Rattle.form_commands.specs.Languages.{IsFoundFor, IsKnown, IsKnownIn, IsUnknown, IsUnknownIn, unknown_error}
 use Rattle.form_commands.specs.PrintedTexts.{PrintedText, verdict_of}
 use Rattle.form_commands.specs.declared.error.FormsError.{FormsError}
 use Rattle.form_commands.specs.declared.error.FormsError.TheVariants.{Rules, TooLong, Json, Refused, Language, Numbers, Write, Memory}
@@ -57,15 +57,23 @@ GivesDocument input (Err Memory) = ⊤
 
 -- ---- A document that serves a locale
 
--- the error of an unknown language by the bytes' value; or that they have none
-abbrev pub GivesUnknown : Part → List ℕ → List ℕ → FormsError → Type 0
-GivesUnknown part locale bytes error =
+-- the language of a locale is known by the bytes' value; or it is unknown, and the error says so;
+-- or they have none
+abbrev pub GivesKnownIn : Part → List ℕ → List ℕ → Result Unit FormsError → Type 0
+GivesKnownIn part locale bytes (Ok known) = (whole : Data) × (json_of bytes ≡ Some whole) × IsKnownIn whole locale
+GivesKnownIn part locale bytes (Err error) =
     GivesJsonValue bytes (Err error)
-    ⊎ ((whole : Data) × (json_of bytes ≡ Some whole) × (error ≡ Language (unknown_error whole part locale)))
+    ⊎ ((whole : Data) × (json_of bytes ≡ Some whole) × IsUnknownIn whole locale × (error ≡ Language (unknown_error whole part locale)))
+
+-- the same by a document
+abbrev pub TellsKnown : Part → List ℕ → Data → Result Unit FormsError → Type 0
+TellsKnown part locale document (Ok known) = IsKnownIn document locale
+TellsKnown part locale document (Err error) =
+    (error ≡ Memory) ⊎ (IsUnknownIn document locale × (error ≡ Language (unknown_error document part locale)))
 
 -- the language of a locale is unknown by a document, and the error says so
-abbrev pub IsUnknownIn : Part → List ℕ → Data → FormsError → Type 0
-IsUnknownIn part locale whole error =
+abbrev pub IsToldUnknown : Part → List ℕ → Data → FormsError → Type 0
+IsToldUnknown part locale whole error =
     IsUnknown whole part locale × (error ≡ Language (unknown_error whole part locale))
 
 -- an outline of the bytes' value, or the value, where the language is known; or that it is unknown,
@@ -74,14 +82,14 @@ abbrev pub GivesRulesIn : Part → List ℕ → List ℕ → Result Value FormsE
 GivesRulesIn part locale bytes (Ok value) =
     (whole : Data) × (json_of bytes ≡ Some whole) × Serves part locale (view value) whole × IsKnown whole part locale
 GivesRulesIn part locale bytes (Err error) =
-    GivesJsonValue bytes (Err error) ⊎ ((whole : Data) × (json_of bytes ≡ Some whole) × IsUnknownIn part locale whole error)
+    GivesJsonValue bytes (Err error) ⊎ ((whole : Data) × (json_of bytes ≡ Some whole) × IsToldUnknown part locale whole error)
 
 -- the same of an input
 abbrev pub GivesRules : Part → List ℕ → List ℕ → Result Value FormsError → Type 0
 GivesRules part locale input (Ok value) =
     (whole : Data) × IsDocumentIn input whole × Serves part locale (view value) whole × IsKnown whole part locale
 GivesRules part locale input (Err error) =
-    GivesDocument input (Err error) ⊎ ((whole : Data) × IsDocumentIn input whole × IsUnknownIn part locale whole error)
+    GivesDocument input (Err error) ⊎ ((whole : Data) × IsDocumentIn input whole × IsToldUnknown part locale whole error)
 
 -- what is printed by the rules of the first key, or why there are none
 abbrev pub AnswersFirst : (code.Language → PrintedText → Type 0) → Part → List ℕ → Data → Result PrintedText LanguageError → Type 0

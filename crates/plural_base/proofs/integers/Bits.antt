@@ -3,11 +3,11 @@ use Rattle.std.proofs.Common.{◌≡◌, ◌≢◌, ◌^◌, ℕ, zero, suc, ◌
 use Rattle.std.specs.Prelude.{◌==◌, ◌&&◌, ◌||◌, not, nat_lt, nat_le, min, max, if◌then◌else◌}
 use Rattle.plural_reference.specs.Truth.{remainder}
 use Rattle.std.proofs.Math.Nat.{mod-add-mod, mod-eq_of_lt, mod-le, mod-lt, zero-mod, one-mul}
-use Rattle.std.specs.Int.{w128, bit_at, bit_not, trailing_zeros}
+use Rattle.std.specs.Int.{w128, bit_at, bit_not, trailing_ones, trailing_zeros}
 use Rattle.std.proofs.lemmas.Bool.{cases_lt, eqb-true, lt-ltb}
 use Rattle.std.proofs.lemmas.Bool.Decides.{nat_tests}
-use Rattle.std.proofs.lemmas.Nat.{div-add-mod', pow_pos, mul-mod_first, and_le_l}
-use Rattle.std.proofs.lemmas.Nat.Bits.{bit_at-lt, bit_at_and, bit_at_or, bit_at_not, bit_at_ones, bit_at_ones_above, bit_at_cat_low, bit_at_cat_high, bit_at-zero, bit_at-pow_same, bit_at-pow_other, bit_at_clear_same, bit_at_clear_other, bit_at-trailing_zeros}
+use Rattle.std.proofs.lemmas.Nat.{div-add-mod', pow_pos, mul-mod_first, and_le_r}
+use Rattle.std.proofs.lemmas.Nat.Bits.{bit_at-lt, bit_at_and, bit_at_or, bit_at_not, bit_at_ones, bit_at_ones_above, bit_at_cat_low, bit_at_cat_high, bit_at-zero, bit_at-pow_same, bit_at-pow_other, bit_at_lowest, bit_at-suc, bit_at-trailing_ones, bit_at-trailing_zeros}
 use Rattle.plural_base.specs.Inner.Masks.{has_bit}
 
 -- ---- `&`, `|` and `!`
@@ -197,16 +197,6 @@ has-one place within =
 pub lacks-one : (place : ℕ) → place < 128 → has_bit (bit_not w128 (1 * 2 ^ place % 2 ^ 128)) place ≡ false
 lacks-one place within = has-not (1 * 2 ^ place % 2 ^ 128) place (one_fits place) within ∙ ap not (has-one place within)
 
--- without a number a mask has the others
-pub without_same : (mask place : ℕ) → place < 128 → has_bit (bit_and mask (bit_not w128 (1 * 2 ^ place % 2 ^ 128))) place ≡ false
-unfolding has_bit
-without_same mask place within = ap (λ bit. bit == 1) (bit_at_clear_same w128 mask place within)
-
-pub without_other : (mask place k : ℕ) → place < 128 → k < 128 → k ≢ place
-    → has_bit (bit_and mask (bit_not w128 (1 * 2 ^ place % 2 ^ 128))) k ≡ has_bit mask k
-unfolding has_bit
-without_other mask place k within inside other = ap (λ bit. bit == 1) (bit_at_clear_other w128 mask place within k inside other)
-
 -- the first number of a mask that isn't empty
 pub first_of_mask : (mask : ℕ) → 0 < mask → mask < 2 ^ 128
     → (trailing_zeros w128 mask < 128) × (has_bit mask (trailing_zeros w128 mask) ≡ true)
@@ -216,15 +206,86 @@ first_of_mask mask above fits =
     let first = bit_at-trailing_zeros w128 mask above fits in
     (first.0, ap (λ bit. bit == 1) first.1, λ k below. ap (λ bit. bit == 1) (first.2 k below))
 
--- a mask without one of its numbers is a smaller number
-pub smaller : (mask place : ℕ) → place < 128 → has_bit mask place ≡ true
-    → bit_and mask (bit_not w128 (1 * 2 ^ place % 2 ^ 128)) < mask
-smaller mask place within has =
-    let other = bit_not w128 (1 * 2 ^ place % 2 ^ 128) in
-    let most : bit_and mask other ≤ mask = and_le_l mask other in
-    let differs : bit_and mask other ≢ mask = λ same.
-    not_both (has_bit mask place) has (ap (λ n. has_bit n place) (sym same) ∙ without_same mask place within) in
-    omega (arith, most, differs)
+not_zero : (bit : ℕ) → bit ≡ 0 → bit ≡ 1 → ⊥
+not_zero bit none one = omega (arith, none, one)
+
+none_least : (bit : ℕ) → min bit 0 ≡ 0
+none_least bit = omega arith
+
+least_none : (bit : ℕ) → min 0 bit ≡ 0
+least_none bit = omega arith
+
+twice_least : (bit : ℕ) → min bit bit ≡ bit
+twice_least bit = omega arith
+
+-- half of one less than an even number that isn't 0
+half_less : (place n : ℕ) → ((k : ℕ) → k < suc place → bit_at n k ≡ 0) → bit_at n (suc place) ≡ 1 → (n - 1) / 2 ≡ n / 2 - 1
+half_less place n first here =
+    let even : n % 2 ≡ 0 = sym (bit_at_lowest n) ∙ first 0 (omega arith) in
+    let some : n ≢ 0 = λ none. not_zero (bit_at n (suc place)) (ap (λ m. bit_at m (suc place)) none ∙ bit_at-zero (suc place)) here in
+    omega (arith, even, some)
+
+-- one less than a number whose first bit is at a place: there it has none
+less_there : (place n : ℕ) → ((k : ℕ) → k < place → bit_at n k ≡ 0) → bit_at n place ≡ 1 → bit_at (n - 1) place ≡ 0
+less_there zero n first here =
+    let odd : n % 2 ≡ 1 = sym (bit_at_lowest n) ∙ here in
+    let rest : (n - 1) % 2 ≡ 0 = omega (arith, odd) in
+    bit_at_lowest (n - 1) ∙ rest
+less_there (suc place) n first here =
+    let half = half_less place n first here in
+    bit_at-suc (n - 1) place ∙ ap (λ m. bit_at m place) half
+    ∙ less_there place (n / 2) (λ k below. sym (bit_at-suc n k) ∙ first (suc k) (omega (arith, below))) (sym (bit_at-suc n place) ∙ here)
+
+-- ... and above it those of the number
+less_above : (place n k : ℕ) → ((j : ℕ) → j < place → bit_at n j ≡ 0) → bit_at n place ≡ 1 → place < k → bit_at (n - 1) k ≡ bit_at n k
+less_above place n zero first here above = absurd (omega (arith, above))
+less_above zero n (suc k) first here above =
+    let odd : n % 2 ≡ 1 = sym (bit_at_lowest n) ∙ here in
+    let half : (n - 1) / 2 ≡ n / 2 = omega (arith, odd) in
+    bit_at-suc (n - 1) k ∙ ap (λ m. bit_at m k) half ∙ sym (bit_at-suc n k)
+less_above (suc place) n (suc k) first here above =
+    bit_at-suc (n - 1) k ∙ ap (λ m. bit_at m k) (half_less place n first here)
+    ∙ less_above place (n / 2) k (λ j below. sym (bit_at-suc n j) ∙ first (suc j) (omega (arith, below)))
+    (sym (bit_at-suc n place) ∙ here) (omega (arith, above))
+    ∙ sym (bit_at-suc n k)
+
+-- without its first number a mask has the others
+pub without_first_same : (mask : ℕ) → 0 < mask → mask < 2 ^ 128
+    → has_bit (bit_and mask (mask - 1)) (trailing_zeros w128 mask) ≡ false
+unfolding has_bit
+without_first_same mask above fits =
+    let first = bit_at-trailing_zeros w128 mask above fits in
+    let place = trailing_zeros w128 mask in
+    ap (λ bit. bit == 1) (bit_at_and mask (mask - 1) place ∙ ap (min (bit_at mask place)) (less_there place mask first.2 first.1)
+    ∙ none_least (bit_at mask place))
+
+pub without_first_other : (mask k : ℕ) → 0 < mask → mask < 2 ^ 128 → k ≢ trailing_zeros w128 mask
+    → has_bit (bit_and mask (mask - 1)) k ≡ has_bit mask k
+unfolding has_bit
+without_first_other mask k above fits other =
+    let first = bit_at-trailing_zeros w128 mask above fits in
+    let place = trailing_zeros w128 mask in
+    ap (λ bit. bit == 1) (bit_at_and mask (mask - 1) k
+    ∙ ⊎_elim
+    (λ below. ap (λ bit. min bit (bit_at (mask - 1) k)) (first.2 k below) ∙ least_none (bit_at (mask - 1) k) ∙ sym (first.2 k below))
+    (λ from. ap (min (bit_at mask k)) (less_above place mask k first.2 first.1 (omega (arith, from, other))) ∙ twice_least (bit_at mask k))
+    (cases_lt k place))
+
+-- ... and is a smaller number
+pub smaller : (mask : ℕ) → 0 < mask → bit_and mask (mask - 1) < mask
+smaller mask above =
+    let most : bit_and mask (mask - 1) ≤ mask - 1 = and_le_r mask (mask - 1) in
+    omega (arith, most, above)
+
+-- the numbers below the first that a mask lacks
+pub ones_there : (mask k : ℕ) → mask < 2 ^ 128 → k < 128 → k < trailing_ones w128 mask → has_bit mask k ≡ true
+unfolding has_bit
+ones_there mask k fits within below =
+    ⊎_elim
+    (λ some. ap (λ bit. bit == 1) ((bit_at-trailing_ones w128 mask some).2 k below))
+    (λ none. let all : mask ≡ 2 ^ 128 - 1 = omega (arith, fits, none) in
+    ap (λ m. bit_at m k == 1) all ∙ ap (λ bit. bit == 1) (bit_at_ones 128 k within))
+    (cases_lt (mask + 1) (2 ^ 128))
 
 -- a mask of which another takes every number
 pub none_open : (wanted closed k : ℕ) → closed < 2 ^ 128 → k < 128 → bit_and wanted (bit_not w128 closed) ≡ 0 → has_bit wanted k ≡ true

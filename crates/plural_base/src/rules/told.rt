@@ -155,13 +155,32 @@ fn write_at(entries: &mut [Option<PluralCategory>], places: u128, entry: Option<
     ensures { (place : ℕ) → place < 128 → place < length entries.old → slice_index_or entries.new place None
         ≡ (if has_bit places place then entry else slice_index_or entries.old place None) }
 {
+    if has_each(places, entries.len()) {
+        entries.fill(entry);
+    } else {
+        write_each(entries, places, entry);
+    }
+}
+
+// Whether a mask has the numbers below a count, of which it is told at once.
+fn has_each(places: u128, count: usize) -> bool
+    ensures { result ≡ true → (place : ℕ) → place < 128 → place < count → has_bit places place ≡ true }
+{
+    places & 1 != 0 && places.trailing_ones() as usize >= count
+}
+
+// The same, place by place.
+fn write_each(entries: &mut [Option<PluralCategory>], places: u128, entry: Option<PluralCategory>)
+    ensures { (place : ℕ) → place < 128 → place < length entries.old → slice_index_or entries.new place None
+        ≡ (if has_bit places place then entry else slice_index_or entries.old place None) }
+{
     let mut left = places;
     while left != 0 {
-        let place = left.trailing_zeros();
-        if place as usize >= entries.len() {
+        let place = left.trailing_zeros() as usize;
+        if place >= entries.len() {
             return;
         }
-        entries[place as usize] = entry;
-        left &= !(1 << place);
+        entries[place] = entry;
+        left &= left - 1;
     }
 }

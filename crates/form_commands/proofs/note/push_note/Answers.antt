@@ -3,18 +3,32 @@ use Rattle.std.proofs.lemmas.List.{append-nil}
 use Rattle.form_commands.specs.Inner.PrintedSteps.{Grows}
 use Rattle.form_commands.specs.KeyNotes.{IsNote, note_text}
 use Rattle.serde_json.specs.View.{view}
+use Rattle.form_commands.proofs.NoteLemmas.{known_key}
 use Rattle.form_commands.proofs.StreamLemmas.{on_ok}
 use Rattle.form_commands.proofs.note.push_note.Goals as goal
 
 pub returns-in-Ok : goal.returns-in-Ok
 returns-in-Ok c =
-    let key = c.in-Ok.key in
+    let unknown = rw c.if-is_unknown_by.true at c.is_unknown_by.ensures in
+    ([], inr (((c.in-Ok.key.now, c.in-Ok.ensures.ok, unknown.0), unknown.1), refl), sym (append-nil (string_bytes c.args.notes.now)))
+
+pub returns-in-Ok-2 : goal.returns-in-Ok-2
+returns-in-Ok-2 c =
+    let document = view c.args.document.now in
+    let locale = c.args.locale.now in
+    let key = c.in-Ok-2.key.now in
     let old = string_bytes c.args.notes.now in
     let new = string_bytes c.push_key.new.notes in
-    on_ok {P = new ≡ old ++ note_text c.args.place.now c.args.part c.args.locale.now key.now}
-    {Q = Grows (IsNote (view c.args.document.now) c.args.place.now c.args.part c.args.locale.now) old new} c.push_key.result
-    (λ grown. (note_text c.args.place.now c.args.part c.args.locale.now key.now, inl (key.now, c.in-Ok.ensures.ok, refl), grown))
+    let known = known_key document c.args.part locale c.in-Ok.key.now c.in-Ok.ensures.ok
+    (rw c.if-is_unknown_by.false at c.is_unknown_by.ensures) in
+    on_ok {P = new ≡ old ++ note_text c.args.place.now c.args.part locale key}
+    {Q = Grows (IsNote document c.args.place.now c.args.part locale) old new} c.push_key.result
+    (λ grown. (note_text c.args.place.now c.args.part locale key, inl (known, inl (key, c.in-Ok-2.ensures.ok, refl)), grown))
     c.push_key.ensures
 
 pub returns-in-Err : goal.returns-in-Err
-returns-in-Err c = ([], inr (c.in-Err.field-0, c.in-Err.ensures.err, refl), sym (append-nil (string_bytes c.args.notes.now)))
+returns-in-Err c = (
+  [],
+  inl (inl (inr (c.in-Err.field-0, c.in-Err.ensures.err)), inr (c.in-Err.field-0, c.in-Err.ensures.err, refl)),
+  sym (append-nil (string_bytes c.args.notes.now)),
+)

@@ -3,8 +3,8 @@
 use crate::tests::assertion::holds;
 use crate::tests::awaits::awaiting;
 use crate::tests::forms::asked::{
-    Asked, BESIDE_A_NUMBER, LINES, NOTE_OF_ANOTHER_LANGUAGE, OF_A_LONG_CHAIN, OF_ANOTHER_LANGUAGE,
-    RULES, WITHOUT_THE_LANGUAGE, answer,
+    Asked, BESIDE_A_NUMBER, LINES, NOTE_OF_ANOTHER_LANGUAGE, NOTE_OF_ROOT, OF_A_LONG_CHAIN,
+    OF_ANOTHER_LANGUAGE, OF_ORDINALS_ALONE, RULES, WITHOUT_THE_LANGUAGE, answer,
 };
 use form_commands::{FormsError, LanguageError, SimilarKeys};
 use std::alloc::Global;
@@ -92,6 +92,12 @@ fn growth_where_a_second_outline_serves(rt: HostRuntime) {
 #[test]
 fn growth_where_all_of_the_part_serves(rt: HostRuntime) {
     hold_again(&rt, rt.alloc(), OF_A_LONG_CHAIN, &OF_FRENCH)
+}
+
+#[test]
+fn growth_where_root_serves_a_known_language(rt: HostRuntime) {
+    let asked = [(Asked::Lines, NOTE_OF_ROOT), (Asked::Gettext, NOTE_OF_ROOT)];
+    hold_again(&rt, rt.alloc(), OF_ORDINALS_ALONE, &asked)
 }
 
 // Returns whether the language is told as unknown, with the first three keys, and nothing is written.

@@ -4,7 +4,9 @@ use crate::call::Call;
 use crate::kinds::five_rules::print_rules;
 use crate::kinds::locales::{next_provider, next_type};
 use plural_base::PluralRuleType;
-use plural_fallback::{FallbackProvider, MOST_LOCALES, Part, find_first, is_unknown, next_locale};
+use plural_fallback::{
+    FallbackProvider, MOST_LOCALES, Part, find_first, is_known, is_unknown, next_locale,
+};
 use serde_json::Value;
 
 /// Makes the call of a kind of this file. Returns whether there is such a kind.
@@ -15,6 +17,7 @@ pub fn make(kind: &str, call: &mut Call) -> bool {
         "fallback_rules" => fallback_rules(call),
         "fallback_ranges" => fallback_ranges(call),
         "fallback_unknown" => fallback_unknown(call),
+        "fallback_known" => fallback_known(call),
         _ => return false,
     }
     true
@@ -131,5 +134,16 @@ fn fallback_unknown(call: &mut Call) {
         call.print("unknown");
     } else {
         call.print("known");
+    }
+}
+
+// Whether the language of a locale is known by a document.
+fn fallback_known(call: &mut Call) {
+    let document = call.value();
+    let locale = call.text();
+    if is_known(&document, locale.as_str()) {
+        call.print("known");
+    } else {
+        call.print("unknown");
     }
 }

@@ -1,7 +1,7 @@
 use Rattle.std.proofs.Common.{inr}
 use Rattle.serde_json.specs.View.{view}
 use Rattle.form_commands.proofs.UnknownLemmas.{told}
-use Rattle.form_commands.proofs.unknown_language.is_unknown_in.Goals as goal
+use Rattle.form_commands.proofs.unknown_language.has_roots_key.Goals as goal
 
 pub returns-in-Ok : goal.returns-in-Ok
 returns-in-Ok c =

@@ -1,5 +1,5 @@
 use Rattle.plural_base.proofs.integers.Writes.{IsWritten}
-use Rattle.plural_base.proofs.rules.told.write_at.Given as goal
+use Rattle.plural_base.proofs.rules.told.write_each.Given as goal
 
 abbrev pub invariant-loop-left : goal.invariant-loop-left
 invariant-loop-left l = IsWritten l.fn.entries l.entries l.places l.left l.entry
