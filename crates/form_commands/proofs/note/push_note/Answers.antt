@@ -16,14 +16,14 @@ pub returns-in-Ok-2 : goal.returns-in-Ok-2
 returns-in-Ok-2 c =
     let document = view c.args.document.now in
     let locale = c.args.locale.now in
-    let key = c.in-Ok-2.key.now in
+    let key = c.in-Ok.key.now in
     let old = string_bytes c.args.notes.now in
     let new = string_bytes c.push_key.new.notes in
     let known = known_key document c.args.part locale c.in-Ok.key.now c.in-Ok.ensures.ok
     (rw c.if-is_unknown_by.false at c.is_unknown_by.ensures) in
     on_ok {P = new ≡ old ++ note_text c.args.place.now c.args.part locale key}
     {Q = Grows (IsNote document c.args.place.now c.args.part locale) old new} c.push_key.result
-    (λ grown. (note_text c.args.place.now c.args.part locale key, inl (known, inl (key, c.in-Ok-2.ensures.ok, refl)), grown))
+    (λ grown. (note_text c.args.place.now c.args.part locale key, inl (known, inl (key, c.in-Ok.ensures.ok, refl)), grown))
     c.push_key.ensures
 
 pub returns-in-Err : goal.returns-in-Err
