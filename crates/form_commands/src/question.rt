@@ -94,11 +94,7 @@ fn with_rules<'w>(format: Format, words: &'w [&'w str]) -> Option<Question<'w>>
 }
 
 // The question of the words behind the options.
-fn of_files<'w>(
-    file: Option<&'w str>,
-    format: Format,
-    words: &'w [&'w str],
-) -> Option<Question<'w>>
+fn of_files<'w>(file: Option<&'w str>, format: Format, words: &'w [&'w str]) -> Option<Question<'w>>
     ensures { option_map question_view result ≡ of_files (option_copied file.entry) format (words_view words.now) }
 {
     if words.is_empty() || has_option(words) {
