@@ -1,5 +1,5 @@
 -- No object of a finding has a float, and neither has a log.
-use Rattle.std.proofs.Common.{◌≡◌, ap, false, refl, List, [], ◌∷◌, Option, Some, None, ◌∙◌}
+use Rattle.std.proofs.Common.{◌≡◌, ap, false, refl, List, [], ◌∷◌, Some, None, ◌∙◌}
 use Rattle.std.specs.Prelude.{map, ◌||◌}
 use Rattle.serde_json.specs.View.{items_of}
 use Rattle.serde_json.specs.Written.{has_float, items_have_float}

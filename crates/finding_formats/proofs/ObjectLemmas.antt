@@ -1,5 +1,5 @@
 -- The objects of findings and of counts are plain, and nest little.
-use Rattle.std.proofs.Common.{◌≡◌, ◌≢◌, ℕ, ◌<◌, ◌≤◌, ◌^◌, List, [], ◌∷◌, ◌++◌, Option, Some, None, refl, sym, ap, ◌∙◌, arith, codes, lit≤}
+use Rattle.std.proofs.Common.{◌≡◌, ℕ, ◌<◌, ◌≤◌, ◌^◌, List, [], ◌∷◌, ◌++◌, Some, None, refl, ap, ◌∙◌, arith, codes, lit≤}
 use Rattle.std.specs.List.{All}
 use Rattle.std.specs.Prelude.{map}
 use Rattle.std.proofs.lemmas.List.Elements.{All-append, All-cons, All-head, All-nil, All-tail}
@@ -18,7 +18,7 @@ use Rattle.message_report.specs.declared.cause.Cause.TheVariants as cause
 use Rattle.message_report.specs.declared.counts.Counts.{Counts}
 use Rattle.message_report.specs.declared.fault.FormFault.{FormFault}
 use Rattle.message_report.specs.declared.fault.FormFault.TheVariants as fault
-use Rattle.serde_json.specs.Data.{Data, number, unsigned}
+use Rattle.serde_json.specs.Data.{Data}
 use Rattle.serde_json.specs.Find.{get}
 use Rattle.serde_json.specs.Written.{outline}
 use Rattle.finding_formats.specs.FindingObjects.{cause_data, counts_data, finding_data, place_data}

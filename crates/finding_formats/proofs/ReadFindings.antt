@@ -1,7 +1,7 @@
 -- A finding is read again from its object.
-use Rattle.std.proofs.Common.{◌≡◌, ℕ, true, false, List, [], ◌∷◌, Option, Some, None, refl, sym, ap, ◌∙◌, codes, Bool}
+use Rattle.std.proofs.Common.{◌≡◌, ℕ, List, [], Option, Some, None, refl, sym, ap, ◌∙◌, codes, Bool}
 use Rattle.std.specs.Prelude.{bytes_eq, if◌then◌else◌, is_some, unwrap_or}
-use Rattle.std.specs.Str.{IsUtf8, is_utf8}
+use Rattle.std.specs.Str.{IsUtf8}
 use Rattle.std.proofs.lemmas.Str.{is_utf8-from_IsUtf8}
 use Rattle.icu_plurals.specs.Categories.{name_of}
 use Rattle.icu_plurals.specs.declared.PluralCategory.{PluralCategory}
@@ -24,10 +24,10 @@ use Rattle.message_report.specs.declared.fault.FormFault.{FormFault}
 use Rattle.message_report.specs.declared.fault.FormFault.TheVariants as fault
 use Rattle.message_report.specs.declared.form.Form.{Form}
 use Rattle.message_report.specs.declared.form.Form.TheVariants as form
-use Rattle.serde_json.specs.Data.{Num, unsigned, Data, null, number, string, array, object, Items, no_items, item}
+use Rattle.serde_json.specs.Data.{Num, unsigned, Data, null, number, string, array, Items, no_items, item}
 use Rattle.serde_json.specs.Find.{get}
 use Rattle.finding_formats.specs.FindingObjects.{cause_data, fault_kind_name, finding_data, place_data, shown_bytes}
-use Rattle.finding_formats.specs.JsonLineLaws.{PlaceHasTexts, HasTexts, SelectorIsText}
+use Rattle.finding_formats.specs.JsonLineLaws.{PlaceHasTexts, HasTexts}
 
 -- ---- What stands under a key
 

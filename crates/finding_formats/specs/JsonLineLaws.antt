@@ -1,7 +1,7 @@
 -- What lines of JSON tell of what is found.
 --     HasTexts finding      the bytes of patterns in its place are texts, and its numbers fit 64 bits
 --     LinesTellFindings      the lines of what is found tell the findings and the counts
-use Rattle.std.specs.Prelude.{◌≡◌, ℕ, ◌<◌, ◌^◌, List, All, Option, Some, None}
+use Rattle.std.specs.Prelude.{◌≡◌, ℕ, ◌<◌, ◌^◌, All, Option, Some, None}
 use Rattle.std.specs.Str.{IsUtf8}
 use Rattle.message_pattern.specs.PatternParts.{Selector, Exactly, Keyword}
 use Rattle.message_report.specs.FoundInMessages.{Found}

@@ -1,7 +1,7 @@
 -- What is found in files of messages as a log of SARIF 2.1.0: one run, whose results are the
 -- findings in their order, and whose rules are the codes.
 use Rattle.std.specs.Prelude.{ℕ, List, codes, map}
-use Rattle.serde_json.specs.Data.{Data, number, unsigned, string, array, object, Items, no_items, item, Members, no_members, member}
+use Rattle.serde_json.specs.Data.{Data, number, unsigned, string, array, object, no_items, item, no_members, member}
 use Rattle.serde_json.specs.View.{items_of}
 use Rattle.serde_json.specs.Written.{compact_text}
 use Rattle.plural_documents.specs.FirstLines.{ended_line}

@@ -88,21 +88,21 @@ fn print_log(call: &mut Call, log: &Value) {
     call.print(" rules ");
     print_count(call, log.pointer("/runs/0/tool/driver/rules"));
     if let Some(results) = log.pointer("/runs/0/results").and_then(Value::as_array) {
-        for result in results.iter() {
-            print_result(call, log, result);
+        for told in results.iter() {
+            print_result(call, log, told);
         }
     }
 }
 
 // Prints the level of a result, its code beside the code of the rule that it picks, the URI and
 // the place.
-fn print_result(call: &mut Call, log: &Value, result: &Value) {
+fn print_result(call: &mut Call, log: &Value, told: &Value) {
     call.print(" | ");
-    print_text(call, result.pointer("/level"));
+    print_text(call, told.pointer("/level"));
     call.print(" ");
-    print_text(call, result.pointer("/ruleId"));
+    print_text(call, told.pointer("/ruleId"));
     call.print(" ");
-    let index = result.pointer("/ruleIndex").and_then(Value::as_u64);
+    let index = told.pointer("/ruleIndex").and_then(Value::as_u64);
     let rules = log.pointer("/runs/0/tool/driver/rules");
     match index {
         Some(index) => print_id(call, rules, index),
@@ -111,15 +111,15 @@ fn print_result(call: &mut Call, log: &Value, result: &Value) {
     call.print(" ");
     print_text(
         call,
-        result.pointer("/locations/0/physicalLocation/artifactLocation/uri"),
+        told.pointer("/locations/0/physicalLocation/artifactLocation/uri"),
     );
     call.print(" ");
     print_text(
         call,
-        result.pointer("/locations/0/logicalLocations/0/fullyQualifiedName"),
+        told.pointer("/locations/0/logicalLocations/0/fullyQualifiedName"),
     );
     call.print(": ");
-    print_text(call, result.pointer("/message/text"));
+    print_text(call, told.pointer("/message/text"));
 }
 
 // Prints the code of the rule at an index.
