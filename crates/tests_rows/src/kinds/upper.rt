@@ -11,7 +11,7 @@ mod elements_json;
 mod exported_bytes;
 mod exports;
 mod fallback;
-mod finding_formats;
+mod findings;
 mod forms;
 mod message_reports;
 mod messages;
@@ -34,7 +34,7 @@ pub fn make(kind: &str, call: &mut Call) -> bool {
         || checker::make(kind, call)
         || fallback::make(kind, call)
         || message_reports::make(kind, call)
-        || finding_formats::make(kind, call)
+        || findings::make(kind, call)
         || forms::make(kind, call)
         || callers::make(kind, call)
         || patterns::make(kind, call)
