@@ -7,6 +7,7 @@ use Rattle.icu_plurals.specs.DocumentJson.{document_of_json}
 use Rattle.icu_plurals.specs.Json.{IsRefusal}
 use Rattle.icu_plurals.specs.declared.JsonError.{JsonError}
 use Rattle.icu_plurals.specs.declared.JsonError.TheVariants as json
+use Rattle.message_report.specs.FoundInMessages.{Found}
 use Rattle.message_report.specs.declared.error.ReportError.TheVariants as report
 use Rattle.message_report.specs.declared.file.MessageFile.{MessageFile}
 use Rattle.plural_documents.specs.Inputs.{GivesInput, IsInput, most_bytes}
@@ -16,7 +17,7 @@ use Rattle.plural_documents.proofs.InputLemmas.{some_input}
 use Rattle.plural_fallback.specs.declared.locales.Part.{Part}
 use Rattle.serde_json.specs.Data.{Data}
 use Rattle.serde_json.specs.declared.Value.{Value}
-use Rattle.form_commands.specs.FormsAnswers.{IsAnsweredLines, IsAnsweredText, IsChecked, IsDocumentIn, IsStreamed}
+use Rattle.form_commands.specs.FormsAnswers.{IsAnsweredLines, IsAnsweredText, IsCheckedAs, IsDocumentIn, IsStreamed}
 use Rattle.form_commands.specs.Inner.FormsInputFaults.{rules_input_fault, refused_rules}
 use Rattle.form_commands.specs.Inner.RunSteps.{AnswersLines, Checks, GivesDocument, GivesJsonValue, WritesAnswer, WritesText}
 use Rattle.form_commands.specs.Languages.{IsKnown}
@@ -119,38 +120,38 @@ lines_answered part locale input document before left old new r given known (inr
 -- ---- Files of messages
 
 -- without a document nothing is reported
-pub no_report : (files : List MessageFile) (input : List ℕ) (old : Option (List ℕ)) (error : FormsError)
-    → GivesDocument input (Err error) → IsChecked files input old old (Err error)
-unfolding IsChecked
-no_report files input old Rules given = Keeps-refl old
-no_report files input old TooLong given = (given, Keeps-refl old)
-no_report files input old Json given = (given, Keeps-refl old)
-no_report files input old (Refused error) given = absurd given
-no_report files input old (Language error) given = given
-no_report files input old Numbers given = given
-no_report files input old Write given = absurd given
-no_report files input old Memory given = Keeps-refl old
+pub no_report : (text_of : Found → List ℕ) (files : List MessageFile) (input : List ℕ) (old : Option (List ℕ)) (error : FormsError)
+    → GivesDocument input (Err error) → IsCheckedAs text_of files input old old (Err error)
+unfolding IsCheckedAs
+no_report text_of files input old Rules given = Keeps-refl old
+no_report text_of files input old TooLong given = (given, Keeps-refl old)
+no_report text_of files input old Json given = (given, Keeps-refl old)
+no_report text_of files input old (Refused error) given = absurd given
+no_report text_of files input old (Language error) given = given
+no_report text_of files input old Numbers given = given
+no_report text_of files input old Write given = absurd given
+no_report text_of files input old Memory given = Keeps-refl old
 
 -- the report under the rules of a document
-pub report_checked : (files : List MessageFile) (input : List ℕ) (value : Data) (old new : Option (List ℕ)) (r : Result Verdict FormsError)
-    → IsDocumentIn input value → Checks value files old new r → IsChecked files input old new r
-unfolding IsChecked
-report_checked files input value old new r given (inl (document, is, (Ok counts, reported, same))) =
+pub report_checked : (text_of : Found → List ℕ) (files : List MessageFile) (input : List ℕ) (value : Data) (old new : Option (List ℕ)) (r : Result Verdict FormsError)
+    → IsDocumentIn input value → Checks text_of value files old new r → IsCheckedAs text_of files input old new r
+unfolding IsCheckedAs
+report_checked text_of files input value old new r given (inl (document, is, (Ok counts, reported, same))) =
     rw same (counts, (value, document, given, is, reported), refl)
-report_checked files input value old new r given (inl (document, is, (Err report.Write, reported, same))) =
+report_checked text_of files input value old new r given (inl (document, is, (Err report.Write, reported, same))) =
     rw same (value, document, given, is, reported)
-report_checked files input value old new r given (inl (document, is, (Err report.Memory, reported, same))) = rw same reported
-report_checked files input value old new r given (inr (inl (error, is, same, kept))) = rw same (value, given, is, kept)
-report_checked files input value old new r given (inr (inr (same, kept))) = rw same kept
+report_checked text_of files input value old new r given (inl (document, is, (Err report.Memory, reported, same))) = rw same reported
+report_checked text_of files input value old new r given (inr (inl (error, is, same, kept))) = rw same (value, given, is, kept)
+report_checked text_of files input value old new r given (inr (inr (same, kept))) = rw same kept
 
 -- rules that are refused
-pub no_rules : (value : Data) (files : List MessageFile) (old : Option (List ℕ)) (error : JsonError) (fault : FormsError)
-    → IsRefusal error (document_of_json value) → fault ≡ refused_rules error → Checks value files old old (Err fault)
-no_rules value files old json.Float fault is same = rw same (inr (inl (json.Float, is, refl, Keeps-refl old)))
-no_rules value files old json.Shape fault is same = rw same (inr (inl (json.Shape, is, refl, Keeps-refl old)))
-no_rules value files old (json.Rule category error) fault is same =
+pub no_rules : (text_of : Found → List ℕ) (value : Data) (files : List MessageFile) (old : Option (List ℕ)) (error : JsonError) (fault : FormsError)
+    → IsRefusal error (document_of_json value) → fault ≡ refused_rules error → Checks text_of value files old old (Err fault)
+no_rules text_of value files old json.Float fault is same = rw same (inr (inl (json.Float, is, refl, Keeps-refl old)))
+no_rules text_of value files old json.Shape fault is same = rw same (inr (inl (json.Shape, is, refl, Keeps-refl old)))
+no_rules text_of value files old (json.Rule category error) fault is same =
     rw same (inr (inl (json.Rule category error, is, refl, Keeps-refl old)))
-no_rules value files old json.RangeKey fault is same = rw same (inr (inl (json.RangeKey, is, refl, Keeps-refl old)))
-no_rules value files old json.RangeValue fault is same = rw same (inr (inl (json.RangeValue, is, refl, Keeps-refl old)))
-no_rules value files old (json.Pack error) fault is same = rw same (inr (inl (json.Pack error, is, refl, Keeps-refl old)))
-no_rules value files old json.Memory fault is same = rw same (inr (inr (refl, Keeps-refl old)))
+no_rules text_of value files old json.RangeKey fault is same = rw same (inr (inl (json.RangeKey, is, refl, Keeps-refl old)))
+no_rules text_of value files old json.RangeValue fault is same = rw same (inr (inl (json.RangeValue, is, refl, Keeps-refl old)))
+no_rules text_of value files old (json.Pack error) fault is same = rw same (inr (inl (json.Pack error, is, refl, Keeps-refl old)))
+no_rules text_of value files old json.Memory fault is same = rw same (inr (inr (refl, Keeps-refl old)))

@@ -6,7 +6,7 @@ use Rattle.std.specs.Io.KnownBytes.{Appends}
 use Rattle.std.proofs.KnownBytes.{Keeps-refl}
 use Rattle.std.proofs.Math.Seq.{drop-cons}
 use Rattle.std.proofs.lemmas.List.{append-nil}
-use Rattle.message_report.specs.MessagesReportText.{messages_report_text}
+use Rattle.message_report.specs.FoundInMessages.{Found}
 use Rattle.message_report.specs.declared.file.MessageFile.{MessageFile}
 use Rattle.plural_documents.specs.Inputs.{IsPartWritten}
 use Rattle.plural_fallback.specs.UnknownLanguages.{is_unknown}
@@ -15,7 +15,7 @@ use Rattle.plural_fallback.specs.declared.locales.Part.TheVariants.{Cardinal, Or
 use Rattle.serde_json.specs.Data.{Data, Members, no_members, member}
 use Rattle.serde_json.specs.View.{members_view}
 use Rattle.serde_json.specs.declared.Value.{Value}
-use Rattle.form_commands.specs.FormsAnswers.{IsAnsweredLines, IsAnsweredText, IsChecked, IsDocumentIn, IsStreamed}
+use Rattle.form_commands.specs.FormsAnswers.{IsAnsweredLines, IsAnsweredText, IsCheckedAs, IsDocumentIn, IsStreamed}
 use Rattle.form_commands.specs.InputLines.{lines_of}
 use Rattle.form_commands.specs.Inner.NoteSteps.{Notes, NotesAfter, Writes}
 use Rattle.form_commands.specs.Inner.RunSteps.{AnswersLines, Checks}
@@ -158,15 +158,15 @@ lines_noted part locale input notes taken left old new before after (Ok verdict)
     )
 lines_noted part locale input notes taken left old new before after (Err error) result a w = rw w.0 a
 
-pub check_noted : (files : List MessageFile) (input notes : List ℕ) (old new before after : Option (List ℕ))
-    (answer result : Result Verdict FormsError) → IsChecked files input old new answer → Notes answer notes before after result
-    → IsChecked files input old new result
-unfolding IsChecked
-check_noted files input notes old new before after (Ok verdict) result a (inl w) = rw w.0 a
-check_noted files input notes old new before after (Ok verdict) result a (inr w) =
+pub check_noted : (text_of : Found → List ℕ) (files : List MessageFile) (input notes : List ℕ) (old new before after : Option (List ℕ))
+    (answer result : Result Verdict FormsError) → IsCheckedAs text_of files input old new answer → Notes answer notes before after result
+    → IsCheckedAs text_of files input old new result
+unfolding IsCheckedAs
+check_noted text_of files input notes old new before after (Ok verdict) result a (inl w) = rw w.0 a
+check_noted text_of files input notes old new before after (Ok verdict) result a (inr w) =
     let r = a.1 in
-    rw w.0 (r.0, r.1, r.2, r.3, (r.4.0, r.4.1, whole_part old new (messages_report_text r.4.0) r.4.3))
-check_noted files input notes old new before after (Err error) result a w = rw w.0 a
+    rw w.0 (r.0, r.1, r.2, r.3, (r.4.0, r.4.1, whole_part old new (text_of r.4.0) r.4.3))
+check_noted text_of files input notes old new before after (Err error) result a w = rw w.0 a
 
 -- ---- The answers to a document, with their notes
 
@@ -201,18 +201,18 @@ lines_noted_by part locale AreNotes input document taken left old new before aft
   rw n.1 (inl n.2),
 )
 
-pub report_noted : (files : List MessageFile) (AreNotes : Data → List ℕ → Type 0) (input : List ℕ) (document : Data)
+pub report_noted : (text_of : Found → List ℕ) (files : List MessageFile) (AreNotes : Data → List ℕ → Type 0) (input : List ℕ) (document : Data)
     (old new before after : Option (List ℕ)) (result : Result Verdict FormsError) → IsDocumentIn input document
-    → NotesAfter (Checks document files old new) (AreNotes document) before after result
-    → IsNoted AreNotes (IsChecked files input old new) input before after result
+    → NotesAfter (Checks text_of document files old new) (AreNotes document) before after result
+    → IsNoted AreNotes (IsCheckedAs text_of files input old new) input before after result
 unfolding AreNoted
-report_noted files AreNotes input document old new before after result given (inl n) =
-    let answer = report_checked files input document old new n.0 given n.2 in (
-      check_noted files input n.1 old new before after n.0 result answer n.4,
-      noted AreNotes (IsChecked files input old new) input document n.1 before after n.0 result given n.3 answer n.4,
+report_noted text_of files AreNotes input document old new before after result given (inl n) =
+    let answer = report_checked text_of files input document old new n.0 given n.2 in (
+      check_noted text_of files input n.1 old new before after n.0 result answer n.4,
+      noted AreNotes (IsCheckedAs text_of files input old new) input document n.1 before after n.0 result given n.3 answer n.4,
     )
-report_noted files AreNotes input document old new before after result given (inr n) = (
-  rw n.1 (report_checked files input document old new (Err Memory) given n.0),
+report_noted text_of files AreNotes input document old new before after result given (inr n) = (
+  rw n.1 (report_checked text_of files input document old new (Err Memory) given n.0),
   rw n.1 (inl n.2),
 )
 

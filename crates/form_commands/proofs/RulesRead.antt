@@ -1,5 +1,6 @@
 -- What is read of the rules.
 use Rattle.std.proofs.Common.{◌≡◌, ℕ, ◌<◌, ◌≤◌, List, length, Option, Result, Ok, Err, inl, inr, refl, subst, arith}
+use Rattle.message_report.specs.FoundInMessages.{Found}
 use Rattle.message_report.specs.declared.file.MessageFile.{MessageFile}
 use Rattle.plural_documents.specs.Inputs.{IsRead, IsReadAfter, IsReadToEnd, input_origin, most_bytes}
 use Rattle.plural_documents.specs.declared.input.InputError.{InputError}
@@ -8,7 +9,7 @@ use Rattle.plural_documents.proofs.InputLemmas.{all_is_some}
 use Rattle.plural_fallback.specs.declared.locales.Part.{Part}
 use Rattle.serde_json.specs.Data.{Data}
 use Rattle.serde_json.specs.declared.Value.{Value}
-use Rattle.form_commands.specs.FormsAnswers.{IsAnsweredLines, IsAnsweredText, IsChecked, IsDocumentIn, forms_origin}
+use Rattle.form_commands.specs.FormsAnswers.{IsAnsweredLines, IsAnsweredText, IsCheckedAs, IsDocumentIn, forms_origin}
 use Rattle.form_commands.specs.Inner.FormsInputFaults.{rules_input_fault}
 use Rattle.form_commands.specs.Inner.RunSteps.{GivesJsonValue, GivesRulesIn}
 use Rattle.form_commands.specs.PrintedTexts.{PrintedText}
@@ -76,10 +77,10 @@ lines_read part locale left rest before after old new input document r end given
     (λ is. let long = subst (IsAnsweredLines part locale input before after old new) is answered in
     not_both (length input) most_bytes given.0 long.0)
 
-pub report_read : (files : List MessageFile) (left rest old new : Option (List ℕ)) (input : List ℕ) (document : Data)
+pub report_read : (text_of : Found → List ℕ) (files : List MessageFile) (left rest old new : Option (List ℕ)) (input : List ℕ) (document : Data)
     (r : Result Verdict FormsError) → IsReadToEnd left rest → IsDocumentIn input document
-    → IsChecked files input old new r → IsRead forms_origin left rest r
-unfolding IsChecked
-report_read files left rest old new input document r end given checked =
+    → IsCheckedAs text_of files input old new r → IsRead forms_origin left rest r
+unfolding IsCheckedAs
+report_read text_of files left rest old new input document r end given checked =
     read_to_end left rest r end
-    (λ is. let long = subst (IsChecked files input old new) is checked in not_both (length input) most_bytes given.0 long.0)
+    (λ is. let long = subst (IsCheckedAs text_of files input old new) is checked in not_both (length input) most_bytes given.0 long.0)

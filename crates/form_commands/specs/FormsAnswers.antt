@@ -5,13 +5,16 @@
 --     IsAnsweredText IsAnswer input old new result      what a writer took, and the result
 --     IsAnsweredLines part locale input before left old new result      the same for the lines of
 --         another input
---     IsChecked files input old new result      the same for files of messages
+--     IsCheckedAs text_of files input old new result      the same for files of messages, of which what is
+--         found is printed so; IsChecked is that of lines
 --     forms_origin fault      where a fault comes from: what was read of the rules by then
 use Rattle.std.specs.Prelude.{◌≡◌, ◌⊎◌, ℕ, ◌<◌, ◌≤◌, ◌==◌, List, ◌++◌, length, Option, Some, None, Result, Ok, Err, if◌then◌else◌}
 use Rattle.std.specs.Io.KnownBytes.{Appends, Consumes, IsAtEnd, Keeps}
 use Rattle.icu_plurals.specs.DocumentJson.{Document, document_of_json, found}
 use Rattle.icu_plurals.specs.FiveRules.{FiveRules}
-use Rattle.message_report.specs.MessagesRun.{IsReported}
+use Rattle.message_report.specs.FoundInMessages.{Found}
+use Rattle.message_report.specs.MessagesReportText.{messages_report_text}
+use Rattle.message_report.specs.MessagesRun.{IsReportedAs}
 use Rattle.message_report.specs.RulesSource.{RulesSource, source_of}
 use Rattle.message_report.specs.declared.counts.Counts.{Counts}
 use Rattle.message_report.specs.declared.error.ReportError.{ReportError}
@@ -146,27 +149,32 @@ rules_source value document =
     (parent_in value)
 
 -- the report under the rules that an input writes
-abbrev pub IsReportedBy : List MessageFile → List ℕ → Option (List ℕ) → Option (List ℕ) → Result Counts ReportError → Type 0
-IsReportedBy files input old new result =
+abbrev pub IsReportedBy : (Found → List ℕ) → List MessageFile → List ℕ → Option (List ℕ) → Option (List ℕ) → Result Counts ReportError → Type 0
+IsReportedBy text_of files input old new result =
     (value : Data) × (document : Document) × IsDocumentIn input value × (document_of_json value ≡ Ok document)
-    × IsReported (rules_source value document) files old new result
+    × IsReportedAs text_of (rules_source value document) files old new result
 
 abbrev pub verdict_of_counts : Counts → Verdict
 verdict_of_counts counts = if counts.faults == 0 then Complete else Faults
 
 -- the report, or a beginning of it; or a fault, and nothing at all
-unfoldable pub IsChecked : List MessageFile → List ℕ → Option (List ℕ) → Option (List ℕ) → Result Verdict FormsError → Type 0
-IsChecked files input old new (Ok verdict) =
-    (counts : Counts) × IsReportedBy files input old new (Ok counts) × (verdict ≡ verdict_of_counts counts)
-IsChecked files input old new (Err Rules) = Keeps old new
-IsChecked files input old new (Err TooLong) = (most_bytes < length input) × Keeps old new
-IsChecked files input old new (Err Json) = IsNoJson input × Keeps old new
-IsChecked files input old new (Err (Refused error)) =
+unfoldable pub IsCheckedAs : (Found → List ℕ) → List MessageFile → List ℕ → Option (List ℕ) → Option (List ℕ)
+    → Result Verdict FormsError → Type 0
+IsCheckedAs text_of files input old new (Ok verdict) =
+    (counts : Counts) × IsReportedBy text_of files input old new (Ok counts) × (verdict ≡ verdict_of_counts counts)
+IsCheckedAs text_of files input old new (Err Rules) = Keeps old new
+IsCheckedAs text_of files input old new (Err TooLong) = (most_bytes < length input) × Keeps old new
+IsCheckedAs text_of files input old new (Err Json) = IsNoJson input × Keeps old new
+IsCheckedAs text_of files input old new (Err (Refused error)) =
     (value : Data) × IsDocumentIn input value × (document_of_json value ≡ Err error) × Keeps old new
-IsChecked files input old new (Err (Language error)) = ⊥
-IsChecked files input old new (Err Numbers) = ⊥
-IsChecked files input old new (Err Write) = IsReportedBy files input old new (Err report.Write)
-IsChecked files input old new (Err Memory) = Keeps old new
+IsCheckedAs text_of files input old new (Err (Language error)) = ⊥
+IsCheckedAs text_of files input old new (Err Numbers) = ⊥
+IsCheckedAs text_of files input old new (Err Write) = IsReportedBy text_of files input old new (Err report.Write)
+IsCheckedAs text_of files input old new (Err Memory) = Keeps old new
+
+-- printed as lines
+abbrev pub IsChecked : List MessageFile → List ℕ → Option (List ℕ) → Option (List ℕ) → Result Verdict FormsError → Type 0
+IsChecked = IsCheckedAs messages_report_text
 
 -- ---- What is read
 

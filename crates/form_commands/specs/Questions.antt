@@ -1,9 +1,12 @@
 -- The questions of the program, and the words that ask them.
 --     of_words words      the question, if the words are one
-use Rattle.std.specs.Prelude.{ℕ, List, [], ◌∷◌, codes, Bool, true, false, ◌&&◌, ◌||◌, not, Option, Some, None, bytes_eq, nat_eq, if◌then◌else◌}
+use Rattle.std.specs.Prelude.{ℕ, List, [], ◌∷◌, codes, Bool, true, false, ◌&&◌, ◌||◌, not, Option, Some, None, option_map, option_and_then, is_some, bytes_eq, nat_eq, if◌then◌else◌}
 use Rattle.std.specs.List.{list_any, starts_with}
 use Rattle.plural_fallback.specs.declared.locales.Part.{Part}
 use Rattle.plural_fallback.specs.declared.locales.Part.TheVariants.{Cardinal, Ordinal}
+use Rattle.finding_formats.specs.FindingFormats.{format_named}
+use Rattle.finding_formats.specs.declared.format.Format.{Format}
+use Rattle.finding_formats.specs.declared.format.Format.TheVariants.{Text}
 
 -- the part whose rules are asked for, the locale, and the file after `--rules`
 pub record Wanted : Type 0 where
@@ -12,14 +15,14 @@ pub record Wanted : Type 0 where
   pub file : Option (List ℕ)
 
 -- --help, --version, list LOCALE, gettext LOCALE, category LOCALE NUMBER.., check FILE.. with the
--- file after `--rules`
+-- file after `--rules` and the format of its report
 pub data Question : Type 0 where
   help : Question
   version : Question
   list : Wanted → Question
   gettext : Wanted → Question
   category : Wanted → List (List ℕ) → Question
-  check : Option (List ℕ) → List (List ℕ) → Question
+  check : Option (List ℕ) → Format → List (List ℕ) → Question
 
 -- ---- Options
 
@@ -47,6 +50,21 @@ abbrev pub file_of : List (List ℕ) → FileAndRest
 file_of (first ∷ file ∷ rest) =
     if bytes_eq first (codes "--rules") then with_file (Some file) rest else with_file None (first ∷ file ∷ rest)
 file_of words = with_file None words
+
+-- the format that `--format` at the front names, lines without it, and the words after it
+pub record FormatAndRest : Type 0 where
+  pub format : Format
+  pub rest : List (List ℕ)
+
+abbrev pub with_format : Format → List (List ℕ) → FormatAndRest
+with_format format rest = record { format = format; rest = rest }
+
+-- none, if it names no format
+abbrev pub format_of : List (List ℕ) → Option FormatAndRest
+format_of (first ∷ word ∷ rest) =
+    if bytes_eq first (codes "--format") then option_map (λ format. with_format format rest) (format_named word)
+    else Some (with_format Text (first ∷ word ∷ rest))
+format_of words = Some (with_format Text words)
 
 -- the options at the front, and the words after them
 pub record Options : Type 0 where
@@ -93,9 +111,23 @@ of_options command locale options =
 abbrev pub of_command : List ℕ → List ℕ → List (List ℕ) → Option Question
 of_command command locale words = of_options command locale (options_of words)
 
--- the words after `check`: at least one file, and no further option
-abbrev pub of_files : FileAndRest → Option Question
-of_files found = if is_empty found.rest || has_option found.rest then None else Some (check found.file found.rest)
+-- at least one file, and no further option
+abbrev pub of_files : Option (List ℕ) → Format → List (List ℕ) → Option Question
+of_files file format rest = if is_empty rest || has_option rest then None else Some (check file format rest)
+
+-- a file may be named behind the format
+abbrev pub with_rules : Format → FileAndRest → Option Question
+with_rules format found = of_files found.file format found.rest
+
+-- `--rules FILE`, and then `--format FORMAT`, or these in the other order; each may be absent
+abbrev pub behind_rules : List (List ℕ) → FileAndRest → Option Question
+behind_rules words found =
+    if is_some found.file then option_and_then (λ f. of_files found.file f.format f.rest) (format_of found.rest)
+    else option_and_then (λ f. with_rules f.format (file_of f.rest)) (format_of words)
+
+-- the words after `check`
+abbrev pub of_check : List (List ℕ) → Option Question
+of_check words = behind_rules words (file_of words)
 
 -- any other command and the words after it
 abbrev pub of_other : List ℕ → List (List ℕ) → Option Question
@@ -104,4 +136,4 @@ of_other command (locale ∷ words) = of_command command locale words
 
 abbrev pub of_words : List (List ℕ) → Option Question
 of_words [] = None
-of_words (command ∷ words) = if bytes_eq command (codes "check") then of_files (file_of words) else of_other command words
+of_words (command ∷ words) = if bytes_eq command (codes "check") then of_check words else of_other command words

@@ -24,5 +24,7 @@ pub use error::{FormsError, LanguageError, Verdict};
 pub use name::Name;
 pub use printed::{NumberFault, Place};
 pub use question::{Question, Wanted, question_of};
-pub use run::{answer_lines, answer_numbers, check_files, list_forms, write_gettext};
+pub use run::{
+    answer_lines, answer_numbers, check_files, check_files_as, list_forms, write_gettext,
+};
 pub use similar_keys::SimilarKeys;

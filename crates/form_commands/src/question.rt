@@ -2,9 +2,10 @@
 
 ghost use Rattle.std.specs.Prelude.{◌≡◌, map, option_map};
 ghost use Rattle.std.specs.Option.{option_copied};
-ghost use Rattle.form_commands.specs.Questions.{file_of, has_option, in_part, of_command, of_files, of_other, of_word, of_words, options_after, options_of, options_with, part_of_words, with_file};
-ghost use Rattle.form_commands.specs.Inner.QuestionViews.{options_view, question_view, words_view};
+ghost use Rattle.form_commands.specs.Questions.{file_of, format_of, has_option, in_part, of_check, of_command, of_files, of_other, of_word, of_words, options_after, options_of, options_with, part_of_words, with_file, with_rules};
+ghost use Rattle.form_commands.specs.Inner.QuestionViews.{format_view, options_view, question_view, words_view};
 
+use finding_formats::Format;
 use plural_fallback::Part;
 
 /// Whose rules are asked for, and where they are.
@@ -32,8 +33,15 @@ pub enum Question<'w> {
     /// Which category each of these numbers has. Without any, they are in the input.
     Category(Wanted<'w>, &'w [&'w str]),
     /// What these files of messages lack, by the rules in the file after `--rules`, if there is
-    /// one.
-    Check(Option<&'w str>, &'w [&'w str]),
+    /// one, in this format.
+    Check(Option<&'w str>, Format, &'w [&'w str]),
+}
+
+// The format that is named, and the words after it.
+#[derive(Clone, Copy)]
+struct Formatted<'w> {
+    format: Format,
+    rest: &'w [&'w str],
 }
 
 // The words that are options, and those after them.
@@ -46,15 +54,16 @@ struct Options<'w> {
 
 /// Returns the question of the words after the program's name: `--help`, `--version`,
 /// `list LOCALE [OPTION..]`, `gettext LOCALE [OPTION..]`, `category LOCALE [OPTION..] [NUMBER..]`
-/// or `check [--rules FILE] FILE..`, where an option is `--ordinal` or `--rules FILE`, each at most
-/// once. `None` for other words. It allocates nothing.
+/// or `check [OPTION..] FILE..`, where an option is `--ordinal` or `--rules FILE`, and of `check`
+/// `--rules FILE` or `--format FORMAT`, each at most once. `None` for other words. It allocates
+/// nothing.
 pub fn question_of<'w>(words: &'w [&'w str]) -> Option<Question<'w>>
     ensures { option_map question_view result ≡ of_words (words_view words.now) }
 {
     match words {
         [command, rest @ ..] => {
             if *command == "check" {
-                of_files(rest)
+                of_check(rest)
             } else {
                 of_other(command, rest)
             }
@@ -64,14 +73,34 @@ pub fn question_of<'w>(words: &'w [&'w str]) -> Option<Question<'w>>
 }
 
 // The question of the words after `check`.
-fn of_files<'w>(words: &'w [&'w str]) -> Option<Question<'w>>
-    ensures { option_map question_view result ≡ of_files (file_of (words_view words.now)) }
+fn of_check<'w>(words: &'w [&'w str]) -> Option<Question<'w>>
+    ensures { option_map question_view result ≡ of_check (words_view words.now) }
 {
     let (file, rest) = file_of(words);
-    if rest.is_empty() || has_option(rest) {
+    if file.is_some() {
+        let found = format_of(rest)?;
+        return of_files(file, found.format, found.rest);
+    }
+    let found = format_of(words)?;
+    with_rules(found.format, found.rest)
+}
+
+// The question of the words behind a format, where a file may be named.
+fn with_rules<'w>(format: Format, words: &'w [&'w str]) -> Option<Question<'w>>
+    ensures { option_map question_view result ≡ with_rules format (file_of (words_view words.now)) }
+{
+    let (file, rest) = file_of(words);
+    of_files(file, format, rest)
+}
+
+// The question of the words behind the options.
+fn of_files<'w>(file: Option<&'w str>, format: Format, words: &'w [&'w str]) -> Option<Question<'w>>
+    ensures { option_map question_view result ≡ of_files (option_copied file.entry) format (words_view words.now) }
+{
+    if words.is_empty() || has_option(words) {
         None
     } else {
-        Some(Question::Check(file, rest))
+        Some(Question::Check(file, format, words))
     }
 }
 
@@ -161,6 +190,22 @@ fn file_of<'w>(words: &'w [&'w str]) -> (Option<&'w str>, &'w [&'w str])
     match words {
         [first, file, rest @ ..] if *first == "--rules" => (Some(*file), rest),
         _ => (None, words),
+    }
+}
+
+// The format that `--format` at the front names, and the words after it. None, if it names none.
+fn format_of<'w>(words: &'w [&'w str]) -> Option<Formatted<'w>>
+    ensures { option_map format_view result ≡ format_of (words_view words.now) }
+{
+    match words {
+        [first, word, rest @ ..] if *first == "--format" => {
+            let format = Format::from_word(word)?;
+            Some(Formatted { format, rest })
+        }
+        _ => Some(Formatted {
+            format: Format::Text,
+            rest: words,
+        }),
     }
 }
 

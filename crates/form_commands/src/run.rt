@@ -1,7 +1,7 @@
 //! The answers to questions, over any readers and writer.
 
 ghost use Rattle.std.specs.Prelude.{◌≡◌, ◌≢◌, [], IfErr, IfOk, IsTrue, List, ℕ};
-ghost use Rattle.form_commands.specs.FormsAnswers.{Answers, IsAnsweredLines, IsAnsweredText, IsChecked, IsGettextAnswer, IsListAnswer, IsNumbersAnswer, forms_origin, verdict_of_counts};
+ghost use Rattle.form_commands.specs.FormsAnswers.{Answers, IsAnsweredLines, IsAnsweredText, IsChecked, IsCheckedAs, IsGettextAnswer, IsListAnswer, IsNumbersAnswer, forms_origin, verdict_of_counts};
 ghost use Rattle.form_commands.specs.FormsErrors.{is_of_rules};
 ghost use Rattle.form_commands.specs.Inner.FormsInputFaults.{refused_rules};
 ghost use Rattle.form_commands.specs.Inner.NoteSteps.{NotesAfter, Writes};
@@ -24,8 +24,8 @@ use crate::printed::Printed;
 use crate::stream::answer_input;
 use crate::unknown_language::{has_roots_key, known_in};
 use icu_plurals::{JsonError, JsonProvider};
-use message_report::run::run;
-use message_report::{Counts, MessageFile};
+use message_report::run::run_as;
+use message_report::{Counts, MessageFile, ReportLines, ReportPrinter};
 use plural_documents::{JsonTextError, json_value, read_input};
 use plural_fallback::{FallbackProvider, Part};
 use serde_json::Value;
@@ -232,27 +232,47 @@ pub fn check_files<R: Read, W: Write, E: Write>(
     ensures reads { IsRead forms_origin (R.remaining rules.old) (R.remaining rules.new) result }
     ensures writes_nothing { IfErr result (λ e. e ≢ FormsError.Write → (writer.new ≡ writer.old) × (notes.new ≡ notes.old)) }
 {
+    check_files_as(alloc, files, &ReportLines, rules, writer, notes)
+}
+
+/// The same with the report as a printer prints it.
+pub fn check_files_as<P: ReportPrinter, R: Read, W: Write, E: Write>(
+    alloc: Global,
+    files: &[MessageFile<'_>],
+    printer: &P,
+    rules: &mut R,
+    writer: &mut W,
+    notes: &mut E,
+) -> Result<Verdict, FormsError>
+    ensures answers { (input : List ℕ) × IsInput (R.remaining rules.old) input
+        × IsNoted (λ document note. AreFileNotes document files.now note)
+        (IsCheckedAs (P.text_of printer.now) files.now input (W.contents writer.old) (W.contents writer.new))
+        input (E.contents notes.old) (E.contents notes.new) result }
+    ensures reads { IsRead forms_origin (R.remaining rules.old) (R.remaining rules.new) result }
+    ensures writes_nothing { IfErr result (λ e. e ≢ FormsError.Write → (writer.new ≡ writer.old) × (notes.new ≡ notes.old)) }
+{
     match document_of(alloc, rules) {
-        Ok(document) => noted_files(alloc, &document, files, writer, notes),
+        Ok(document) => noted_files(alloc, &document, files, printer, writer, notes),
         Err(error) => Err(error),
     }
 }
 
 // Writes the report of files of messages under the rules of a document, and the notes of the keys.
-fn noted_files<W: Write, E: Write>(
+fn noted_files<P: ReportPrinter, W: Write, E: Write>(
     alloc: Global,
     document: &Value,
     files: &[MessageFile<'_>],
+    printer: &P,
     writer: &mut W,
     notes: &mut E,
 ) -> Result<Verdict, FormsError>
-    ensures answers { NotesAfter (Checks (view document.now) files.now (W.contents writer.old) (W.contents writer.new))
+    ensures answers { NotesAfter (Checks (P.text_of printer.now) (view document.now) files.now (W.contents writer.old) (W.contents writer.new))
         (AreFileNotes (view document.now) files.now) (E.contents notes.old) (E.contents notes.new) result }
     ensures writes_nothing { IfErr result (λ e. e ≢ FormsError.Write → (writer.new ≡ writer.old) × (notes.new ≡ notes.old)) }
 {
     match notes_of(alloc, document, files) {
         Ok(found) => {
-            let answer = check_by(alloc, document, files, writer);
+            let answer = check_by(alloc, document, files, printer, writer);
             write_notes(answer, found.as_str(), notes)
         }
         Err(_) => Err(FormsError::Memory),
@@ -260,17 +280,18 @@ fn noted_files<W: Write, E: Write>(
 }
 
 // Writes the report of files of messages under the rules of a document.
-fn check_by<W: Write>(
+fn check_by<P: ReportPrinter, W: Write>(
     alloc: Global,
     document: &Value,
     files: &[MessageFile<'_>],
+    printer: &P,
     writer: &mut W,
 ) -> Result<Verdict, FormsError>
-    ensures answers { Checks (view document.now) files.now (W.contents writer.old) (W.contents writer.new) result }
+    ensures answers { Checks (P.text_of printer.now) (view document.now) files.now (W.contents writer.old) (W.contents writer.new) result }
     ensures writes_nothing { IfErr result (λ e. e ≢ FormsError.Write → writer.new ≡ writer.old) }
 {
     match JsonProvider::from_value(alloc, document) {
-        Ok(provider) => report_by(alloc, &provider, document, files, writer),
+        Ok(provider) => report_by(alloc, &provider, document, files, printer, writer),
         Err(error) => Err(refused(error)),
     }
 }
@@ -291,21 +312,22 @@ fn refused(error: JsonError) -> FormsError
 }
 
 // Writes the report of files of messages under the rules of a provider.
-fn report_by<W: Write>(
+fn report_by<P: ReportPrinter, W: Write>(
     alloc: Global,
     provider: &JsonProvider,
     document: &Value,
     files: &[MessageFile<'_>],
+    printer: &P,
     writer: &mut W,
 ) -> Result<Verdict, FormsError>
-    ensures answers { Reports (view document.now) provider.now files.now (W.contents writer.old) (W.contents writer.new) result }
+    ensures answers { Reports (P.text_of printer.now) (view document.now) provider.now files.now (W.contents writer.old) (W.contents writer.new) result }
     ensures writes_nothing { IfErr result (λ e. e ≢ FormsError.Write → writer.new ≡ writer.old) }
 {
     let source = FallbackProvider {
         provider,
         locales: document,
     };
-    match run(alloc, &source, files, writer) {
+    match run_as(alloc, &source, files, printer, writer) {
         Ok(counts) => Ok(verdict_of(counts)),
         Err(fault) => Err(FormsError::from(fault)),
     }

@@ -1,6 +1,7 @@
 -- What is written for files of messages.
---     IsReported source files old new result      the report of the files was written, and nothing
---         else
+--     IsReportedAs text_of source files old new result      the report of the files, printed so, was
+--         written, and nothing else
+--     IsReported source files old new result      the same, printed as lines
 use Rattle.std.specs.Prelude.{◌≡◌, ℕ, ◌==◌, List, Option, Result, Ok, Err, if◌then◌else◌}
 use Rattle.std.specs.Io.KnownBytes.{Appends, Keeps}
 use Rattle.plural_documents.specs.Inputs.{IsPartWritten}
@@ -15,12 +16,17 @@ use Rattle.message_report.specs.declared.file.MessageFile.{MessageFile}
 
 -- The report and its counts; or the writer failed, and took a beginning of the report, or memory
 -- ran out, and it took nothing.
+abbrev pub IsReportedAs : (Found → List ℕ) → RulesSource → List MessageFile → Option (List ℕ) → Option (List ℕ)
+    → Result Counts ReportError → Type 0
+IsReportedAs text_of source files old new (Ok counts) =
+    (found : Found) × IsFoundInFiles source files found × (counts ≡ counts_found found) × Appends old new (text_of found)
+IsReportedAs text_of source files old new (Err Write) =
+    (found : Found) × IsFoundInFiles source files found × IsPartWritten old new (text_of found)
+IsReportedAs text_of source files old new (Err Memory) = Keeps old new
+
+-- printed as lines
 abbrev pub IsReported : RulesSource → List MessageFile → Option (List ℕ) → Option (List ℕ) → Result Counts ReportError → Type 0
-IsReported source files old new (Ok counts) =
-    (found : Found) × IsFoundInFiles source files found × (counts ≡ counts_found found) × Appends old new (messages_report_text found)
-IsReported source files old new (Err Write) =
-    (found : Found) × IsFoundInFiles source files found × IsPartWritten old new (messages_report_text found)
-IsReported source files old new (Err Memory) = Keeps old new
+IsReported = IsReportedAs messages_report_text
 
 -- the exit status of a program
 abbrev pub counts_status : Counts → ℕ

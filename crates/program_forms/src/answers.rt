@@ -1,8 +1,9 @@
 //! The answers, over any readers and writers.
 
 use crate::failure::Failure;
+use finding_formats::Format;
 use form_commands::{
-    FormsError, Verdict, Wanted, answer_lines, answer_numbers, check_files, list_forms,
+    FormsError, Verdict, Wanted, answer_lines, answer_numbers, check_files_as, list_forms,
     write_gettext,
 };
 use message_report::MessageFile;
@@ -21,8 +22,8 @@ pub(crate) enum Asked<'a> {
     Numbers(Wanted<'a>, &'a [&'a str]),
     // Which categories the numbers in the input have.
     Lines(Wanted<'a>),
-    // What these files of messages lack.
-    Check(&'a [MessageFile<'a>]),
+    // What these files of messages lack, in a format.
+    Check(Format, &'a [MessageFile<'a>]),
 }
 
 impl<'a> Asked<'a> {
@@ -64,7 +65,9 @@ pub(crate) fn write_answer<R: Read, N: Read, W: Write, E: Write>(
             output,
             notes,
         ),
-        Asked::Check(files) => check_files(alloc, files, rules, output, notes),
+        Asked::Check(format, files) => {
+            check_files_as(alloc, files, &format, rules, output, notes)
+        }
     }
 }
 

@@ -9,6 +9,7 @@ mod rules;
 
 use answers::{Asked, print, write_answer};
 use failure::{Failure, USAGE, VERSION};
+use finding_formats::Format;
 use form_commands::{Question, Verdict, Wanted, question_of};
 use messages::{files_of, read_files};
 use plural_commands::arguments::arguments;
@@ -31,7 +32,7 @@ fn answer_words(rt: &HostRuntime) -> Result<Verdict, Failure> {
         Some(Question::List(wanted)) => answer(rt, wanted.file, Asked::List(wanted)),
         Some(Question::Gettext(wanted)) => answer(rt, wanted.file, Asked::Gettext(wanted)),
         Some(Question::Category(wanted, numbers)) => category(rt, wanted, numbers),
-        Some(Question::Check(file, names)) => check(rt, file, names),
+        Some(Question::Check(file, format, names)) => check(rt, file, format, names),
         None => Err(Failure::Usage),
     }
 }
@@ -47,10 +48,15 @@ fn category(rt: &HostRuntime, wanted: Wanted<'_>, numbers: &[&str]) -> Result<Ve
 }
 
 // Writes what files of messages lack.
-fn check(rt: &HostRuntime, rules: Option<&str>, names: &[&str]) -> Result<Verdict, Failure> {
+fn check(
+    rt: &HostRuntime,
+    rules: Option<&str>,
+    format: Format,
+    names: &[&str],
+) -> Result<Verdict, Failure> {
     let documents = read_files(rt, names)?;
     let files = files_of(rt.alloc(), names, documents.as_slice())?;
-    answer(rt, rules, Asked::Check(files.as_slice()))
+    answer(rt, rules, Asked::Check(format, files.as_slice()))
 }
 
 // Writes the answer by the rules in a file, or by those in the input. Then the numbers can't be

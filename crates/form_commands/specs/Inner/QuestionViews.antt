@@ -2,7 +2,8 @@
 use Rattle.std.specs.Prelude.{ℕ, List, map}
 use Rattle.std.specs.Borrow.{Bor}
 use Rattle.std.specs.Option.{option_copied}
-use Rattle.form_commands.specs.Questions.{Options, Question, Wanted, category, check, gettext, help, list, version}
+use Rattle.form_commands.specs.Questions.{FormatAndRest, Options, Question, Wanted, category, check, gettext, help, list, version}
+use Rattle.form_commands.specs.declared.question.Formatted.{Formatted as CodeFormatted}
 use Rattle.form_commands.specs.declared.question.Options.{Options as CodeOptions}
 use Rattle.form_commands.specs.declared.question.Question.{Question as CodeQuestion}
 use Rattle.form_commands.specs.declared.question.Question.TheVariants as code
@@ -14,6 +15,9 @@ words_view words = map (λ w. w.now) words
 abbrev pub options_view : CodeOptions → Options
 options_view options = record { part = options.part; file = option_copied options.file; rest = words_view options.rest.now }
 
+abbrev pub format_view : CodeFormatted → FormatAndRest
+format_view found = record { format = found.format; rest = words_view found.rest.now }
+
 abbrev pub wanted_view : CodeWanted → Wanted
 wanted_view wanted = record { part = wanted.part; locale = wanted.locale.now; file = option_copied wanted.file }
 
@@ -23,4 +27,4 @@ question_view code.Version = version
 question_view (code.List wanted) = list (wanted_view wanted)
 question_view (code.Gettext wanted) = gettext (wanted_view wanted)
 question_view (code.Category wanted numbers) = category (wanted_view wanted) (words_view numbers.now)
-question_view (code.Check file files) = check (option_copied file) (words_view files.now)
+question_view (code.Check file format files) = check (option_copied file) format (words_view files.now)

@@ -4,7 +4,8 @@ use Rattle.std.specs.Io.KnownBytes.{Appends, Keeps}
 use Rattle.std.specs.declared.alloc.AllocError.{AllocError}
 use Rattle.icu_plurals.specs.DocumentJson.{Document, document_of_json}
 use Rattle.icu_plurals.specs.declared.JsonError.{JsonError}
-use Rattle.message_report.specs.MessagesRun.{IsReported}
+use Rattle.message_report.specs.FoundInMessages.{Found}
+use Rattle.message_report.specs.MessagesRun.{IsReportedAs}
 use Rattle.message_report.specs.declared.counts.Counts.{Counts}
 use Rattle.message_report.specs.declared.error.ReportError.{ReportError}
 use Rattle.message_report.specs.declared.file.MessageFile.{MessageFile}
@@ -125,14 +126,14 @@ AnswersLines document part locale before left old new result =
 -- ---- Files of messages
 
 -- the report under the rules of a document, as the result of a command
-abbrev pub Reports : Data → Document → List MessageFile → Option (List ℕ) → Option (List ℕ) → Result Verdict FormsError → Type 0
-Reports value document files old new result =
-    (reported : Result Counts ReportError) × IsReported (rules_source value document) files old new reported
+abbrev pub Reports : (Found → List ℕ) → Data → Document → List MessageFile → Option (List ℕ) → Option (List ℕ) → Result Verdict FormsError → Type 0
+Reports text_of value document files old new result =
+    (reported : Result Counts ReportError) × IsReportedAs text_of (rules_source value document) files old new reported
     × (result ≡ result_of_report reported)
 
 -- the same, or nothing at all
-abbrev pub Checks : Data → List MessageFile → Option (List ℕ) → Option (List ℕ) → Result Verdict FormsError → Type 0
-Checks value files old new result =
-    ((document : Document) × (document_of_json value ≡ Ok document) × Reports value document files old new result)
+abbrev pub Checks : (Found → List ℕ) → Data → List MessageFile → Option (List ℕ) → Option (List ℕ) → Result Verdict FormsError → Type 0
+Checks text_of value files old new result =
+    ((document : Document) × (document_of_json value ≡ Ok document) × Reports text_of value document files old new result)
     ⊎ (((error : JsonError) × (document_of_json value ≡ Err error) × (result ≡ Err (Refused error)) × Keeps old new)
     ⊎ ((result ≡ Err Memory) × Keeps old new))

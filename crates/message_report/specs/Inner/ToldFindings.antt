@@ -6,7 +6,7 @@ use Rattle.message_report.specs.FoundInMessages.{Found, together}
 use Rattle.message_report.specs.MessageFindings.{Finding}
 use Rattle.message_report.specs.MessagesReport.{most_compared, IsFoundInFiles}
 use Rattle.plural_documents.specs.FirstLines.{most_told}
-use Rattle.message_report.specs.MessagesReportText.{counts_found, messages_report_text}
+use Rattle.message_report.specs.MessagesReportText.{counts_found}
 use Rattle.message_report.specs.RulesSource.{RulesSource}
 use Rattle.message_report.specs.declared.counts.Counts.{Counts}
 use Rattle.message_report.specs.declared.file.MessageFile.{MessageFile}
@@ -33,6 +33,6 @@ TellsThose Are before old count new = (findings : List Finding) × Are findings 
 abbrev pub remembered : List Selector → Selector → List Selector
 remembered seen selector = if nat_lt (length seen) most_compared then seen ++ selector ∷ [] else seen
 
-abbrev pub IsMade : RulesSource → List MessageFile → List ℕ → Counts → Type 0
-IsMade source files text counts =
-    (found : Found) × IsFoundInFiles source files found × (text ≡ messages_report_text found) × (counts ≡ counts_found found)
+abbrev pub IsMade : (Found → List ℕ) → RulesSource → List MessageFile → List ℕ → Counts → Type 0
+IsMade text_of source files text counts =
+    (found : Found) × IsFoundInFiles source files found × (text ≡ text_of found) × (counts ≡ counts_found found)

@@ -1,6 +1,6 @@
 //! The kinds of the upper crates: `icu_plurals`, `plural_message`, `plural_checker`,
-//! `plural_fallback`, `message_report`, `form_commands`, `example_callers`, `message_pattern`,
-//! `message_format`, `gettext_plural`, `plural_exports` and `po_catalog`.
+//! `plural_fallback`, `message_report`, `finding_formats`, `form_commands`, `example_callers`,
+//! `message_pattern`, `message_format`, `gettext_plural`, `plural_exports` and `po_catalog`.
 
 mod callers;
 mod catalogs;
@@ -11,6 +11,7 @@ mod elements_json;
 mod exported_bytes;
 mod exports;
 mod fallback;
+mod findings;
 mod forms;
 mod message_reports;
 mod messages;
@@ -33,6 +34,7 @@ pub fn make(kind: &str, call: &mut Call) -> bool {
         || checker::make(kind, call)
         || fallback::make(kind, call)
         || message_reports::make(kind, call)
+        || findings::make(kind, call)
         || forms::make(kind, call)
         || callers::make(kind, call)
         || patterns::make(kind, call)

@@ -2,9 +2,10 @@
 
 use crate::call::Call;
 use crate::kinds::upper::message_reports::print_lines;
+use finding_formats::Format;
 use form_commands::{
-    FormsError, Verdict, answer_lines, answer_numbers, check_files, list_forms, question_of,
-    write_gettext,
+    FormsError, Question, Verdict, answer_lines, answer_numbers, check_files, check_files_as,
+    list_forms, question_of, write_gettext,
 };
 use message_report::MessageFile;
 use plural_fallback::Part;
@@ -13,13 +14,15 @@ use plural_fallback::Part;
 pub fn make(kind: &str, call: &mut Call) -> bool {
     match kind {
         "forms_question" => forms_question(call),
+        "forms_words" => forms_words(call),
         "forms_list" => forms_list(call),
         "forms_number" => forms_number(call),
         "forms_refusal" => forms_refusal(call),
         "forms_lines" => forms_lines(call),
         "forms_bytes" => forms_bytes(call),
         "forms_gettext" => forms_gettext(call),
-        "forms_check" => forms_check(call),
+        "forms_check" => forms_check(call, Format::Text),
+        "forms_check_as" => forms_check_as(call),
         _ => return false,
     }
     true
@@ -29,7 +32,30 @@ pub fn make(kind: &str, call: &mut Call) -> bool {
 fn forms_question(call: &mut Call) {
     let (first, second, third) = (call.text(), call.text(), call.text());
     let words = [first.as_str(), second.as_str(), third.as_str()];
-    match question_of(&words) {
+    print_question(call, question_of(&words));
+}
+
+// What five words ask, but for the empty ones.
+fn forms_words(call: &mut Call) {
+    let texts = [
+        call.text(),
+        call.text(),
+        call.text(),
+        call.text(),
+        call.text(),
+    ];
+    let mut words = Vec::new(call.alloc);
+    for text in &texts {
+        if !text.is_empty() {
+            call.add_item(&mut words, text.as_str());
+        }
+    }
+    print_question(call, question_of(words.as_slice()));
+}
+
+// Prints a question.
+fn print_question(call: &mut Call, question: Option<Question<'_>>) {
+    match question {
         Some(question) => call.print_name(&question),
         None => call.print("none"),
     }
@@ -131,8 +157,17 @@ fn forms_gettext(call: &mut Call) {
     print_noted(call, text.as_slice(), notes.as_slice(), answer);
 }
 
-// The report of two files of messages.
-fn forms_check(call: &mut Call) {
+// The report of two files of messages, in a format.
+fn forms_check_as(call: &mut Call) {
+    let word = call.text();
+    match Format::from_word(word.as_str()) {
+        Some(format) => forms_check(call, format),
+        None => call.not("format"),
+    }
+}
+
+// The report of two files of messages. As lines it is that of the call without a format.
+fn forms_check(call: &mut Call, format: Format) {
     let rules = call.text();
     let (first, second) = (call.value(), call.value());
     let files = [
@@ -146,13 +181,13 @@ fn forms_check(call: &mut Call) {
         },
     ];
     let (mut text, mut notes) = (Vec::new(call.alloc), Vec::new(call.alloc));
-    let answer = check_files(
-        call.alloc,
-        &files,
-        &mut rules.as_bytes(),
-        &mut text,
-        &mut notes,
-    );
+    let mut input = rules.as_bytes();
+    let answer = match format {
+        Format::Text => check_files(call.alloc, &files, &mut input, &mut text, &mut notes),
+        _ => check_files_as(
+            call.alloc, &files, &format, &mut input, &mut text, &mut notes,
+        ),
+    };
     print_noted(call, text.as_slice(), notes.as_slice(), answer);
 }
 

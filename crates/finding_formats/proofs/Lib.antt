@@ -1,0 +1,6 @@
+mod EscapedChars
+mod NoFloats
+mod PlainData
+mod LineLemmas
+mod ReadFindings
+mod ObjectLemmas

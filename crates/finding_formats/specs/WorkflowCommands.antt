@@ -1,0 +1,37 @@
+-- What is found in files of messages as commands of a workflow of GitHub Actions, one for each
+-- finding.
+use Rattle.std.specs.Prelude.{ℕ, ◌==◌, Bool, ◌||◌, List, [], ◌∷◌, ◌++◌, codes, if◌then◌else◌}
+use Rattle.std.specs.List.{flat_map}
+use Rattle.percent_encoding.specs.Percent.{percent_encode_byte}
+use Rattle.message_report.specs.FoundInMessages.{Found}
+use Rattle.message_report.specs.MessageFindings.{Finding}
+use Rattle.message_report.specs.MessagePlaces.{file_of}
+use Rattle.finding_formats.specs.FindingCodes.{code_name, code_of, level_name}
+use Rattle.finding_formats.specs.FindingObjects.{finding_text}
+use Rattle.finding_formats.specs.declared.workflow.Slot.{Slot}
+use Rattle.finding_formats.specs.declared.workflow.Slot.TheVariants.{Message, Property}
+
+-- `%`, which begins an escape, and the ends of a line
+abbrev pub ends_message : ℕ → Bool
+ends_message byte = (byte == 37) || (byte == 13) || (byte == 10)
+
+-- a property also ends at `:` and `,`
+abbrev pub needs_escape : Slot → ℕ → Bool
+needs_escape Message byte = ends_message byte
+needs_escape Property byte = ends_message byte || (byte == 58) || (byte == 44)
+
+-- the byte, or `%` and its two hexadecimal digits
+abbrev pub slot_byte : Slot → ℕ → List ℕ
+slot_byte slot byte = if needs_escape slot byte then percent_encode_byte byte else byte ∷ []
+
+abbrev pub slot_text : Slot → List ℕ → List ℕ
+slot_text slot text = flat_map (slot_byte slot) text
+
+-- `::error file=ru.json,title=missing::ru files many: missing, but 0 and 5 are many`
+abbrev pub command_line : Finding → List ℕ
+command_line f =
+    codes "::" ++ (level_name f.cause ++ (codes " file=" ++ (slot_text Property (file_of f.place) ++ (codes ",title="
+    ++ (code_name (code_of f.cause) ++ (codes "::" ++ (slot_text Message (finding_text f) ++ codes "\n")))))))
+
+abbrev pub workflow_text : Found → List ℕ
+workflow_text found = flat_map command_line found.findings

@@ -1,0 +1,131 @@
+//! Commands of a workflow of GitHub Actions.
+
+ghost use Rattle.std.specs.Prelude.{◌≡◌, ◌++◌, codes, IfOk, OnOk, map, string_bytes};
+ghost use Rattle.std.specs.Char.{encode_utf8};
+ghost use Rattle.std.specs.List.{flat_map};
+ghost use Rattle.finding_formats.specs.WorkflowCommands.{command_line, ends_message, needs_escape, slot_byte, slot_text, workflow_text};
+ghost use Rattle.message_report.specs.MessageFindings.{finding_view};
+
+use crate::code::Code;
+use crate::finding_object::finding_text;
+use crate::severity::level;
+use message_report::{Finding, Found};
+use percent_encoding::percent_encode_byte;
+use std::alloc::{AllocError, Global};
+
+// Where a text stands in a command.
+#[derive(Clone, Copy)]
+pub(crate) enum Slot {
+    // Its message.
+    Message,
+    // The value of a property.
+    Property,
+}
+
+// Returns a command for each finding.
+pub(crate) fn workflow_text(alloc: Global, found: &Found<'_>) -> Result<String, AllocError>
+    ensures { IfOk result (λ text. string_bytes text ≡ workflow_text found.now) }
+{
+    let mut text = String::new(alloc);
+    push_commands(alloc, &mut text, found.findings())?;
+    Ok(text)
+}
+
+// Appends the command of each finding.
+fn push_commands(
+    alloc: Global,
+    text: &mut String,
+    findings: &[Finding<'_>],
+) -> Result<(), AllocError>
+    ensures { OnOk result (string_bytes text.new ≡ string_bytes text.old ++ flat_map command_line (map finding_view findings.now)) }
+{
+    for finding in findings {
+        push_command(alloc, text, finding)?;
+    }
+    Ok(())
+}
+
+// Appends the command of a finding.
+fn push_command(alloc: Global, text: &mut String, finding: &Finding<'_>) -> Result<(), AllocError>
+    ensures { OnOk result (string_bytes text.new ≡ string_bytes text.old ++ command_line (finding_view finding.now)) }
+{
+    let command = command_line(alloc, finding)?;
+    text.push_str(command.as_str())
+}
+
+// Returns the command of a finding, with a newline.
+fn command_line(alloc: Global, finding: &Finding<'_>) -> Result<String, AllocError>
+    ensures { IfOk result (λ line. string_bytes line ≡ command_line (finding_view finding.now)) }
+{
+    let text = finding_text(alloc, finding)?;
+    let message = slot_text(alloc, Slot::Message, text.as_str())?;
+    let file = slot_text(alloc, Slot::Property, finding.place.file())?;
+    let code = Code::of(finding.cause).as_str();
+    command_of(
+        alloc,
+        level(finding.cause),
+        file.as_str(),
+        code,
+        message.as_str(),
+    )
+}
+
+// Returns a command, with a newline.
+fn command_of(
+    alloc: Global,
+    level: &str,
+    file: &str,
+    title: &str,
+    message: &str,
+) -> Result<String, AllocError>
+    ensures { IfOk result (λ line. string_bytes line ≡ codes "::" ++ (level.now ++ (codes " file=" ++ (file.now ++ (codes ",title="
+        ++ (title.now ++ (codes "::" ++ (message.now ++ codes "\n")))))))) }
+{
+    format!(in alloc; "::{level} file={file},title={title}::{message}\n")
+}
+
+// Returns a text as it stands in a command.
+fn slot_text(alloc: Global, slot: Slot, part: &str) -> Result<String, AllocError>
+    ensures { IfOk result (λ text. string_bytes text ≡ slot_text slot part.now) }
+{
+    let mut text = String::new(alloc);
+    push_escaped(&mut text, slot, part)?;
+    Ok(text)
+}
+
+// Appends a text, with escapes.
+fn push_escaped(text: &mut String, slot: Slot, part: &str) -> Result<(), AllocError>
+    ensures { OnOk result (string_bytes text.new ≡ string_bytes text.old ++ slot_text slot part.now) }
+{
+    for c in part.chars() {
+        push_char(text, slot, c)?;
+    }
+    Ok(())
+}
+
+// Appends a character, or its escape.
+fn push_char(text: &mut String, slot: Slot, c: char) -> Result<(), AllocError>
+    ensures { OnOk result (string_bytes text.new ≡ string_bytes text.old ++ flat_map (slot_byte slot) (encode_utf8 c)) }
+{
+    if needs_escape(slot, c as u32) {
+        return text.push_str(percent_encode_byte(c as u32 as u8));
+    }
+    text.push(c)
+}
+
+// Returns whether a character needs an escape.
+fn needs_escape(slot: Slot, c: u32) -> bool
+    ensures { result ≡ needs_escape slot c }
+{
+    match slot {
+        Slot::Message => ends_message(c),
+        Slot::Property => ends_message(c) || c == 58 || c == 44,
+    }
+}
+
+// Returns whether a character would end a message, or begin an escape.
+fn ends_message(c: u32) -> bool
+    ensures { result ≡ ends_message c }
+{
+    c == 37 || c == 13 || c == 10
+}
