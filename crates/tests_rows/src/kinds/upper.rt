@@ -1,6 +1,6 @@
 //! The kinds of the upper crates: `icu_plurals`, `plural_message`, `plural_checker`,
 //! `plural_fallback`, `message_report`, `form_commands`, `example_callers`, `message_pattern`,
-//! `message_format`, `gettext_plural`, `plural_exports` and `po_catalog`.
+//! `message_format`, `gettext_plural`, `plural_exports`, `po_catalog` and `format_arguments`.
 
 mod callers;
 mod catalogs;
@@ -20,6 +20,7 @@ mod pattern_texts;
 mod patterns;
 mod plural_forms;
 mod styled_patterns;
+mod text_arguments;
 
 use crate::call::Call;
 
@@ -42,4 +43,5 @@ pub fn make(kind: &str, call: &mut Call) -> bool {
         || exports::make(kind, call)
         || exported_bytes::make(kind, call)
         || catalogs::make(kind, call)
+        || text_arguments::make(kind, call)
 }
