@@ -4,3 +4,4 @@ pub mod Rests
 pub mod Readings
 pub mod OneReading
 pub mod NumberNames
+pub mod Finds

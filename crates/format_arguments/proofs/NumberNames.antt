@@ -1,8 +1,8 @@
 -- The words of a name, one after the other.
-use Rattle.std.proofs.Common.{◌≡◌, ◌∙◌, ◌||◌, ℕ, List, [], ◌∷◌, Bool, true, false, refl, sym, ap, if◌then◌else◌}
+use Rattle.std.proofs.Common.{◌≡◌, ◌∙◌, ◌||◌, ◌<◌, ℕ, length, arith, List, [], ◌∷◌, Bool, true, false, refl, sym, ap, if◌then◌else◌}
 use Rattle.std.specs.List.{list_any}
 use Rattle.format_arguments.specs.declared.bytes.Class.TheVariants.{Letter}
-use Rattle.format_arguments.specs.DirectiveBytes.{is_in, run_front, behind_run}
+use Rattle.format_arguments.specs.DirectiveBytes.{is_in, run_front, behind_run, behind_first}
 use Rattle.format_arguments.specs.CountedArguments.{is_number_word, is_number_name, first_begun_with, words_of}
 
 -- the words behind the first one
@@ -31,15 +31,15 @@ pub number_here : (s word : List ℕ) → word ≡ run_front Letter s → is_num
 number_here s word e h =
     first_or_later s word (behind_run Letter s) e refl ∙ ap (λ (t : Bool). t || list_any is_number_word (later_words (behind_run Letter s))) h
 
-pub no_word_left : (s word behind : List ℕ) → word ≡ run_front Letter s → behind ≡ behind_run Letter s → is_number_word word ≡ false → behind ≡ []
+pub no_word_left : (s word behind : List ℕ) → word ≡ run_front Letter s → behind ≡ behind_run Letter s → is_number_word word ≡ false → length behind ≡ 0
     → is_number_name s ≡ false
-no_word_left s word behind e k h none =
-    first_or_later s word behind e k
-    ∙ (ap (λ (t : Bool). t || list_any is_number_word (later_words behind)) h ∙ ap (λ (t : List ℕ). list_any is_number_word (later_words t)) none)
+no_word_left s word [] e k h none =
+    first_or_later s word [] e k ∙ ap (λ (t : Bool). t || list_any is_number_word (later_words [])) h
+no_word_left s word (b ∷ after) e k h none = absurd (omega (arith, none))
 
-pub word_passed : (s word behind after : List ℕ) (b : ℕ) → word ≡ run_front Letter s → behind ≡ behind_run Letter s → is_number_word word ≡ false → behind ≡ b ∷ after
-    → is_number_name after ≡ is_number_name s
+pub word_passed : (s word behind : List ℕ) → word ≡ run_front Letter s → behind ≡ behind_run Letter s → is_number_word word ≡ false → 0 < length behind
+    → is_number_name (behind_first behind) ≡ is_number_name s
 unfolding is_number_name
-word_passed s word behind after b e k h one =
-    sym (first_or_later s word behind e k
-    ∙ (ap (λ (t : Bool). t || list_any is_number_word (later_words behind)) h ∙ ap (λ (t : List ℕ). list_any is_number_word (later_words t)) one))
+word_passed s word [] e k h more = absurd (omega (arith, more))
+word_passed s word (b ∷ after) e k h more =
+    sym (first_or_later s word (b ∷ after) e k ∙ ap (λ (t : Bool). t || list_any is_number_word (words_of after)) h)

@@ -5,7 +5,7 @@ use Rattle.format_arguments.specs.declared.argument.Argument as arguments
 use Rattle.format_arguments.specs.declared.format.Format.{Format}
 use Rattle.format_arguments.specs.DirectiveTables.{first_place}
 use Rattle.format_arguments.specs.Directives.{Directive, Front, End, Takes, Broken, front}
-use Rattle.format_arguments.specs.CutTexts.{TextPiece, piece_of, IsCutInto, ends, breaks, goes, bytes_of, FormatArgument, name_in_turn, next_in_turn, argument_at, arguments_from, fault_behind, HasArguments, argument_view, arguments_view}
+use Rattle.format_arguments.specs.CutTexts.{TextPiece, piece_of, IsCutInto, ends, breaks, goes, bytes_of, FormatArgument, argument_at, argument_told, next_behind, arguments_from, fault_behind, HasArguments, argument_view, arguments_view}
 use Rattle.format_arguments.proofs.Rests.{FrontEndsIn, front_end}
 
 -- the fault behind pieces of which the first begins at this byte
@@ -52,41 +52,24 @@ fault_later : (at after : ℕ) (bytes : List ℕ) (pieces : List TextPiece) (bro
 fault_later at after bytes pieces broken e =
     at_most broken (after + length (bytes_of pieces)) (at + length (bytes ++ bytes_of pieces)) (omega (arith, e, length-append bytes (bytes_of pieces)))
 
--- text that stands for itself is passed
-pub text_read : (f : Format) (text s rest : List ℕ) (items : List FormatArgument) (next : ℕ) → length s ≤ length text
-    → IsReadBefore f text items next (length text - length s) s → front f s ≡ Takes None rest
-    → IsReadBefore f text items next (length text - length rest) rest
-text_read f text s rest items next le h e pieces broken cut =
-    let bytes = (bytes_at f s rest None e).0 in
-    let is = (bytes_at f s rest None e).1 in
+-- a piece is read
+pub piece_read : (f : Format) (text s rest : List ℕ) (items more : List FormatArgument) (next : ℕ) (says : Option Directive) → length s ≤ length text
+    → IsReadBefore f text items next (length text - length s) s → front f s ≡ Takes says rest
+    → more ≡ items ++ argument_told next (length text - length s) (length text - length rest) says
+    → IsReadBefore f text more (next_behind next says) (length text - length rest) rest
+piece_read f text s rest items more next says le h e pushed pieces broken cut =
+    let bytes = (bytes_at f s rest says e).0 in
+    let is = (bytes_at f s rest says e).1 in
     let at = length text - length s in
     let after = length text - length rest in
     let wide : at + length bytes ≡ after = width_of text s rest bytes le is in
-    let piece = piece_of bytes None in
-    retold f text (items ++ arguments_from next at (piece ∷ pieces)) (items ++ arguments_from next after pieces) (fault_from at (piece ∷ pieces) broken) (fault_from after pieces broken)
-    (h (piece ∷ pieces) broken (goes s bytes rest None pieces broken is e cut))
-    (ap (λ (x : ℕ). items ++ arguments_from next x pieces) (sym wide))
-    (fault_later at after bytes pieces broken wide)
-
--- a directive is read
-pub directive_read : (f : Format) (text s rest : List ℕ) (items more : List FormatArgument) (next : ℕ) (d : Directive) → length s ≤ length text
-    → IsReadBefore f text items next (length text - length s) s → front f s ≡ Takes (Some d) rest
-    → more ≡ items ++ argument_at next (length text - length s) (length text - length rest) d ∷ []
-    → IsReadBefore f text more (next_in_turn next d.stars d.which) (length text - length rest) rest
-directive_read f text s rest items more next d le h e pushed pieces broken cut =
-    let bytes = (bytes_at f s rest (Some d) e).0 in
-    let is = (bytes_at f s rest (Some d) e).1 in
-    let at = length text - length s in
-    let after = length text - length rest in
-    let wide : at + length bytes ≡ after = width_of text s rest bytes le is in
-    let piece = piece_of bytes (Some d) in
-    let then_next = next_in_turn next d.stars d.which in
-    let it = argument_at next at after d in
-    retold f text (items ++ arguments_from next at (piece ∷ pieces)) (more ++ arguments_from then_next after pieces) (fault_from at (piece ∷ pieces) broken) (fault_from after pieces broken)
-    (h (piece ∷ pieces) broken (goes s bytes rest (Some d) pieces broken is e cut))
-    (ap (λ (t : List FormatArgument). t ++ arguments_from then_next after pieces) pushed
-    ∙ (append_assoc items (it ∷ []) (arguments_from then_next after pieces)
-    ∙ ap (λ (x : ℕ). items ++ argument_at next at x d ∷ arguments_from then_next x pieces) (sym wide)))
+    let piece = piece_of bytes says in
+    let behind = next_behind next says in
+    retold f text (items ++ arguments_from next at (piece ∷ pieces)) (more ++ arguments_from behind after pieces) (fault_from at (piece ∷ pieces) broken) (fault_from after pieces broken)
+    (h (piece ∷ pieces) broken (goes s bytes rest says pieces broken is e cut))
+    (ap (λ (t : List FormatArgument). t ++ arguments_from behind after pieces) pushed
+    ∙ (append_assoc items (argument_told next at after says) (arguments_from behind after pieces)
+    ∙ ap (λ (x : ℕ). items ++ (argument_told next at x says ++ arguments_from behind x pieces)) (sym wide)))
     (fault_later at after bytes pieces broken wide)
 
 -- the text ends
@@ -102,5 +85,11 @@ fault_read f text s items next at h e =
     retold f text (items ++ []) items (Some (at + 0)) (Some at) (h [] true (breaks s e)) (sym (append-nil items)) (ap (λ (x : ℕ). Some x) (omega arith))
 
 -- an argument is pushed
-pub argument_pushed : (old new : List arguments.Argument) (a : arguments.Argument) → new ≡ old ++ a ∷ [] → arguments_view new ≡ arguments_view old ++ argument_view a ∷ []
-argument_pushed old new a e = ap arguments_view e ∙ map-append argument_view old (a ∷ [])
+pub told_pushed : (old new : List arguments.Argument) (a : arguments.Argument) (next start end : ℕ) (d : Directive) → new ≡ old ++ a ∷ [] → argument_view a ≡ argument_at next start end d
+    → arguments_view new ≡ arguments_view old ++ argument_told next start end (Some d)
+told_pushed old new a next start end d e k =
+    ap arguments_view e ∙ (map-append argument_view old (a ∷ []) ∙ ap (λ (x : FormatArgument). arguments_view old ++ x ∷ []) k)
+
+-- none is pushed
+pub none_pushed : (old : List arguments.Argument) → arguments_view old ≡ arguments_view old ++ []
+none_pushed old = sym (append-nil (arguments_view old))

@@ -8,7 +8,7 @@ use Rattle.format_arguments.specs.declared.argument.Name as names
 use Rattle.format_arguments.specs.declared.argument.Name.TheVariants.{Place, Word}
 use Rattle.format_arguments.specs.declared.bytes.Class.TheVariants.{Letter}
 use Rattle.format_arguments.specs.declared.number.Sign.{Sign}
-use Rattle.format_arguments.specs.declared.number.Sign.TheVariants.{Named, Lacking, Alone}
+use Rattle.format_arguments.specs.declared.number.Sign.TheVariants.{Counted, Named, Lacking, Alone}
 use Rattle.format_arguments.specs.DirectiveBytes.{is_in}
 use Rattle.format_arguments.specs.SameArguments.{is_same_name, is_unknown}
 
@@ -49,10 +49,6 @@ abbrev pub has_number_name : names.Name → Bool
 has_number_name (Place n) = false
 has_number_name (Word word) = is_number_name word.now
 
--- an integer that has no name
-unfoldable pub is_counted : Argument → Bool
-is_counted a = is_integer a.kind && is_place a.name
-
 -- an integer, or an argument that doesn't say what it converts
 abbrev pub may_count : Kind → Bool
 may_count kind = is_integer kind || is_unknown kind
@@ -61,8 +57,10 @@ may_count kind = is_integer kind || is_unknown kind
 unfoldable pub has_name : List Argument → names.Name → Bool
 has_name text name = list_any (λ a. is_same_name name a.name) text
 
--- it has a number's name; or the singular text lacks it; or it is an integer or has a place
+-- it is an integer without a name; or it has a number's name; or the singular text lacks it; or it
+-- is an integer or has a place
 abbrev pub has_sign : Sign → List Argument → Argument → Bool
+has_sign Counted singular a = is_integer a.kind && is_place a.name
 has_sign Named singular a = has_number_name a.name
 has_sign Lacking singular a = not (has_name singular a.name)
 has_sign Alone singular a = is_integer a.kind || is_place a.name
@@ -72,7 +70,11 @@ shows sign singular a = may_count a.kind && has_sign sign singular a
 
 -- ---- the number
 
--- all arguments that show so have this name
+-- the first argument that shows so
+unfoldable pub first : Sign → List Argument → List Argument → Option Argument
+first sign plural singular = find (shows sign singular) plural
+
+-- this one, if all arguments that show so have its name
 abbrev pub if_alone : Sign → List Argument → List Argument → Option Argument → Option Argument
 if_alone sign plural singular None = None
 if_alone sign plural singular (Some a) =
@@ -80,17 +82,18 @@ if_alone sign plural singular (Some a) =
 
 -- the only argument that shows so, where it first stands
 unfoldable pub only : Sign → List Argument → List Argument → Option Argument
-only sign plural singular = if_alone sign plural singular (find (shows sign singular) plural)
+only sign plural singular = if_alone sign plural singular (first sign plural singular)
 
-abbrev pub or_else : Option Argument → Option Argument → Option Argument
-or_else (Some a) other = Some a
-or_else None other = other
+-- the one that was found, else the only one that shows so
+abbrev pub else_only : Sign → List Argument → List Argument → Option Argument → Option Argument
+else_only sign plural singular (Some a) = Some a
+else_only sign plural singular None = only sign plural singular
 
 -- the first integer without a name; else the only argument with a number's name, else the only one
 -- that the singular text lacks, else the only one at all that may be a number; else it isn't clear
 abbrev pub number_of : List Argument → List Argument → Option Argument
 number_of plural singular =
-    or_else (find is_counted plural)
-    (or_else (only Named plural singular)
-    (or_else (only Lacking plural singular)
-    (only Alone plural singular)))
+    else_only Alone plural singular
+    (else_only Lacking plural singular
+    (else_only Named plural singular
+    (first Counted plural singular)))

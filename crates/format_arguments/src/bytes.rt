@@ -97,6 +97,18 @@ pub(crate) fn split_run(class: Class, text: &[u8]) -> (&[u8], &[u8])
     text.split_at(text.len() - behind_run(class, text).len())
 }
 
+// What follows the first byte.
+pub(crate) fn behind_first(text: &[u8]) -> &[u8]
+    ensures rest { result.now ≡ behind_first text.now }
+    ensures shorter { 0 < length text.now → length result.now < length text.now }
+    ensures within { length result.now ≤ length text.now }
+{
+    match text {
+        [_, rest @ ..] => rest,
+        [] => b"",
+    }
+}
+
 // What follows the byte, if it is at the front.
 pub(crate) fn after_byte(byte: u8, text: &[u8]) -> Option<&[u8]>
     ensures none { IfNone result (begins_with byte text.now ≡ false) }

@@ -6,7 +6,7 @@ ghost use Rattle.format_arguments.specs.Directives.{directive_front, front, open
 ghost use Rattle.format_arguments.specs.Inner.DirectiveViews.{LeavesLess, Shortens, front_view};
 
 use crate::braced::{brace_front, has_quotes};
-use crate::bytes::{Class, behind_run};
+use crate::bytes::{Class, behind_first, behind_run};
 use crate::directive::Front;
 use crate::format::Format;
 use crate::numbered::numbered_front;
@@ -40,10 +40,7 @@ fn quoted_front(text: &[u8]) -> Front<'_>
     ensures front { front_view result ≡ quoted_front text.now }
     ensures shorter { LeavesLess result (length text.now) }
 {
-    match behind_run(Class::Unquoted, text) {
-        [_, rest @ ..] => Front::Takes(None, rest),
-        [] => Front::Takes(None, b""),
-    }
+    Front::Takes(None, behind_first(behind_run(Class::Unquoted, text)))
 }
 
 // The front of a text.

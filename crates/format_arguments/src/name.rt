@@ -3,7 +3,7 @@
 ghost use Rattle.std.specs.Prelude.{◌≡◌};
 ghost use Rattle.format_arguments.specs.CountedArguments.{is_number_name, is_number_word};
 
-use crate::bytes::{Class, split_run};
+use crate::bytes::{Class, behind_first, split_run};
 
 // Whether a word names a number.
 #[tactic(auto, unfolding(crate::specs::CountedArguments::is_number_word))]
@@ -31,9 +31,9 @@ pub(crate) fn is_number_name(name: &[u8]) -> bool
         if is_number_word(word) {
             return true;
         }
-        let [_, after @ ..] = behind else {
+        if behind.is_empty() {
             return false;
-        };
-        rest = after;
+        }
+        rest = behind_first(behind);
     }
 }

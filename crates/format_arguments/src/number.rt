@@ -1,7 +1,9 @@
 //! Which argument of a text is the number that its plural forms go by.
 
-ghost use Rattle.std.specs.Prelude.{◌≡◌, Some, None};
-ghost use Rattle.format_arguments.specs.CountedArguments.{has_name, has_number_name, has_sign, is_counted, is_integer, is_place, may_count, number_of, only, shows};
+ghost use Rattle.std.specs.Prelude.{◌≡◌, ◌||◌, not};
+ghost use Rattle.std.specs.List.{list_all};
+ghost use Rattle.format_arguments.specs.SameArguments.{is_same_name};
+ghost use Rattle.format_arguments.specs.CountedArguments.{else_only, first, has_name, has_number_name, has_sign, is_integer, is_place, number_of, only, shows};
 
 use crate::argument::{Argument, Kind, Name};
 use crate::name::is_number_name;
@@ -10,6 +12,8 @@ use crate::same::{is_same_name, is_unknown};
 // What shows that an argument is the number.
 #[derive(Clone, Copy)]
 pub(crate) enum Sign {
+    // It is an integer without a name.
+    Counted,
     // It has a number's name.
     Named,
     // The singular text lacks it.
@@ -45,14 +49,6 @@ fn has_number_name(name: &Name<'_>) -> bool
     }
 }
 
-// Whether it is an integer without a name.
-#[tactic(auto, unfolding(crate::specs::CountedArguments::is_counted))]
-fn is_counted(argument: &Argument<'_>) -> bool
-    ensures { result ≡ is_counted argument.now }
-{
-    is_integer(argument.kind) && is_place(&argument.name)
-}
-
 // Whether the text has an argument of this name.
 #[tactic(auto, unfolding(crate::specs::CountedArguments::has_name))]
 fn has_name(text: &[Argument<'_>], name: &Name<'_>) -> bool
@@ -66,6 +62,7 @@ fn has_sign(sign: Sign, singular: &[Argument<'_>], argument: &Argument<'_>) -> b
     ensures { result ≡ has_sign sign singular.now argument.now }
 {
     match sign {
+        Sign::Counted => is_integer(argument.kind) && is_place(&argument.name),
         Sign::Named => has_number_name(&argument.name),
         Sign::Lacking => !has_name(singular, &argument.name),
         Sign::Alone => is_integer(argument.kind) || is_place(&argument.name),
@@ -80,21 +77,60 @@ fn shows(sign: Sign, singular: &[Argument<'_>], argument: &Argument<'_>) -> bool
     (is_integer(argument.kind) || is_unknown(argument.kind)) && has_sign(sign, singular, argument)
 }
 
+// The first argument that shows so.
+fn first<'t>(sign: Sign, plural: &[Argument<'t>], singular: &[Argument<'_>]) -> Option<Argument<'t>>
+    ensures { result ≡ first sign plural.now singular.now }
+{
+    for argument in plural {
+        if shows(sign, singular, argument) {
+            return Some(*argument);
+        }
+    }
+    None
+}
+
+// Whether all arguments that show so have this name.
+fn have_name(
+    sign: Sign,
+    plural: &[Argument<'_>],
+    singular: &[Argument<'_>],
+    name: &Name<'_>,
+) -> bool
+    ensures { result ≡ list_all (λ b. not (shows sign singular.now b) || is_same_name name.now b.name) plural.now }
+{
+    plural.iter().all(|argument| !shows(sign, singular, argument)
+        || is_same_name(name, &argument.name))
+}
+
 // The only argument that shows so.
 #[tactic(auto, unfolding(crate::specs::CountedArguments::only))]
 fn only<'t>(sign: Sign, plural: &[Argument<'t>], singular: &[Argument<'_>]) -> Option<Argument<'t>>
     ensures { result ≡ only sign plural.now singular.now }
 {
-    let first = plural
-        .iter()
-        .copied()
-        .find(|argument| shows(sign, singular, argument))?;
-    if plural.iter().all(|argument| !shows(sign, singular, argument)
-        || is_same_name(&first.name, &argument.name))
-    {
-        Some(first)
-    } else {
-        None
+    match first(sign, plural, singular) {
+        Some(argument) => {
+            if have_name(sign, plural, singular, &argument.name) {
+                Some(argument)
+            } else {
+                None
+            }
+        }
+        None => None,
+    }
+}
+
+// The one that was found, else the only one that shows so.
+fn else_only<'t>(
+    found: Option<Argument<'t>>,
+    sign: Sign,
+    plural: &[Argument<'t>],
+    singular: &[Argument<'_>],
+) -> Option<Argument<'t>>
+    ensures { result ≡ else_only sign plural.now singular.now found.entry }
+{
+    match found {
+        Some(argument) => Some(argument),
+        None => only(sign, plural, singular),
     }
 }
 
@@ -107,14 +143,8 @@ fn only<'t>(sign: Sign, plural: &[Argument<'t>], singular: &[Argument<'_>]) -> O
 pub fn number_of<'t>(plural: &[Argument<'t>], singular: &[Argument<'_>]) -> Option<Argument<'t>>
     ensures { result ≡ number_of plural.now singular.now }
 {
-    if let Some(number) = plural.iter().copied().find(|argument| is_counted(argument)) {
-        return Some(number);
-    }
-    if let Some(number) = only(Sign::Named, plural, singular) {
-        return Some(number);
-    }
-    if let Some(number) = only(Sign::Lacking, plural, singular) {
-        return Some(number);
-    }
-    only(Sign::Alone, plural, singular)
+    let counted = first(Sign::Counted, plural, singular);
+    let named = else_only(counted, Sign::Named, plural, singular);
+    let lacking = else_only(named, Sign::Lacking, plural, singular);
+    else_only(lacking, Sign::Alone, plural, singular)
 }

@@ -1,12 +1,13 @@
 //! Reading a text.
 
-ghost use Rattle.std.specs.Prelude.{◌≡◌, ◌≤◌, ◌<◌, ◌+◌, ◌^◌, length};
+ghost use Rattle.std.specs.Prelude.{◌≡◌, ◌≤◌, ◌<◌, ◌+◌, ◌^◌, ◌++◌, IfOk, OnOk};
 ghost use Rattle.format_arguments.specs.DirectiveTables.{first_place};
 ghost use Rattle.format_arguments.specs.ToldArguments.{TellsExactly};
-ghost use Rattle.format_arguments.specs.Inner.DirectiveViews.{turn_of, turn_view, which_view};
+ghost use Rattle.format_arguments.specs.CutTexts.{argument_at, argument_told, argument_view, arguments_view, name_in_turn, name_view, next_behind, next_in_turn};
+ghost use Rattle.format_arguments.specs.Inner.DirectiveViews.{directive_view, least_width, says_view, which_view};
 
 use crate::argument::{Argument, Arguments, Name};
-use crate::directive::{Front, Which};
+use crate::directive::{Directive, Front, Which};
 use crate::format::Format;
 use crate::front::front_of;
 use std::alloc::{AllocError, Global};
@@ -21,17 +22,64 @@ fn first_place(format: Format) -> usize
     }
 }
 
-// The argument of a directive, and the number of the next one behind it.
-fn in_turn(next: usize, stars: usize, which: Which<'_>) -> (Name<'_>, usize)
-    requires { next + stars + 1 < 2 ^ 64 }
-    ensures turn { turn_view result ≡ turn_of next stars (which_view which.entry) }
-    ensures within { result.1 ≤ next + stars + 1 }
+// How an argument is named, where the next one in turn has this number.
+fn name_in_turn<'t>(next: usize, stars: usize, which: Which<'t>) -> Name<'t>
+    requires { next + stars < 2 ^ 64 }
+    ensures { name_view result ≡ name_in_turn next stars (which_view which.entry) }
 {
-    let place = next + stars;
     match which {
-        Which::Next => (Name::Place(place), place + 1),
-        Which::At(place_of_its_own) => (Name::Place(place_of_its_own), place),
-        Which::Named(word) => (Name::Word(word), place),
+        Which::Next => Name::Place(next + stars),
+        Which::At(place) => Name::Place(place),
+        Which::Named(word) => Name::Word(word),
+    }
+}
+
+// The number of the next one behind it.
+fn next_in_turn(next: usize, stars: usize, which: Which<'_>) -> usize
+    requires { next + stars + 1 < 2 ^ 64 }
+    ensures next { result ≡ next_in_turn next stars (which_view which.entry) }
+    ensures within { result ≤ next + stars + 1 }
+{
+    match which {
+        Which::Next => next + stars + 1,
+        _ => next + stars,
+    }
+}
+
+// The argument of a directive that stands there.
+fn argument_at<'t>(next: usize, start: usize, end: usize, directive: Directive<'t>) -> Argument<'t>
+    requires { next + directive.stars < 2 ^ 64 }
+    ensures { argument_view result ≡ argument_at next start end (directive_view directive.entry) }
+{
+    Argument {
+        start,
+        end,
+        name: name_in_turn(next, directive.stars, directive.which),
+        kind: directive.kind,
+        size: directive.size,
+    }
+}
+
+// Adds the argument of a piece, if it is a directive. Returns the number of the next one.
+#[tactic(auto, using(crate::proofs::Readings::told_pushed, crate::proofs::Readings::none_pushed))]
+fn tell<'t>(
+    items: &mut Vec<Argument<'t>>,
+    next: usize,
+    start: usize,
+    end: usize,
+    says: Option<Directive<'t>>,
+) -> Result<usize, AllocError>
+    requires { next + least_width says.entry < 2 ^ 64 }
+    ensures told { OnOk result (arguments_view items.new.items ≡ arguments_view items.old.items ++ argument_told next start end (says_view says.entry)) }
+    ensures next { IfOk result (λ behind. behind ≡ next_behind next (says_view says.entry)) }
+    ensures within { IfOk result (λ behind. behind ≤ next + least_width says.entry) }
+{
+    match says {
+        None => Ok(next),
+        Some(directive) => {
+            items.push(argument_at(next, start, end, directive))?;
+            Ok(next_in_turn(next, directive.stars, directive.which))
+        }
     }
 }
 
@@ -55,18 +103,8 @@ pub fn arguments<'t>(
                 items,
                 fault: Some(start),
             }),
-            Front::Takes(None, after) => rest = after,
-            Front::Takes(Some(directive), after) => {
-                let end = text.len() - after.len();
-                let (name, behind) = in_turn(next, directive.stars, directive.which);
-                items.push(Argument {
-                    start,
-                    end,
-                    name,
-                    kind: directive.kind,
-                    size: directive.size,
-                })?;
-                next = behind;
+            Front::Takes(says, after) => {
+                next = tell(&mut items, next, start, text.len() - after.len(), says)?;
                 rest = after;
             }
         }

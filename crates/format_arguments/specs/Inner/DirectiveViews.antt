@@ -6,8 +6,6 @@ use Rattle.format_arguments.specs.declared.directive.Which.TheVariants as which
 use Rattle.format_arguments.specs.declared.directive.Directive as directives
 use Rattle.format_arguments.specs.declared.directive.Front as fronts
 use Rattle.format_arguments.specs.declared.directive.Front.TheVariants as front
-use Rattle.format_arguments.specs.declared.argument.Name as names
-use Rattle.format_arguments.specs.CutTexts.{ArgumentName, name_view, name_in_turn, next_in_turn}
 use Rattle.format_arguments.specs.Directives.{Which, Next, At, Named, Directive, Front, End, Takes, Broken}
 
 abbrev pub which_view : whiches.Which → Which
@@ -59,10 +57,3 @@ abbrev pub Shortens : fronts.Front → ℕ → Type 0
 Shortens front.End n = Unit {0}
 Shortens (front.Takes says rest) n = least_width says + length rest.now < n
 Shortens front.Broken n = Unit {0}
-
--- an argument in turn, and the number of the next one
-abbrev pub turn_view : names.Name × ℕ → ArgumentName × ℕ
-turn_view turn = (name_view turn.0, turn.1)
-
-abbrev pub turn_of : ℕ → ℕ → Which → ArgumentName × ℕ
-turn_of next stars which = (name_in_turn next stars which, next_in_turn next stars which)

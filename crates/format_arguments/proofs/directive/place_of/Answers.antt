@@ -1,4 +1,4 @@
-use Rattle.std.proofs.Common.{◌≡◌, ◌+◌, ◌-◌, ◌*◌, ◌∙◌, min, drop, length, get_or, ℕ, ap, arith, sym}
+use Rattle.std.proofs.Common.{◌≡◌, ◌+◌, ◌-◌, ◌*◌, ◌∙◌, min, drop, get_or, ℕ, ap, arith, sym}
 use Rattle.format_arguments.specs.declared.directive.TheConstants.{PLACE_LIMIT}
 use Rattle.format_arguments.specs.DirectiveBytes.{number_from, place_of}
 use Rattle.format_arguments.proofs.Numerals.{digit_more, no_digit_left}
