@@ -18,10 +18,10 @@ passed p xs k x lt is no =
 -- one that does is found
 pub found : {A : Type 0} (p : A → Bool) (xs : List A) (k : ℕ) (x : A) → k < length xs → x ≡ get_or xs k x → p x ≡ true
     → find p (drop k xs) ≡ Some x
-found p xs k x lt is yes =
+found {A = A} p xs k x lt is yes =
     at_element p xs k x lt
     ∙ (ap (λ (t : Bool). if t then Some (get_or xs k x) else find p (drop (suc k) xs)) (ap p (sym is) ∙ yes)
-    ∙ ap (λ y. Some y) (sym is))
+    ∙ ap (λ (y : A). Some y) (sym is))
 
 -- behind the last one there is none
 pub nowhere : {A : Type 0} (p : A → Bool) (xs : List A) (k : ℕ) → length xs ≤ k → find p (drop k xs) ≡ None

@@ -1,5 +1,5 @@
 -- The words of a name, one after the other.
-use Rattle.std.proofs.Common.{◌≡◌, ◌∙◌, ◌||◌, ◌<◌, ℕ, length, arith, List, [], ◌∷◌, Bool, true, false, refl, sym, ap, if◌then◌else◌}
+use Rattle.std.proofs.Common.{◌≡◌, ◌∙◌, ◌||◌, ◌<◌, ◌≤◌, ℕ, length, arith, List, [], ◌∷◌, Bool, true, false, refl, sym, ap, if◌then◌else◌}
 use Rattle.std.specs.List.{list_any}
 use Rattle.format_arguments.specs.declared.bytes.Class.TheVariants.{Letter}
 use Rattle.format_arguments.specs.DirectiveBytes.{is_in, run_front, behind_run, behind_first}
@@ -31,13 +31,13 @@ pub number_here : (s word : List ℕ) → word ≡ run_front Letter s → is_num
 number_here s word e h =
     first_or_later s word (behind_run Letter s) e refl ∙ ap (λ (t : Bool). t || list_any is_number_word (later_words (behind_run Letter s))) h
 
-pub no_word_left : (s word behind : List ℕ) → word ≡ run_front Letter s → behind ≡ behind_run Letter s → is_number_word word ≡ false → length behind ≡ 0
+pub no_word_left : (s word behind : List ℕ) → word ≡ run_front Letter s → behind ≡ behind_run Letter s → is_number_word word ≡ false → length behind < 1
     → is_number_name s ≡ false
 no_word_left s word [] e k h none =
     first_or_later s word [] e k ∙ ap (λ (t : Bool). t || list_any is_number_word (later_words [])) h
 no_word_left s word (b ∷ after) e k h none = absurd (omega (arith, none))
 
-pub word_passed : (s word behind : List ℕ) → word ≡ run_front Letter s → behind ≡ behind_run Letter s → is_number_word word ≡ false → 0 < length behind
+pub word_passed : (s word behind : List ℕ) → word ≡ run_front Letter s → behind ≡ behind_run Letter s → is_number_word word ≡ false → 1 ≤ length behind
     → is_number_name (behind_first behind) ≡ is_number_name s
 unfolding is_number_name
 word_passed s word [] e k h more = absurd (omega (arith, more))

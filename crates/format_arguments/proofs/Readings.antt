@@ -5,7 +5,7 @@ use Rattle.format_arguments.specs.declared.argument.Argument as arguments
 use Rattle.format_arguments.specs.declared.format.Format.{Format}
 use Rattle.format_arguments.specs.DirectiveTables.{first_place}
 use Rattle.format_arguments.specs.Directives.{Directive, Front, End, Takes, Broken, front}
-use Rattle.format_arguments.specs.CutTexts.{TextPiece, piece_of, IsCutInto, ends, breaks, goes, bytes_of, FormatArgument, argument_at, argument_told, next_behind, arguments_from, fault_behind, HasArguments, argument_view, arguments_view}
+use Rattle.format_arguments.specs.CutTexts.{TextPiece, piece_of, IsCutInto, ends, breaks, goes, bytes_of, FormatArgument, argument_told, next_behind, arguments_from, fault_behind, HasArguments, argument_view, arguments_view}
 use Rattle.format_arguments.proofs.Rests.{FrontEndsIn, front_end}
 
 -- the fault behind pieces of which the first begins at this byte
@@ -85,11 +85,9 @@ fault_read f text s items next at h e =
     retold f text (items ++ []) items (Some (at + 0)) (Some at) (h [] true (breaks s e)) (sym (append-nil items)) (ap (λ (x : ℕ). Some x) (omega arith))
 
 -- an argument is pushed
-pub told_pushed : (old new : List arguments.Argument) (a : arguments.Argument) (next start end : ℕ) (d : Directive) → new ≡ old ++ a ∷ [] → argument_view a ≡ argument_at next start end d
-    → arguments_view new ≡ arguments_view old ++ argument_told next start end (Some d)
-told_pushed old new a next start end d e k =
-    ap arguments_view e ∙ (map-append argument_view old (a ∷ []) ∙ ap (λ (x : FormatArgument). arguments_view old ++ x ∷ []) k)
+pub pushed : (old new : List arguments.Argument) (a : arguments.Argument) → new ≡ old ++ a ∷ [] → arguments_view new ≡ arguments_view old ++ argument_view a ∷ []
+pushed old new a e = ap arguments_view e ∙ map-append argument_view old (a ∷ [])
 
 -- none is pushed
-pub none_pushed : (old : List arguments.Argument) → arguments_view old ≡ arguments_view old ++ []
-none_pushed old = sym (append-nil (arguments_view old))
+pub none_pushed : (old : List FormatArgument) → old ≡ old ++ []
+none_pushed old = sym (append-nil old)

@@ -20,10 +20,10 @@ is_letter b = is_between 97 122 b || is_between 65 90 b
 abbrev pub is_of_word : ℕ → Bool
 is_of_word b = is_letter b || is_digit b || b == 95
 
--- a name in braces: a number in Java; in Python also bytes above ASCII, and what picks a part of the
--- argument, as `.name` and `[0]`
+-- a name in braces: a number in Java; in Python also what picks a part of the argument, as `.name`
+-- and `[0]`
 abbrev pub is_of_field : Format → ℕ → Bool
-is_of_field PythonBrace b = is_of_word b || nat_le 128 b || is_one_of (codes ".[]") b
+is_of_field PythonBrace b = is_of_word b || is_one_of (codes ".[]") b
 is_of_field Java b = is_digit b
 is_of_field _ b = is_of_word b
 

@@ -6,7 +6,7 @@ use Rattle.format_arguments.specs.declared.argument.Kind.TheVariants.{Unknown}
 use Rattle.format_arguments.specs.declared.bytes.Class.TheVariants.{Digit, Flag, Size, Field, Macro, Name, Barred, Unquoted}
 use Rattle.format_arguments.specs.declared.format.Format.{Format}
 use Rattle.format_arguments.specs.declared.format.Format.TheVariants.{C, ObjectiveC, Python, JavaScript, Boost, Qt, QtPlural, Kde, PythonBrace, PerlBrace, Java}
-use Rattle.format_arguments.specs.DirectiveBytes.{run_front, behind_run, is_empty_text, begins_with, behind_first, after_word, place_of, is_digit}
+use Rattle.format_arguments.specs.DirectiveBytes.{run_front, behind_run, is_empty_text, begins_with, behind_first, after_word, place_of, is_digit, is_of_word}
 use Rattle.format_arguments.specs.DirectiveTables.{is_one_of, Family, Printf, Numbered, Braced, family_of, tells_sizes, has_stars, has_macros, silent_conversions, kind_of, c_kind}
 
 -- which argument a directive takes
@@ -189,9 +189,11 @@ abbrev pub has_quotes : Format → Bool
 has_quotes Java = true
 has_quotes _ = false
 
--- a name that may stand between braces: in Perl no number, in Java a number, in Python any or none
+-- a name that may stand between braces: in Perl it begins with no digit, in Java it is a number, in
+-- Python it may be empty, and begins with no point or bracket
 abbrev pub fits_field : Format → List ℕ → Bool
-fits_field PythonBrace name = true
+fits_field PythonBrace [] = true
+fits_field PythonBrace (b ∷ s) = is_of_word b
 fits_field PerlBrace [] = false
 fits_field PerlBrace (b ∷ s) = not (is_digit b)
 fits_field _ name = not (is_empty_text name)

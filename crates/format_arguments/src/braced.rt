@@ -4,7 +4,7 @@ ghost use Rattle.std.specs.Prelude.{◌≡◌, ◌≤◌, ◌<◌, ◌+◌, ◌�
 ghost use Rattle.format_arguments.specs.Directives.{begins_style, behind_closing, brace_front, field_end, field_front, field_which, fits_field, has_quotes, no_field, styled_field};
 ghost use Rattle.format_arguments.specs.Inner.DirectiveViews.{LeavesLess, front_view, rest_view, which_view};
 
-use crate::bytes::{Class, after_byte, behind_run, is_digit, split_run};
+use crate::bytes::{Class, after_byte, behind_run, is_digit, is_of_word, split_run};
 use crate::directive::{Front, Which, place_of};
 use crate::format::Format;
 use crate::printf::takes;
@@ -50,7 +50,10 @@ fn fits_field(format: Format, name: &[u8]) -> bool
     ensures { result ≡ fits_field format name.now }
 {
     match format {
-        Format::PythonBrace => true,
+        Format::PythonBrace => match name {
+            [] => true,
+            [first, ..] => is_of_word(*first),
+        },
         Format::PerlBrace => match name {
             [] => false,
             [first, ..] => !is_digit(*first),

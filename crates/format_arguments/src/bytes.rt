@@ -41,7 +41,7 @@ fn is_letter(byte: u8) -> bool
     b'a' <= byte && byte <= b'z' || b'A' <= byte && byte <= b'Z'
 }
 
-fn is_of_word(byte: u8) -> bool
+pub(crate) fn is_of_word(byte: u8) -> bool
     ensures { result ≡ is_of_word byte }
 {
     is_letter(byte) || is_digit(byte) || byte == b'_'
@@ -51,7 +51,7 @@ fn is_of_field(format: Format, byte: u8) -> bool
     ensures { result ≡ is_of_field format byte }
 {
     match format {
-        Format::PythonBrace => is_of_word(byte) || 128 <= byte || is_one_of(b".[]", byte),
+        Format::PythonBrace => is_of_word(byte) || is_one_of(b".[]", byte),
         Format::Java => is_digit(byte),
         _ => is_of_word(byte),
     }

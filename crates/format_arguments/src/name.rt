@@ -21,7 +21,7 @@ fn is_number_word(word: &[u8]) -> bool
 }
 
 // Whether a word of the name names a number.
-#[tactic(auto, using(crate::proofs::NumberNames::number_here, crate::proofs::NumberNames::no_word_left, crate::proofs::NumberNames::word_passed))]
+#[tactic(auto, using(crate::proofs::NumberNames::number_here))]
 pub(crate) fn is_number_name(name: &[u8]) -> bool
     ensures { result ≡ is_number_name name.now }
 {
@@ -31,9 +31,10 @@ pub(crate) fn is_number_name(name: &[u8]) -> bool
         if is_number_word(word) {
             return true;
         }
-        if behind.is_empty() {
+        let [_, ..] = behind else {
             return false;
-        }
-        rest = behind_first(behind);
+        };
+        let after = behind_first(behind);
+        rest = after;
     }
 }

@@ -1,6 +1,6 @@
 //! Reading a text.
 
-ghost use Rattle.std.specs.Prelude.{◌≡◌, ◌≤◌, ◌<◌, ◌+◌, ◌^◌, ◌++◌, IfOk, OnOk};
+ghost use Rattle.std.specs.Prelude.{◌≡◌, ◌≤◌, ◌<◌, ◌+◌, ◌^◌, ◌++◌, ◌∷◌, [], IfOk, OnOk};
 ghost use Rattle.format_arguments.specs.DirectiveTables.{first_place};
 ghost use Rattle.format_arguments.specs.ToldArguments.{TellsExactly};
 ghost use Rattle.format_arguments.specs.CutTexts.{argument_at, argument_told, argument_view, arguments_view, name_in_turn, name_view, next_behind, next_in_turn};
@@ -60,8 +60,17 @@ fn argument_at<'t>(next: usize, start: usize, end: usize, directive: Directive<'
     }
 }
 
+// Adds an argument.
+#[tactic(auto, using(crate::proofs::Readings::pushed))]
+fn push<'t>(items: &mut Vec<Argument<'t>>, argument: Argument<'t>) -> Result<(), AllocError>
+    ensures { OnOk result (arguments_view items.new.items ≡ arguments_view items.old.items ++ argument_view argument.entry ∷ []) }
+{
+    items.push(argument)?;
+    Ok(())
+}
+
 // Adds the argument of a piece, if it is a directive. Returns the number of the next one.
-#[tactic(auto, using(crate::proofs::Readings::told_pushed, crate::proofs::Readings::none_pushed))]
+#[tactic(auto, using(crate::proofs::Readings::none_pushed))]
 fn tell<'t>(
     items: &mut Vec<Argument<'t>>,
     next: usize,
@@ -69,7 +78,7 @@ fn tell<'t>(
     end: usize,
     says: Option<Directive<'t>>,
 ) -> Result<usize, AllocError>
-    requires { next + least_width says.entry < 2 ^ 64 }
+    requires { next + least_width says < 2 ^ 64 }
     ensures told { OnOk result (arguments_view items.new.items ≡ arguments_view items.old.items ++ argument_told next start end (says_view says.entry)) }
     ensures next { IfOk result (λ behind. behind ≡ next_behind next (says_view says.entry)) }
     ensures within { IfOk result (λ behind. behind ≤ next + least_width says.entry) }
@@ -77,7 +86,7 @@ fn tell<'t>(
     match says {
         None => Ok(next),
         Some(directive) => {
-            items.push(argument_at(next, start, end, directive))?;
+            push(items, argument_at(next, start, end, directive))?;
             Ok(next_in_turn(next, directive.stars, directive.which))
         }
     }
