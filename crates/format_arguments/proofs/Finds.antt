@@ -9,19 +9,17 @@ at_element : {A : Type 0} (p : A → Bool) (xs : List A) (k : ℕ) (d : A) → k
 at_element p xs k d lt = ap (find p) (drop-cons xs k d lt)
 
 -- an element that doesn't is passed
-pub passed : {A : Type 0} (p : A → Bool) (xs : List A) (k : ℕ) (x : A) → k < length xs → x ≡ get_or xs k x → p x ≡ false
+pub passed : {A : Type 0} (p : A → Bool) (xs : List A) (k : ℕ) (d : A) → k < length xs → p (get_or xs k d) ≡ false
     → find p (drop (k + 1) xs) ≡ find p (drop k xs)
-passed p xs k x lt is no =
+passed p xs k d lt isnt =
     ap (λ (n : ℕ). find p (drop n xs)) (add-one k)
-    ∙ sym (at_element p xs k x lt ∙ ap (λ (t : Bool). if t then Some (get_or xs k x) else find p (drop (suc k) xs)) (ap p (sym is) ∙ no))
+    ∙ sym (at_element p xs k d lt ∙ ap (λ (t : Bool). if t then Some (get_or xs k d) else find p (drop (suc k) xs)) isnt)
 
 -- one that does is found
-pub found : {A : Type 0} (p : A → Bool) (xs : List A) (k : ℕ) (x : A) → k < length xs → x ≡ get_or xs k x → p x ≡ true
-    → find p (drop k xs) ≡ Some x
-found {A = A} p xs k x lt is yes =
-    at_element p xs k x lt
-    ∙ (ap (λ (t : Bool). if t then Some (get_or xs k x) else find p (drop (suc k) xs)) (ap p (sym is) ∙ yes)
-    ∙ ap (λ (y : A). Some y) (sym is))
+pub found : {A : Type 0} (p : A → Bool) (xs : List A) (k : ℕ) (d : A) → k < length xs → p (get_or xs k d) ≡ true
+    → find p (drop k xs) ≡ Some (get_or xs k d)
+found p xs k d lt is =
+    at_element p xs k d lt ∙ ap (λ (t : Bool). if t then Some (get_or xs k d) else find p (drop (suc k) xs)) is
 
 -- behind the last one there is none
 pub nowhere : {A : Type 0} (p : A → Bool) (xs : List A) (k : ℕ) → length xs ≤ k → find p (drop k xs) ≡ None

@@ -37,9 +37,9 @@ no_word_left s word [] e k h none =
     first_or_later s word [] e k ∙ ap (λ (t : Bool). t || list_any is_number_word (later_words [])) h
 no_word_left s word (b ∷ after) e k h none = absurd (omega (arith, none))
 
-pub word_passed : (s word behind : List ℕ) → word ≡ run_front Letter s → behind ≡ behind_run Letter s → is_number_word word ≡ false → 1 ≤ length behind
+pub word_passed : (s word behind : List ℕ) → word ≡ run_front Letter s → behind ≡ behind_run Letter s → is_number_word word ≡ false
     → is_number_name (behind_first behind) ≡ is_number_name s
-unfolding is_number_name
-word_passed s word [] e k h more = absurd (omega (arith, more))
-word_passed s word (b ∷ after) e k h more =
+unfolding is_number_name is_number_word
+word_passed s word [] e k h = sym (no_word_left s word [] e k h (omega arith))
+word_passed s word (b ∷ after) e k h =
     sym (first_or_later s word (b ∷ after) e k ∙ ap (λ (t : Bool). t || list_any is_number_word (words_of after)) h)

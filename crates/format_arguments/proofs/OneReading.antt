@@ -63,13 +63,13 @@ cut_within f (goes s bytes rest says pieces broken is e cut) =
     omega (arith, more, length-append bytes (bytes_of pieces), length-append bytes rest, ap length is)
 
 -- what stands in order from a byte on does so from one before it on
-earlier : (at : ℕ) {later end : ℕ} {items : List FormatArgument} → at ≤ later → StandInOrder later items end → StandInOrder at items end
-earlier at le (none_left later end h) = none_left at end (omega arith)
-earlier at le (one_more later end a more h k behind) = one_more at end a more (omega arith) k behind
+earlier : {later end : ℕ} {items : List FormatArgument} → StandInOrder later items end → (at : ℕ) → at ≤ later → StandInOrder at items end
+earlier (none_left from to h) at le = none_left at to (omega (arith, h, le))
+earlier (one_more from to a more h k behind) at le = one_more at to a more (omega (arith, h, le)) k behind
 
 in_order_told : (next at from end : ℕ) (says : Option Directive) (more : List FormatArgument) → at ≤ from → StandInOrder from more end
     → StandInOrder at (argument_told next at from says ++ more) end
-in_order_told next at from end None more le h = earlier at le h
+in_order_told next at from end None more le h = earlier h at le
 in_order_told next at from end (Some d) more le h = one_more at end (argument_at next at from d) more (omega arith) le h
 
 in_order : (next at end : ℕ) (pieces : List TextPiece) → at + length (bytes_of pieces) ≤ end → StandInOrder at (arguments_from next at pieces) end

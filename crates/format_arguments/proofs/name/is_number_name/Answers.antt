@@ -13,5 +13,5 @@ pub words-preserved : goal.words-preserved
 words-preserved c =
     ap is_number_name c.behind_first-after.ensures.rest
     ∙ (word_passed c.words.rest.now c.split_run.result.0.now c.split_run.result.1.now c.split_run.ensures.front c.split_run.ensures.rest
-    (sym c.is_number_word.ensures ∙ c.if-is_number_word.false) c.in-len1-up.len_at_least
+    (sym c.is_number_word.ensures ∙ c.if-is_number_word.false)
     ∙ c.words.invariant)
