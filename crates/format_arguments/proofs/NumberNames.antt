@@ -1,5 +1,5 @@
 -- The words of a name, one after the other.
-use Rattle.std.proofs.Common.{◌≡◌, ◌∙◌, ◌||◌, ◌<◌, ◌≤◌, ℕ, length, arith, List, [], ◌∷◌, Bool, true, false, refl, sym, ap, if◌then◌else◌}
+use Rattle.std.proofs.Common.{◌≡◌, ◌∙◌, ◌||◌, ◌<◌, ℕ, length, arith, List, [], ◌∷◌, Bool, true, false, refl, sym, ap, if◌then◌else◌}
 use Rattle.std.specs.List.{list_any}
 use Rattle.format_arguments.specs.declared.bytes.Class.TheVariants.{Letter}
 use Rattle.format_arguments.specs.DirectiveBytes.{is_in, run_front, behind_run, behind_first}

@@ -5,7 +5,7 @@ use Rattle.format_arguments.specs.declared.argument.Argument as arguments
 use Rattle.format_arguments.specs.declared.format.Format.{Format}
 use Rattle.format_arguments.specs.DirectiveTables.{first_place}
 use Rattle.format_arguments.specs.Directives.{Directive, Front, End, Takes, Broken, front}
-use Rattle.format_arguments.specs.CutTexts.{TextPiece, piece_of, IsCutInto, ends, breaks, goes, bytes_of, FormatArgument, argument_told, next_behind, arguments_from, fault_behind, HasArguments, argument_view, arguments_view}
+use Rattle.format_arguments.specs.CutTexts.{TextPiece, piece_of, IsCutInto, ends, breaks, goes, bytes_of, FormatArgument, argument_told, next_behind, arguments_from, HasArguments, argument_view, arguments_view}
 use Rattle.format_arguments.proofs.Rests.{FrontEndsIn, front_end}
 
 -- the fault behind pieces of which the first begins at this byte

@@ -8,7 +8,7 @@ use Rattle.format_arguments.specs.declared.format.Format.{Format}
 use Rattle.format_arguments.specs.declared.format.Format.TheVariants.{C, ObjectiveC, Python, JavaScript, Boost, Qt, QtPlural, Kde, PythonBrace, PerlBrace, Java}
 use Rattle.format_arguments.specs.DirectiveTables.{is_one_of, family_of, has_stars, has_macros, silent_conversions, kind_of, c_kind}
 use Rattle.format_arguments.specs.DirectiveBytes.{run_front, behind_run, is_empty_text, begins_with, behind_first, after_word, place_of}
-use Rattle.format_arguments.specs.Directives.{Which, Next, At, Named, Directive, Front, End, Takes, Broken, front, at_place, place_front, closed_name, name_front, which_front, star_taken, width_front, precision_front, widths_front, converts, macro_end, macro_letter, conversion_front, size_of, sized_front, flagged_front, printf_front, takes, takes_place, barred_end, boost_front, behind_letter, number_front, is_the_number, numbered_front, behind_closing, has_quotes, fits_field, begins_style, field_which, no_field, styled_field, field_end, field_front, brace_front, directive_front, opening_in, quoted_front}
+use Rattle.format_arguments.specs.Directives.{Which, Next, At, Named, Front, End, Takes, Broken, front, at_place, place_front, closed_name, name_front, which_front, star_taken, width_front, precision_front, widths_front, converts, macro_end, macro_letter, conversion_front, size_of, flagged_front, printf_front, takes, takes_place, barred_end, boost_front, behind_letter, number_front, is_the_number, numbered_front, behind_closing, has_quotes, fits_field, begins_style, field_which, no_field, styled_field, field_end, field_front, brace_front, directive_front, opening_in, quoted_front}
 use Rattle.format_arguments.proofs.Runs.{run_front-whole}
 
 -- the text ends in this rest

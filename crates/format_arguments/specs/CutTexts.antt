@@ -1,14 +1,13 @@
 -- The arguments of a text: the text is cut into pieces, each as it stands at the front of the rest,
 -- and the directives among them are numbered.
 use Rattle.std.specs.Prelude.{◌≡◌, ℕ, ◌+◌, ◌≤◌, List, [], ◌∷◌, ◌++◌, Bool, true, false, length, map, Option, Some, None, if◌then◌else◌}
-use Rattle.std.specs.Borrow.{Bor}
 use Rattle.format_arguments.specs.declared.argument.Kind.{Kind}
 use Rattle.format_arguments.specs.declared.argument.Name as names
 use Rattle.format_arguments.specs.declared.argument.Name.TheVariants as name
 use Rattle.format_arguments.specs.declared.argument.Argument as arguments
 use Rattle.format_arguments.specs.declared.format.Format.{Format}
 use Rattle.format_arguments.specs.DirectiveTables.{first_place}
-use Rattle.format_arguments.specs.Directives.{Which, Next, At, Named, Directive, Front, End, Takes, Broken, front}
+use Rattle.format_arguments.specs.Directives.{Which, Next, At, Named, Directive, End, Takes, Broken, front}
 
 -- ---- pieces
 

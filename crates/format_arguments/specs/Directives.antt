@@ -7,7 +7,7 @@ use Rattle.format_arguments.specs.declared.bytes.Class.TheVariants.{Digit, Flag,
 use Rattle.format_arguments.specs.declared.format.Format.{Format}
 use Rattle.format_arguments.specs.declared.format.Format.TheVariants.{C, ObjectiveC, Python, JavaScript, Boost, Qt, QtPlural, Kde, PythonBrace, PerlBrace, Java}
 use Rattle.format_arguments.specs.DirectiveBytes.{run_front, behind_run, is_empty_text, begins_with, behind_first, after_word, place_of, is_digit, is_of_word}
-use Rattle.format_arguments.specs.DirectiveTables.{is_one_of, Family, Printf, Numbered, Braced, family_of, tells_sizes, has_stars, has_macros, silent_conversions, kind_of, c_kind}
+use Rattle.format_arguments.specs.DirectiveTables.{is_one_of, Family, Braced, family_of, tells_sizes, has_stars, has_macros, silent_conversions, kind_of, c_kind}
 
 -- which argument a directive takes
 pub data Which : Type 0 where

@@ -1,5 +1,5 @@
 -- When an argument of a translation stands for one of its source.
-use Rattle.std.specs.Prelude.{ℕ, ◌==◌, ◌&&◌, ◌||◌, Bool, true, false, bytes_eq}
+use Rattle.std.specs.Prelude.{◌==◌, ◌&&◌, ◌||◌, Bool, true, false, bytes_eq}
 use Rattle.format_arguments.specs.declared.argument.Argument.{Argument}
 use Rattle.format_arguments.specs.declared.argument.Kind.{Kind}
 use Rattle.format_arguments.specs.declared.argument.Kind.TheVariants.{Integer, Unsigned, Number, Character, Text, Other, Unknown}
