@@ -1,6 +1,7 @@
 //! The kinds of the upper crates: `icu_plurals`, `plural_message`, `plural_checker`,
 //! `plural_fallback`, `message_report`, `finding_formats`, `form_commands`, `example_callers`,
-//! `message_pattern`, `message_format`, `gettext_plural`, `plural_exports` and `po_catalog`.
+//! `message_pattern`, `message_format`, `gettext_plural`, `plural_exports`, `po_catalog` and
+//! `format_arguments`.
 
 mod callers;
 mod catalogs;
@@ -21,6 +22,7 @@ mod pattern_texts;
 mod patterns;
 mod plural_forms;
 mod styled_patterns;
+mod text_arguments;
 
 use crate::call::Call;
 
@@ -44,4 +46,5 @@ pub fn make(kind: &str, call: &mut Call) -> bool {
         || exports::make(kind, call)
         || exported_bytes::make(kind, call)
         || catalogs::make(kind, call)
+        || text_arguments::make(kind, call)
 }

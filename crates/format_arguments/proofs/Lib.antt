@@ -1,0 +1,7 @@
+pub mod Runs
+pub mod Numerals
+pub mod Rests
+pub mod Readings
+pub mod OneReading
+pub mod NumberNames
+pub mod Finds

@@ -1,0 +1,2 @@
+-- No definitions of the subject: views of private types, for private contracts.
+pub mod DirectiveViews

@@ -1,0 +1,59 @@
+-- What private functions return, without where it lies in memory.
+use Rattle.std.specs.Prelude.{ℕ, ◌+◌, ◌≤◌, ◌<◌, List, length, Option, Some, None}
+use Rattle.std.specs.Borrow.{Bor}
+use Rattle.format_arguments.specs.declared.directive.Which as whiches
+use Rattle.format_arguments.specs.declared.directive.Which.TheVariants as which
+use Rattle.format_arguments.specs.declared.directive.Directive as directives
+use Rattle.format_arguments.specs.declared.directive.Front as fronts
+use Rattle.format_arguments.specs.declared.directive.Front.TheVariants as front
+use Rattle.format_arguments.specs.Directives.{Which, Next, At, Named, Directive, Front, End, Takes, Broken}
+
+abbrev pub which_view : whiches.Which → Which
+which_view which.Next = Next
+which_view (which.At n) = At n
+which_view (which.Named name) = Named name.now
+
+abbrev pub which_rest_view : Option (whiches.Which × Bor (List ℕ)) → Option (Which × List ℕ)
+which_rest_view None = None
+which_rest_view (Some found) = Some (which_view found.0, found.1.now)
+
+abbrev pub rest_view : Option (Bor (List ℕ)) → Option (List ℕ)
+rest_view None = None
+rest_view (Some rest) = Some rest.now
+
+abbrev pub width_view : ℕ × Bor (List ℕ) → ℕ × List ℕ
+width_view width = (width.0, width.1.now)
+
+abbrev pub directive_view : directives.Directive → Directive
+directive_view d = record { which = which_view d.which; stars = d.stars; kind = d.kind; size = d.size.now }
+
+abbrev pub says_view : Option directives.Directive → Option Directive
+says_view None = None
+says_view (Some d) = Some (directive_view d)
+
+abbrev pub front_view : fronts.Front → Front
+front_view front.End = End
+front_view (front.Takes says rest) = Takes (says_view says) rest.now
+front_view front.Broken = Broken
+
+-- how many bytes a directive has at least
+abbrev pub least_width : Option directives.Directive → ℕ
+least_width None = 0
+least_width (Some d) = d.stars + 1
+
+-- what follows is shorter, by the bytes that a directive has at least
+abbrev pub LeavesLess : fronts.Front → ℕ → Type 0
+LeavesLess front.End n = Unit {0}
+LeavesLess (front.Takes says rest) n = least_width says + length rest.now ≤ n
+LeavesLess front.Broken n = Unit {0}
+
+-- what follows which argument it is
+abbrev pub IsNotLonger : Option (whiches.Which × Bor (List ℕ)) → ℕ → Type 0
+IsNotLonger None n = Unit {0}
+IsNotLonger (Some found) n = length found.1.now ≤ n
+
+-- the same where some byte was taken
+abbrev pub Shortens : fronts.Front → ℕ → Type 0
+Shortens front.End n = Unit {0}
+Shortens (front.Takes says rest) n = least_width says + length rest.now < n
+Shortens front.Broken n = Unit {0}

@@ -1,0 +1,11 @@
+-- arguments of texts
+pub mod FormatFlags
+pub mod DirectiveBytes
+pub mod DirectiveTables
+pub mod Directives
+pub mod CutTexts
+pub mod ToldArguments
+pub mod SameArguments
+pub mod CountedArguments
+-- not definitions of the subject
+pub mod Inner
