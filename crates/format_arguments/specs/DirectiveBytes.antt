@@ -2,7 +2,6 @@
 use Rattle.std.specs.Prelude.{ℕ, ◌+◌, ◌-◌, ◌*◌, ◌==◌, List, [], ◌∷◌, Bool, true, false, ◌&&◌, ◌||◌, not, nat_le, min, codes, Option, Some, None, if◌then◌else◌}
 use Rattle.format_arguments.specs.declared.bytes.Class.{Class}
 use Rattle.format_arguments.specs.declared.bytes.Class.TheVariants.{Digit, Letter, Flag, Size, Field, Macro, Name, Barred, Unquoted}
-use Rattle.format_arguments.specs.declared.directive.TheConstants.{PLACE_LIMIT}
 use Rattle.format_arguments.specs.declared.format.Format.{Format}
 use Rattle.format_arguments.specs.declared.format.Format.TheVariants.{PythonBrace, Java}
 use Rattle.format_arguments.specs.DirectiveTables.{is_one_of, flags_of, sizes_of}
@@ -75,6 +74,6 @@ abbrev pub number_from : ℕ → List ℕ → ℕ
 number_from n [] = n
 number_from n (b ∷ s) = number_from (n * 10 + (b - 48)) s
 
--- the place that digits write: all above the limit are one
+-- the place that digits write: all from 999999999 on are one
 unfoldable pub place_of : List ℕ → ℕ
-place_of digits = min (number_from 0 digits) PLACE_LIMIT
+place_of digits = min (number_from 0 digits) 999999999
