@@ -6,7 +6,7 @@ use Rattle.std.specs.Global.{Vec}
 use Rattle.po_catalog.specs.declared.fault.Cause.{Cause}
 use Rattle.po_catalog.specs.declared.fault.ReadError.{ReadError}
 use Rattle.po_catalog.specs.declared.fault.ReadError.TheVariants.{Fault, Memory}
-use Rattle.po_catalog.specs.Quoted.{Said, End, Byte, Says, ends, goes, fails, fails_later, said_front}
+use Rattle.po_catalog.specs.Quoted.{Breaks, Said, End, Byte, Says, at_once, ends, goes, fails, fails_later, later, said_front}
 use Rattle.po_catalog.specs.ReadTexts.{IsSaid, ReturnsText, ReadsExactly}
 use Rattle.po_catalog.specs.Inner.QuotedViews.{GoesOn}
 
@@ -37,14 +37,19 @@ one_saying {b = b} (fails_later s after byte cause e h) other =
     let x : Follows (Ok (Byte byte after)) b = subst (λ (f : Result Said Cause). Follows f b) e (follows other) in
     ap (begun byte) (one_saying h x.1) ∙ x.2
 
+-- what is said before the rest of a line: the rest's text, or its fault, follows
+abbrev pub SaysBefore : List ℕ → List ℕ → List ℕ → Type 0
+SaysBefore line said rest =
+    ((more after : List ℕ) → Says rest (Ok (more, after)) → Says line (Ok (said ++ more, after)))
+    × ((more : List ℕ) (cause : Cause) → Breaks rest more cause → Breaks line (said ++ more) cause)
+
 -- a text was made longer by what the line says before what the rest says
 abbrev pub IsSaidBefore : List ℕ → List ℕ → List ℕ → List ℕ → Type 0
-IsSaidBefore line old new rest =
-    (said : List ℕ) × (new ≡ old ++ said) × ((more after : List ℕ) → Says rest (Ok (more, after)) → Says line (Ok (said ++ more, after)))
+IsSaidBefore line old new rest = (said : List ℕ) × (new ≡ old ++ said) × SaysBefore line said rest
 
 -- nothing was said before the whole line
 pub nothing_said : (line old : List ℕ) → IsSaidBefore line old old line
-nothing_said line old = ([], sym (append-nil old), λ more after h. h)
+nothing_said line old = ([], sym (append-nil old), (λ more after h. h, λ more cause h. h))
 
 -- a byte is said
 pub more_said : (line old new next : List ℕ) (b : ℕ) (rest after : List ℕ) → IsSaidBefore line old new rest → next ≡ new ++ b ∷ []
@@ -53,15 +58,30 @@ more_said line old new next b rest after h pushed front =
     let said = h.0 in (
       said ++ b ∷ [],
       pushed ∙ (ap (λ (t : List ℕ). t ++ b ∷ []) h.1 ∙ append_assoc old said (b ∷ [])),
-      λ more behind k. subst (λ (t : List ℕ). Says line (Ok (t, behind))) (sym (append_assoc said (b ∷ []) more))
-          (h.2 (b ∷ more) behind (goes rest after more behind b front k)),
+      (
+        λ more behind k. subst (λ (t : List ℕ). Says line (Ok (t, behind))) (sym (append_assoc said (b ∷ []) more))
+            (h.2.0 (b ∷ more) behind (goes rest after more behind b front k)),
+        λ more cause k. subst (λ (t : List ℕ). Breaks line t cause) (sym (append_assoc said (b ∷ []) more))
+            (h.2.1 (b ∷ more) cause (later rest after more b cause front k)),
+      ),
     )
 
 -- the text ends
 pub whole_said : (line old new rest after : List ℕ) → IsSaidBefore line old new rest → said_front rest ≡ Ok (End after)
     → (text : List ℕ) × (new ≡ old ++ text) × Says line (Ok (text, after))
 whole_said line old new rest after h front =
-    (h.0, h.1, subst (λ (t : List ℕ). Says line (Ok (t, after))) (append-nil h.0) (h.2 [] after (ends rest after front)))
+    (h.0, h.1, subst (λ (t : List ℕ). Says line (Ok (t, after))) (append-nil h.0) (h.2.0 [] after (ends rest after front)))
+
+-- the text has a fault
+pub broken_text : (line old new rest : List ℕ) (cause : Cause) → IsSaidBefore line old new rest → said_front rest ≡ Err cause
+    → (text : List ℕ) × (new ≡ old ++ text) × Breaks line text cause
+broken_text line old new rest cause h front =
+    (h.0, h.1, subst (λ (t : List ℕ). Breaks line t cause) (append-nil h.0) (h.2.1 [] cause (at_once rest cause front)))
+
+-- a text with a fault says no text
+pub broken_says : {s text : List ℕ} {cause : Cause} → Breaks s text cause → Says s (Err cause)
+broken_says (at_once s cause e) = fails s cause e
+broken_says (later s after text b cause e h) = fails_later s after b cause e (broken_says h)
 
 -- what is returned is all that could be
 abbrev IsText : Result (List ℕ × List ℕ) Cause → Type 0
@@ -103,7 +123,7 @@ ok_said line old text rest e h =
     exactly line (Ok (text, rest)) (subst (λ (t : List ℕ). Says line (Ok (t, rest.now))) (sym (h.1 ∙ ap (λ (t : List ℕ). t ++ h.0) e)) h.2)
 
 pub err_said : (line old new : List ℕ) (error : ReadError) → GoesOn line old new (Err error) → ReadsExactly line (Err error)
-err_said line old new (Fault cause) h = exactly line (Err (Fault cause)) h
+err_said line old new (Fault cause) h = exactly line (Err (Fault cause)) (broken_says h.2)
 err_said line old new Memory h = exactly line (Err Memory) tt
 
 -- want of memory says nothing of the line

@@ -89,3 +89,8 @@ pub data Says : List ℕ → Result (List ℕ × List ℕ) Cause → Type 0 wher
   goes : (s after text rest : List ℕ) (b : ℕ) → said_front s ≡ Ok (Byte b after) → Says after (Ok (text, rest)) → Says s (Ok (b ∷ text, rest))
   fails : (s : List ℕ) (cause : Cause) → said_front s ≡ Err cause → Says s (Err cause)
   fails_later : (s after : List ℕ) (b : ℕ) (cause : Cause) → said_front s ≡ Ok (Byte b after) → Says after (Err cause) → Says s (Err cause)
+
+-- what stands behind the first mark of a text says these bytes, and then has this fault
+pub data Breaks : List ℕ → List ℕ → Cause → Type 0 where
+  at_once : (s : List ℕ) (cause : Cause) → said_front s ≡ Err cause → Breaks s [] cause
+  later : (s after text : List ℕ) (b : ℕ) (cause : Cause) → said_front s ≡ Ok (Byte b after) → Breaks after text cause → Breaks s (b ∷ text) cause

@@ -1,5 +1,10 @@
 //! A catalog, read from the bytes of a file.
 
+ghost use Rattle.std.specs.Prelude.{◌≡◌, option_copied, option_map};
+ghost use Rattle.std.specs.List.{find};
+ghost use Rattle.po_catalog.specs.Catalogs.{message_view, messages_view};
+ghost use Rattle.po_catalog.specs.Headers.{charset_of, field_of, is_header};
+
 use crate::entry::{Entry, Text};
 use crate::fault::Fault;
 use crate::header::{charset_in, field_in};
@@ -29,7 +34,10 @@ impl Catalog {
     }
 
     /// The header: the first message with an empty id, no context, and a text.
-    pub fn header(&self) -> Option<&Entry> {
+    #[tactic(auto, using(crate::proofs::HeaderLines::header_here, crate::proofs::HeaderLines::header_later, crate::proofs::HeaderLines::header_nowhere))]
+    pub fn header(&self) -> Option<&Entry>
+        ensures { option_map message_view (option_copied result) ≡ find is_header (messages_view self.now) }
+    {
         for entry in &self.entries {
             if entry.is_header() {
                 return Some(entry);
@@ -40,13 +48,17 @@ impl Catalog {
 
     /// The value of a field of the header, without white space around it. The name is compared
     /// without regard to case; the first field of this name that has a value counts.
-    pub fn header_field(&self, name: &[u8]) -> Option<&[u8]> {
+    pub fn header_field(&self, name: &[u8]) -> Option<&[u8]>
+        ensures { option_copied result ≡ field_of name.now (messages_view self.now) }
+    {
         let text: &Text = self.header()?.forms.first()?;
         field_in(&text.bytes, name)
     }
 
     /// The charset that the header's `Content-Type` names, if it does.
-    pub fn charset(&self) -> Option<&[u8]> {
+    pub fn charset(&self) -> Option<&[u8]>
+        ensures { option_copied result ≡ charset_of (messages_view self.now) }
+    {
         charset_in(self.header_field(b"Content-Type")?)
     }
 }

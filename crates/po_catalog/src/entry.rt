@@ -1,5 +1,11 @@
 //! A message of a catalog, and its texts.
 
+ghost use Rattle.std.specs.Prelude.{◌≡◌, ◌↔◌, codes, IsTrue, IsUtf8, MatchOption};
+ghost use Rattle.std.specs.List.{Contains};
+ghost use Rattle.po_catalog.specs.Catalogs.{message_view};
+ghost use Rattle.po_catalog.specs.Flags.{flags_of};
+ghost use Rattle.po_catalog.specs.Headers.{is_header};
+
 use crate::bytes::first_flag;
 use std::alloc::{AllocError, Global};
 use std::str;
@@ -21,7 +27,9 @@ impl Text {
     }
 
     /// The text; `None` if its bytes are no UTF-8, which a fault of the catalog tells.
-    pub fn as_str(&self) -> Option<&str> {
+    pub fn as_str(&self) -> Option<&str>
+        ensures { MatchOption result (¬ (IsUtf8 self.now.bytes.items)) (λ text. (text.now ≡ self.now.bytes.items) × IsUtf8 self.now.bytes.items) }
+    {
         str::from_utf8(&self.bytes).ok()
     }
 }
@@ -63,7 +71,9 @@ impl Entry {
     }
 
     /// Whether the flag is one of the message's, as `c-format`.
-    pub fn has_flag(&self, name: &[u8]) -> bool {
+    pub fn has_flag(&self, name: &[u8]) -> bool
+        ensures { IsTrue result ↔ Contains (flags_of self.now.flags.items) name.now }
+    {
         let mut rest = self.flags.as_slice();
         'flags: loop {
             let (flag, after) = first_flag(rest);
@@ -78,12 +88,16 @@ impl Entry {
     }
 
     /// Whether the message has the flag `fuzzy`: its text has to be looked at again.
-    pub fn is_fuzzy(&self) -> bool {
+    pub fn is_fuzzy(&self) -> bool
+        ensures { IsTrue result ↔ Contains (flags_of self.now.flags.items) (codes "fuzzy") }
+    {
         self.has_flag(b"fuzzy")
     }
 
     /// Whether the message is the header of a catalog: its id is empty, and it has no context.
-    pub fn is_header(&self) -> bool {
+    pub fn is_header(&self) -> bool
+        ensures { result ≡ is_header (message_view self.now) }
+    {
         match &self.id {
             Some(id) => !self.is_obsolete && (self.context.is_none() && id.bytes.is_empty()),
             None => false,

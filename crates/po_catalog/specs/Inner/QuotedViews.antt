@@ -6,7 +6,7 @@ use Rattle.po_catalog.specs.declared.fault.ReadError.{ReadError}
 use Rattle.po_catalog.specs.declared.fault.ReadError.TheVariants as read
 use Rattle.po_catalog.specs.declared.quoted.Said as private
 use Rattle.po_catalog.specs.declared.quoted.Said.TheVariants as variants
-use Rattle.po_catalog.specs.Quoted.{Said, End, Byte, Says}
+use Rattle.po_catalog.specs.Quoted.{Breaks, Said, End, Byte, Says}
 
 abbrev pub code_view : Option (ℕ × Bor (List ℕ)) → Option (ℕ × List ℕ)
 code_view None = None
@@ -26,5 +26,5 @@ IsShorter (variants.Bad cause) s = Unit {0}
 -- the text goes on by what is said
 abbrev pub GoesOn : List ℕ → List ℕ → List ℕ → Result (Bor (List ℕ)) ReadError → Type 0
 GoesOn line old new (Ok rest) = (text : List ℕ) × (new ≡ old ++ text) × Says line (Ok (text, rest.now))
-GoesOn line old new (Err (read.Fault cause)) = Says line (Err cause)
+GoesOn line old new (Err (read.Fault cause)) = (text : List ℕ) × (new ≡ old ++ text) × Breaks line text cause
 GoesOn line old new (Err read.Memory) = Unit {0}

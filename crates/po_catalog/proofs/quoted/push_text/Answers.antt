@@ -1,12 +1,10 @@
 use Rattle.std.proofs.Common.{sym, arith}
-use Rattle.po_catalog.specs.Quoted.{fails, fails_later}
-use Rattle.po_catalog.proofs.Sayings.{nothing_said, more_said, whole_said}
+use Rattle.po_catalog.proofs.Sayings.{broken_text, nothing_said, more_said, whole_said}
 use Rattle.po_catalog.proofs.quoted.push_text.Goals as goal
 
 pub said-init : goal.said-init
 said-init c = record {
   done = nothing_said c.args.line.now c.args.text.now.items;
-  fails = λ cause h. h;
   shorter = omega arith;
 }
 
@@ -15,11 +13,10 @@ returns-in-End-clause-said c =
     whole_said c.args.line.now _ _ c.said.rest.now c.in-End.after.now c.said.invariant.done (sym c.in-End.ensures.front)
 
 pub returns-in-Bad-clause-said : goal.returns-in-Bad-clause-said
-returns-in-Bad-clause-said c = c.said.invariant.fails c.in-Bad.cause (fails c.said.rest.now c.in-Bad.cause (sym c.in-Bad.ensures.front))
+returns-in-Bad-clause-said c = broken_text c.args.line.now _ _ c.said.rest.now c.in-Bad.cause c.said.invariant.done (sym c.in-Bad.ensures.front)
 
 pub said-preserved : goal.said-preserved
 said-preserved c = record {
   done = more_said c.args.line.now _ _ _ c.in-Byte.byte c.said.rest.now c.in-Byte.after.now c.said.invariant.done c.in_ok-push-in-Byte.ensures.items (sym c.in-Byte.ensures.front);
-  fails = λ cause h. c.said.invariant.fails cause (fails_later c.said.rest.now c.in-Byte.after.now c.in-Byte.byte cause (sym c.in-Byte.ensures.front) h);
   shorter = omega (arith, c.in-Byte.ensures.shorter, c.said.invariant.shorter);
 }

@@ -1,6 +1,4 @@
-use Rattle.std.proofs.Common.{◌≤◌, length, Err}
-use Rattle.po_catalog.specs.declared.fault.Cause.{Cause}
-use Rattle.po_catalog.specs.Quoted.{Says}
+use Rattle.std.proofs.Common.{◌≤◌, length}
 use Rattle.po_catalog.proofs.Sayings.{IsSaidBefore}
 use Rattle.po_catalog.proofs.quoted.push_text.Given as goal
 
@@ -8,7 +6,6 @@ use Rattle.po_catalog.proofs.quoted.push_text.Given as goal
 abbrev pub invariant-said : goal.invariant-said
 invariant-said l = record {
   done : IsSaidBefore l.line l.initial.text.items l.text.items l.rest;
-  fails : (cause : Cause) → Says l.rest (Err cause) → Says l.line (Err cause);
   shorter : length l.rest ≤ length l.line;
 }
 

@@ -1,0 +1,109 @@
+-- The flags of a text, one after the other.
+use Rattle.std.proofs.Common.{◌≡◌, ◌<◌, ◌⊎◌, ℕ, zero, suc, List, [], ◌∷◌, Bool, true, false, not, cond, slice_index_or, length, refl, sym, ap, subst, ◌∙◌, arith, if◌then◌else◌}
+use Rattle.std.specs.List.{filter, slice_split, onto_first, Contains}
+use Rattle.po_catalog.specs.PoBytes.{is_between_flags, is_of_flag, run_front, behind_run, first_flag, behind_flag}
+use Rattle.po_catalog.specs.Flags.{is_any, flags_of}
+
+-- the pieces behind the first one
+abbrev pub further : List ℕ → List (List ℕ)
+further [] = []
+further (b ∷ s) = slice_split is_between_flags s
+
+-- the first piece ends before the first byte between flags
+first_piece : (s : List ℕ) → slice_split is_between_flags s ≡ run_front is_of_flag s ∷ further (behind_run is_of_flag s)
+first_piece [] = refl
+first_piece (b ∷ s) =
+    elim (is_between_flags b) as (λ (v : Bool). cond v ([] ∷ slice_split is_between_flags s) (onto_first b (slice_split is_between_flags s))
+    ≡ (if not v then b ∷ run_front is_of_flag s else []) ∷ further (if not v then behind_run is_of_flag s else b ∷ s)) [
+      | true ↦ refl
+      | false ↦ ap (onto_first b) (first_piece s)
+    ]
+
+-- what separates a flag from the next is none
+further_flags : (s : List ℕ) → filter is_any (further (behind_run is_of_flag s)) ≡ flags_of (behind_run is_of_flag s)
+further_flags [] = refl
+further_flags (b ∷ s) =
+    elim (is_between_flags b) as (λ (v : Bool). is_between_flags b ≡ v
+    → filter is_any (further (if not v then behind_run is_of_flag s else b ∷ s)) ≡ flags_of (if not v then behind_run is_of_flag s else b ∷ s)) [
+      | true ↦ λ e. sym (ap (λ (v : Bool). filter is_any (cond v ([] ∷ slice_split is_between_flags s) (onto_first b (slice_split is_between_flags s)))) e)
+      | false ↦ λ e. further_flags s
+    ] refl
+
+-- bytes between flags are none
+between_flags : (s : List ℕ) → flags_of s ≡ flags_of (behind_run is_between_flags s)
+between_flags [] = refl
+between_flags (b ∷ s) =
+    elim (is_between_flags b) as (λ (v : Bool). is_between_flags b ≡ v → flags_of (b ∷ s) ≡ flags_of (if v then behind_run is_between_flags s else b ∷ s)) [
+      | true ↦ λ e. ap (λ (v : Bool). filter is_any (cond v ([] ∷ slice_split is_between_flags s) (onto_first b (slice_split is_between_flags s)))) e ∙ between_flags s
+      | false ↦ λ e. refl
+    ] refl
+
+-- nothing stands behind an empty flag
+no_flag : (s : List ℕ) → length (first_flag s) ≡ 0 → behind_run is_between_flags s ≡ []
+no_flag [] = λ h. refl
+no_flag (b ∷ s) =
+    elim (is_between_flags b) as (λ (v : Bool). is_between_flags b ≡ v → length (run_front is_of_flag (if v then behind_run is_between_flags s else b ∷ s)) ≡ 0
+    → (if v then behind_run is_between_flags s else b ∷ s) ≡ []) [
+      | true ↦ λ e h. no_flag s h
+      | false ↦ λ e h.
+          let one : length (run_front is_of_flag (b ∷ s)) ≡ suc (length (run_front is_of_flag s)) = ap (λ (v : Bool). length (if not v then b ∷ run_front is_of_flag s else [])) e in
+          absurd (omega (arith, one, h))
+    ] refl
+
+kept : (flag : List ℕ) (flags : List (List ℕ)) → 0 < length flag → filter is_any (flag ∷ flags) ≡ flag ∷ filter is_any flags
+kept [] flags h = absurd (omega (arith, h))
+kept (b ∷ s) flags h = refl
+
+-- the first flag is one of them, and the others follow it
+pub flags-cons : (s : List ℕ) → 0 < length (first_flag s) → flags_of s ≡ first_flag s ∷ flags_of (behind_flag s)
+flags-cons s h =
+    between_flags s
+    ∙ (ap (filter is_any) (first_piece (behind_run is_between_flags s))
+    ∙ (kept (first_flag s) (further (behind_flag s)) h
+    ∙ ap (λ (flags : List (List ℕ)). first_flag s ∷ flags) (further_flags (behind_run is_between_flags s))))
+
+pub flags-nil : (s : List ℕ) → length (first_flag s) ≡ 0 → flags_of s ≡ []
+flags-nil s h = between_flags s ∙ ap flags_of (no_flag s h)
+
+-- ---- whether a flag is one of them
+
+pub Contains-head : (flag name : List ℕ) (flags : List (List ℕ)) → flag ≡ name → Contains (flag ∷ flags) name
+Contains-head flag name flags e = (zero, omega arith, e)
+
+pub Contains-tail : (flag name : List ℕ) (flags : List (List ℕ)) → Contains flags name → Contains (flag ∷ flags) name
+Contains-tail flag name flags h = (suc h.0, omega (arith, h.1), h.2)
+
+at_tail : (flag name : List ℕ) (flags : List (List ℕ)) (k : ℕ) → (flag ≡ name → ⊥) → k < length (flag ∷ flags) → slice_index_or (flag ∷ flags) k name ≡ name → Contains flags name
+at_tail flag name flags zero ne lt e = absurd (ne e)
+at_tail flag name flags (suc k) ne lt e = (k, omega (arith, lt), e)
+
+pub Contains-later : (flag name : List ℕ) (flags : List (List ℕ)) → (flag ≡ name → ⊥) → Contains (flag ∷ flags) name → Contains flags name
+Contains-later flag name flags ne h = at_tail flag name flags h.0 ne h.1 h.2
+
+pub Contains-nil : (name : List ℕ) → Contains [] name → ⊥
+Contains-nil name h = omega (arith, h.1)
+
+-- ---- the search for a flag
+
+pub none_left : (whole rest name flag : List ℕ) → (Contains (flags_of whole) name → Contains (flags_of rest) name) → flag ≡ first_flag rest → length flag ≡ 0
+    → Contains (flags_of whole) name → ⊥
+none_left whole rest name flag left e none h =
+    Contains-nil name (subst (λ (flags : List (List ℕ)). Contains flags name) (flags-nil rest (ap length (sym e) ∙ none)) (left h))
+
+pub found_here : (rest name flag : List ℕ) → flag ≡ first_flag rest → 0 < length flag → flag ≡ name → Contains (flags_of rest) name
+found_here rest name flag e some is =
+    let any : 0 < length (first_flag rest) = omega (arith, some, ap length e) in
+    subst (λ (flags : List (List ℕ)). Contains flags name) (sym (flags-cons rest any)) (Contains-head (first_flag rest) name (flags_of (behind_flag rest)) (sym e ∙ is))
+
+pub found_later : (rest name flag after : List ℕ) → flag ≡ first_flag rest → after ≡ behind_flag rest → 0 < length flag → Contains (flags_of after) name → Contains (flags_of rest) name
+found_later rest name flag after e f some h =
+    let any : 0 < length (first_flag rest) = omega (arith, some, ap length e) in
+    subst (λ (flags : List (List ℕ)). Contains flags name) (sym (flags-cons rest any))
+    (Contains-tail (first_flag rest) name (flags_of (behind_flag rest)) (subst (λ (s : List ℕ). Contains (flags_of s) name) f h))
+
+pub left_later : (rest name flag after : List ℕ) → flag ≡ first_flag rest → after ≡ behind_flag rest → 0 < length flag → (flag ≡ name → ⊥)
+    → Contains (flags_of rest) name → Contains (flags_of after) name
+left_later rest name flag after e f some ne h =
+    let any : 0 < length (first_flag rest) = omega (arith, some, ap length e) in
+    subst (λ (s : List ℕ). Contains (flags_of s) name) (sym f)
+    (Contains-later (first_flag rest) name (flags_of (behind_flag rest)) (λ is. ne (e ∙ is)) (subst (λ (flags : List (List ℕ)). Contains flags name) (flags-cons rest any) h))
