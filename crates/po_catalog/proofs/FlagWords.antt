@@ -1,5 +1,5 @@
 -- The flags of a text, one after the other.
-use Rattle.std.proofs.Common.{◌≡◌, ◌<◌, ◌⊎◌, ℕ, zero, suc, List, [], ◌∷◌, Bool, true, false, not, cond, slice_index_or, length, refl, sym, ap, subst, ◌∙◌, arith, if◌then◌else◌}
+use Rattle.std.proofs.Common.{◌≡◌, ◌<◌, ℕ, zero, suc, List, [], ◌∷◌, Bool, true, false, not, cond, slice_index_or, length, refl, sym, ap, subst, ◌∙◌, arith, if◌then◌else◌}
 use Rattle.std.specs.List.{filter, slice_split, onto_first, Contains}
 use Rattle.po_catalog.specs.PoBytes.{is_between_flags, is_of_flag, run_front, behind_run, first_flag, behind_flag}
 use Rattle.po_catalog.specs.Flags.{is_any, flags_of}

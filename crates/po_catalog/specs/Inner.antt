@@ -3,4 +3,3 @@ pub mod ByteClasses
 pub mod FrontViews
 pub mod LineViews
 pub mod QuotedViews
-pub mod ReaderViews

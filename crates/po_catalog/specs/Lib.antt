@@ -5,10 +5,7 @@ pub mod FileLines
 pub mod Flags
 pub mod Headers
 pub mod PoBytes
-pub mod PoDrafts
-pub mod PoFronts
 pub mod Quoted
-pub mod ReadCatalogs
 pub mod ReadTexts
 -- not definitions of the subject
 pub mod Inner
