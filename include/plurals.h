@@ -8,7 +8,7 @@
  *     int32_t category = plurals_category(rules, (size_t)rules_len, "1.0", 3);     category is PLURALS_OTHER
  *
  * examples/c/formatter.c is a whole program. docs/FORMATS.md has the formats of the blocks, docs/CONDITIONS.md that of a
- * rule, docs/NUMBERS.md that of a number, docs/JSON.md that of documents and elements, docs/MESSAGES.md messages.
+ * rule, docs/NUMBERS.md that of a number, docs/JSON.md that of documents and elements, docs/ELEMENTS.md messages.
  *
  * Results
  *     An int32_t is what the call says of it, or a fault, which is below 0.
@@ -256,11 +256,11 @@ int32_t plurals_category(const uint8_t *rules, size_t rules_len, const char *num
 int32_t plurals_sure_category(const uint8_t *rules, size_t rules_len, const char *number, size_t number_len);
 
 /* Returns 1 if the category of the number is that of all its digits, however many it has, 0 if it may be another one
- * (docs/EXACTNESS.md), or a fault. It is 1 for each number that has at most 18 digits on either side of the point, once
+ * (docs/NUMBERS.md), or a fault. It is 1 for each number that has at most 18 digits on either side of the point, once
  * the exponent has moved it. Allocates for a number of more than 16 bytes. */
 int32_t plurals_is_exact(const uint8_t *rules, size_t rules_len, const char *number, size_t number_len);
 
-/* Writes the categories of ranges of numbers, as 1 to 3, that a document has for a locale (docs/RANGES.md): 36 bytes, of
+/* Writes the categories of ranges of numbers, as 1 to 3, that a document has for a locale (docs/ELEMENTS.md): 36 bytes, of
  * which table[6 * start + end] is the category of a range with the categories start and end, each a number from PLURALS_ZERO
  * to PLURALS_OTHER. Faults, in the order in which they are looked for: the locale's text isn't UTF-8; the text isn't JSON;
  * it isn't a document, in any of its locales; PLURALS_LOCALE. Allocates in proportion to the document. */

@@ -67,7 +67,7 @@ def category(rules, number):
     return "other"
 
 
-# ---- what the library keeps (docs/EXACTNESS.md)
+# ---- what the library keeps (docs/NUMBERS.md)
 
 
 def kept_number(text):

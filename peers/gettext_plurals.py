@@ -127,7 +127,7 @@ def kept(path, rules):
 def chooser(path, rules):
     """Returns the function from an integer to its category by gettext's expression.
 
-    One rule is given twice, since cldr-plurals prints another kind of expression for two forms (docs/PEERS.md). Of rules that leave
+    One rule is given twice, since cldr-plurals prints another kind of expression for two forms (bench/PEERS.md). Of rules that leave
     no integer to other, the last one takes its form."""
     left = kept(path, rules)
     if len(left) == 1:
@@ -258,7 +258,7 @@ HEAD = """\
 # The category of each integer from 0 to 200 under each set of CLDR 41's rules, as GNU gettext gives
 # it: the expression of C that its program cldr-plurals prints for the set, evaluated at each
 # integer. Nothing here comes from this project's own programs. tools/peers --rows writes the file,
-# and docs/PEERS.md says how. The rules are those of bench/cldr.json (ORIGIN.md there).
+# and bench/PEERS.md says how. The rules are those of bench/cldr.json (ORIGIN.md there).
 #
 # integer_categories RULES, FIRST, LAST => the categories of the integers from FIRST to LAST, zero
 #     to other, each with its integers; neighbours as 2~4

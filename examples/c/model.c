@@ -210,7 +210,7 @@ static int read_condition(struct reader *reader) {
     }
 }
 
-/* ---- docs/SAMPLES.md */
+/* ---- docs/CONDITIONS.md: samples */
 
 static bool skip_digits(struct reader *reader) {
     bool is_any = is_value(reader);
@@ -533,7 +533,7 @@ int64_t model_category(struct slice rules, struct slice number) {
     return fault ? fault : category_of(rules, kept());
 }
 
-/* ---- docs/EXACTNESS.md */
+/* ---- docs/NUMBERS.md */
 
 static bool is_within_bound(struct slice rules) {
     if (places.fractions > KEPT) return false;
@@ -564,7 +564,7 @@ int64_t model_sure_category(struct slice rules, struct slice number) {
     return is_exact ? model_category(rules, number) : PLURALS_OUTSIDE_BOUND;
 }
 
-/* ---- docs/ELEMENTS.md, docs/MESSAGES.md */
+/* ---- docs/ELEMENTS.md: elements and messages */
 
 static bool find_item(struct slice elements, unsigned key, struct slice *text) {
     struct slice list = items_of(elements);
@@ -935,7 +935,7 @@ int64_t model_rules_from_document(struct slice json, struct slice locale, uint8_
     return write_rules(given, out);
 }
 
-/* ---- docs/RANGES.md */
+/* ---- docs/ELEMENTS.md: ranges */
 
 int64_t model_ranges_from_document(struct slice json, struct slice locale, uint8_t *out) {
     int found, fault = find_locale(json, locale, "ranges", &found);

@@ -126,7 +126,7 @@ IsKeptElement e rules number exponent value =
     (kept : Operands) × AreKept number exponent kept × (value ≡ element_at e kept rules)
 
 -- The value of a number: the one that its kept operands choose, and within the bound that of the
--- number itself (docs/EXACTNESS.md).
+-- number itself (docs/NUMBERS.md).
 abbrev pub HasElement : {T : Type 0} → Elements T → FiveRules → CompactNumber → T → Type 0
 HasElement e rules x value =
     IsKeptElement e rules x.significand.absolute x.exponent value × IsExactElement e rules x.significand.absolute x.exponent value

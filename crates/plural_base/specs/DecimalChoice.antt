@@ -36,7 +36,7 @@ IsKeptChoice rules number exponent category =
     (kept : Operands) × AreKept number exponent kept × (category ≡ first_category (packed_truth kept) rules)
 
 -- The category of a number: the one that its kept operands choose, and within the bound that of the
--- number itself (docs/EXACTNESS.md).
+-- number itself (docs/NUMBERS.md).
 abbrev pub HasCategory : FiveRules → CompactNumber → PluralCategory → Type 0
 HasCategory rules x category =
     IsKeptChoice rules x.significand.absolute x.exponent category × IsExactChoice rules x.significand.absolute x.exponent category

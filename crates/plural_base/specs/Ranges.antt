@@ -30,7 +30,7 @@ abbrev pub put_at : {A : Type 0} → ByCategory A → RawPluralCategory → A �
 put_at things category thing = each (λ c. if raw_number c == raw_number category then thing else at things c)
 
 -- ---- A range of numbers by the categories of its start and its end (UTS 35 Part 3, Plural Ranges;
--- docs/RANGES.md).
+-- docs/ELEMENTS.md).
 --     range_key start end      the byte: 16 times the start's number, plus the end's number
 --     range_text start end      the text: the start's name, two hyphens, the end's name
 --     IsKeyOfText text key      the text and the byte are those of one range

@@ -51,7 +51,7 @@ IsElementLine x given text =
     (element : PackedValue) × (text ≡ line element.text) × HasElement (elements_of given.elements) given.rules x element
 
 -- The line with the message of a number: the text of the element that the number chooses, filled by
--- the number's word (docs/MESSAGES.md); within the exactness bound the element is that of the
+-- the number's word (docs/ELEMENTS.md); within the exactness bound the element is that of the
 -- number itself.
 abbrev pub IsMessageLine : CompactNumber → List ℕ → RuledElements → List ℕ → Type 0
 IsMessageLine x word given text =

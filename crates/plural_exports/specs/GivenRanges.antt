@@ -1,4 +1,4 @@
--- The categories of ranges that a JSON text has for a locale (docs/JSON.md, docs/RANGES.md), as a
+-- The categories of ranges that a JSON text has for a locale (docs/JSON.md, docs/ELEMENTS.md), as a
 -- table of bytes.
 --     table_bytes ranges      by the start and then by the end, each from zero to other, the number
 --         of the range's category

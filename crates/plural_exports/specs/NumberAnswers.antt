@@ -62,7 +62,7 @@ abbrev pub AreCategoriesOfIntegers : List ℕ → List ℕ → Result (List ℕ)
 AreCategoriesOfIntegers rules numbers = Then (ReadsRules rules) (HaveCategories numbers)
 
 -- The category of a number: the one that its kept operands choose, and within the exactness bound
--- that of the number itself (docs/EXACTNESS.md).
+-- that of the number itself (docs/NUMBERS.md).
 abbrev pub HasNumberCategory : FiveRules → CompactNumber → Result PluralCategory Fault → Type 0
 HasNumberCategory rules x (Ok category) = HasCategory rules x category
 HasNumberCategory rules x (Err fault) = ⊥
@@ -107,7 +107,7 @@ HasNumberElement rules elements x (Err fault) = ⊥
 abbrev pub IsElementOf : List ℕ → List ℕ → List ℕ → Result (List ℕ) Fault → Type 0
 IsElementOf = AfterAll HasNumberElement
 
--- The text of the element that the number chooses, filled by the number's text (docs/MESSAGES.md);
+-- The text of the element that the number chooses, filled by the number's text (docs/ELEMENTS.md);
 -- within the exactness bound the element is that of the number itself. Memory is out only for a
 -- message of 2^63 bytes or more.
 abbrev pub HasMessage : List ℕ → FiveRules → PackedElements → CompactNumber → Result (List ℕ) Fault → Type 0
