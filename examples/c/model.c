@@ -533,7 +533,7 @@ int64_t model_category(struct slice rules, struct slice number) {
     return fault ? fault : category_of(rules, kept());
 }
 
-/* ---- docs/NUMBERS.md */
+/* ---- docs/NUMBERS.md: what the library keeps of a number */
 
 static bool is_within_bound(struct slice rules) {
     if (places.fractions > KEPT) return false;
