@@ -1,0 +1,2 @@
+pub mod NoticeCodes
+pub mod MessageKinds

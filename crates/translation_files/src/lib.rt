@@ -1,0 +1,18 @@
+//! Translators' files, read into what a check of messages takes: their messages by plural category,
+//! the lines where these stand, and what is wrong with the files.
+#![tactic(auto)]
+
+mod code;
+mod counts;
+mod file_messages;
+mod gathered;
+mod lines;
+mod notice;
+mod places;
+
+pub use code::NoticeCode;
+pub use counts::{Fate, FileCounts};
+pub use file_messages::FileMessages;
+pub use lines::{FormLine, MessageKind, MessageLines};
+pub use notice::FileNotice;
+pub use places::Places;
