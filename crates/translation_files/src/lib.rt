@@ -7,8 +7,10 @@ mod counts;
 mod file_messages;
 mod gathered;
 mod lines;
+mod locale_name;
 mod notice;
 mod places;
+mod po;
 
 pub use code::NoticeCode;
 pub use counts::{Fate, FileCounts};
@@ -16,3 +18,4 @@ pub use file_messages::FileMessages;
 pub use lines::{FormLine, MessageKind, MessageLines};
 pub use notice::FileNotice;
 pub use places::Places;
+pub use po::read_po;

@@ -1,7 +1,7 @@
 //! The kinds of the upper crates: `icu_plurals`, `plural_message`, `plural_checker`,
 //! `plural_fallback`, `message_report`, `finding_formats`, `form_commands`, `example_callers`,
-//! `message_pattern`, `message_format`, `gettext_plural`, `plural_exports`, `po_catalog` and
-//! `format_arguments`.
+//! `message_pattern`, `message_format`, `gettext_plural`, `plural_exports`, `po_catalog`,
+//! `format_arguments` and `translation_files`.
 
 mod callers;
 mod catalogs;
@@ -23,6 +23,7 @@ mod patterns;
 mod plural_forms;
 mod styled_patterns;
 mod text_arguments;
+mod translations;
 
 use crate::call::Call;
 
@@ -47,4 +48,5 @@ pub fn make(kind: &str, call: &mut Call) -> bool {
         || exported_bytes::make(kind, call)
         || catalogs::make(kind, call)
         || text_arguments::make(kind, call)
+        || translations::make(kind, call)
 }
