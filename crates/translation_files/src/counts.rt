@@ -1,6 +1,6 @@
 //! What became of the messages of a file.
 
-ghost use Rattle.std.specs.Prelude.{◌≡◌, ◌+◌, ◌×◌, OnOk, OnErr};
+ghost use Rattle.std.specs.Prelude.{◌≡◌, ◌+◌, OnOk, OnErr};
 
 use plural_documents::sum;
 use std::alloc::AllocError;
