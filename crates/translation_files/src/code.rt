@@ -38,6 +38,8 @@ pub enum NoticeCode {
     Twice,
     /// `left-out`: messages aren't checked, since they need no check.
     LeftOut,
+    /// `no-messages`: the file has no messages with plural forms.
+    NoMessages,
 }
 
 impl NoticeCode {
@@ -62,6 +64,7 @@ impl NoticeCode {
             NoticeCode::TooMany => "too-many",
             NoticeCode::Twice => "twice",
             NoticeCode::LeftOut => "left-out",
+            NoticeCode::NoMessages => "no-messages",
         }
     }
 }

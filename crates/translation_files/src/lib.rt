@@ -6,13 +6,16 @@ mod code;
 mod counts;
 mod file_messages;
 mod gathered;
+mod json_file;
 mod lines;
+mod locale_name;
 mod notice;
 mod places;
 
 pub use code::NoticeCode;
 pub use counts::{Fate, FileCounts};
 pub use file_messages::FileMessages;
+pub use json_file::{is_document, read_json};
 pub use lines::{FormLine, MessageKind, MessageLines};
 pub use notice::FileNotice;
 pub use places::Places;

@@ -1,7 +1,7 @@
 //! The kinds of the upper crates: `icu_plurals`, `plural_message`, `plural_checker`,
 //! `plural_fallback`, `message_report`, `finding_formats`, `form_commands`, `example_callers`,
-//! `message_pattern`, `message_format`, `gettext_plural`, `plural_exports`, `po_catalog` and
-//! `format_arguments`.
+//! `message_pattern`, `message_format`, `gettext_plural`, `plural_exports`, `po_catalog`,
+//! `format_arguments` and `translation_files`.
 
 mod callers;
 mod catalogs;
@@ -14,6 +14,7 @@ mod exports;
 mod fallback;
 mod findings;
 mod forms;
+mod json_files;
 mod message_reports;
 mod messages;
 mod packed_texts;
@@ -47,4 +48,5 @@ pub fn make(kind: &str, call: &mut Call) -> bool {
         || exported_bytes::make(kind, call)
         || catalogs::make(kind, call)
         || text_arguments::make(kind, call)
+        || json_files::make(kind, call)
 }
