@@ -11,6 +11,7 @@ mod lines;
 mod locale_name;
 mod notice;
 mod places;
+mod po;
 
 pub use code::NoticeCode;
 pub use counts::{Fate, FileCounts};
@@ -19,3 +20,4 @@ pub use json_file::{is_document, read_json};
 pub use lines::{FormLine, MessageKind, MessageLines};
 pub use notice::FileNotice;
 pub use places::Places;
+pub use po::read_po;

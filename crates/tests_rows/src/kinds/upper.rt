@@ -24,6 +24,7 @@ mod patterns;
 mod plural_forms;
 mod styled_patterns;
 mod text_arguments;
+mod translations;
 
 use crate::call::Call;
 
@@ -49,4 +50,5 @@ pub fn make(kind: &str, call: &mut Call) -> bool {
         || catalogs::make(kind, call)
         || text_arguments::make(kind, call)
         || json_files::make(kind, call)
+        || translations::make(kind, call)
 }
