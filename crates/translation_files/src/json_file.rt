@@ -4,6 +4,7 @@
 mod android_arguments;
 mod android_message;
 mod android_number;
+mod arb_locale;
 mod count_text;
 mod document_places;
 mod fault;
@@ -28,6 +29,7 @@ use crate::counts::{Fate, FileCounts};
 use crate::file_messages::FileMessages;
 use crate::gathered::Gathered;
 use crate::locale_name::{Said, locale_of};
+use arb_locale::arb_locale;
 use document_places::{PlacesFound, document_places};
 use fault::tell_fault;
 use found_messages::{add_found, found_messages, tell_repeated};
@@ -48,7 +50,7 @@ use told::{ToldFile, add_notices, add_told, told_file};
 /// i18next's suffixes, as `files_one` and `files_ordinal_few`, are a message, in which `{{count}}`
 /// is the number; an ICU pattern of one plural argument is one, in which `#` and `{n}` are, and
 /// another pattern with plurals is checked as it is. The locale is that of `@@locale`, else of the
-/// file's name or its folder; `locale` overrides these.
+/// file's name, as `ru.json` or `app_ru.arb`, or of its folders; `locale` overrides these.
 ///
 /// What is wrong with the file or a message is a notice with its line, and everything else is read.
 /// It allocates; the only error is out of memory.
@@ -221,10 +223,11 @@ fn read_texts<S: RulesOfLocales>(
     let found = found_messages(alloc, texts)?;
     let mut gathered = Gathered::new(alloc);
     tell_repeated(&mut gathered, &texts.keys, &texts.repeated)?;
+    let named = locale.or(texts.locale).or(arb_locale(name, rules));
     let count = found.count();
     if count == 0 {
         note_no_messages(&mut gathered)?;
-    } else if keep_locale(&mut gathered, rules, locale.or(texts.locale), name, count)? {
+    } else if keep_locale(&mut gathered, rules, named, name, count)? {
         let has_zero = has_zero(rules, gathered.locale.as_str());
         add_found(&mut gathered, &texts.keys, &found, has_zero)?;
     }

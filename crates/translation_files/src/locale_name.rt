@@ -146,7 +146,7 @@ fn word_of_name<'a, S: RulesOfLocales>(file: &'a str, rules: &S) -> Option<&'a s
 }
 
 // Whether a name is that of a locale whose language has rules.
-fn is_named<S: RulesOfLocales>(name: &str, rules: &S) -> bool {
+pub(crate) fn is_named<S: RulesOfLocales>(name: &str, rules: &S) -> bool {
     let mut is_first = true;
     let mut language = "";
     for subtag in name.split(|it: char| it == '-' || it == '_' || it == '@') {

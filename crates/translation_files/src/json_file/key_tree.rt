@@ -3,8 +3,8 @@
 use std::alloc::{AllocError, Global};
 use std::collections::BTreeMap;
 
-// The most pieces that the key of one member is cut into: the last one is the rest.
-const MOST_PIECES: usize = 32;
+// How many dots keys are cut at, in all keys of a file: what stands behind them is one piece.
+const MOST_CUTS: usize = 262_144;
 
 // The place of the outermost object.
 pub(crate) const ROOT: usize = 0;
@@ -32,6 +32,8 @@ pub(crate) struct KeyTree<'a> {
     alloc: Global,
     places: Vec<KeyPlace<'a>>,
     known: BTreeMap<Piece<'a>, usize>,
+    // How many more dots keys are cut at.
+    cuts: usize,
 }
 
 impl<'a> KeyTree<'a> {
@@ -50,6 +52,7 @@ impl<'a> KeyTree<'a> {
             alloc,
             places,
             known: BTreeMap::new(alloc),
+            cuts: MOST_CUTS,
         })
     }
 
@@ -57,30 +60,30 @@ impl<'a> KeyTree<'a> {
     pub(crate) fn place_of(&mut self, parent: usize, key: &'a str) -> Result<usize, AllocError> {
         let mut place = parent;
         let mut rest = key;
-        for _ in 1..MOST_PIECES {
+        for _ in 0..self.cuts {
             let Some((front, after)) = rest.split_once('.') else {
                 break;
             };
             place = self.below(place, front)?;
             rest = after;
+            self.cuts = self.cuts.saturating_sub(1);
         }
         self.below(place, rest)
     }
 
-    // The place of a piece.
+    // The place of a piece, which is added if it is new.
     fn below(&mut self, parent: usize, name: &'a str) -> Result<usize, AllocError> {
         let piece = Piece { parent, name };
-        if let Some(place) = self.known.get(&piece) {
-            return Ok(*place);
+        let next = self.places.len();
+        let place = *self.known.entry(piece)?.or_insert(next);
+        if place == next {
+            let length = self.length(parent).saturating_add(name.len());
+            self.places.push(KeyPlace {
+                piece,
+                length: length.saturating_add(1),
+                line: None,
+            })?;
         }
-        let place = self.places.len();
-        let length = self.length(parent).saturating_add(name.len());
-        self.places.push(KeyPlace {
-            piece,
-            length: length.saturating_add(1),
-            line: None,
-        })?;
-        self.known.insert(piece, place)?;
         Ok(place)
     }
 

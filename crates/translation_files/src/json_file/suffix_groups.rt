@@ -102,13 +102,12 @@ impl<'a> Groups<'a> {
 
     // The index of a message, which is added if it is new.
     fn index(&mut self, name: GroupName<'a>, line: u64) -> Result<usize, AllocError> {
-        if let Some(index) = self.known.get(&name) {
-            return Ok(*index);
+        let next = self.groups.len();
+        let index = *self.known.entry(name)?.or_insert(next);
+        if index == next {
+            let forms = Vec::new(self.alloc);
+            self.groups.push(Group { name, line, forms })?;
         }
-        let index = self.groups.len();
-        let forms = Vec::new(self.alloc);
-        self.groups.push(Group { name, line, forms })?;
-        self.known.insert(name, index)?;
         Ok(index)
     }
 }
