@@ -29,10 +29,10 @@ use crate::counts::{Fate, FileCounts};
 use crate::file_messages::FileMessages;
 use crate::gathered::Gathered;
 use crate::locale_name::{Said, locale_of};
-use arb_locale::arb_locale;
-use document_places::{PlacesFound, document_places};
+use arb_locale::locale_of_name;
+use document_places::{PlacesFound, places_of_document};
 use fault::tell_fault;
-use found_messages::{add_found, found_messages, tell_repeated};
+use found_messages::{add_found, messages_in, tell_repeated};
 use icu_plurals::PluralRuleType;
 use json::Scratch;
 use message_report::RulesOfLocales;
@@ -164,7 +164,7 @@ fn read_value<S: RulesOfLocales>(
     };
     let mut scratch = Scratch::new(alloc);
     if is_document(&value) {
-        let found = document_places(alloc, text, &mut scratch)?;
+        let found = places_of_document(alloc, text, &mut scratch)?;
         return placed_document(alloc, value, found);
     }
     if let Some(told) = told_file(&value) {
@@ -220,10 +220,10 @@ fn read_texts<S: RulesOfLocales>(
     rules: &S,
     locale: Option<&str>,
 ) -> Result<FileMessages, AllocError> {
-    let found = found_messages(alloc, texts)?;
+    let found = messages_in(alloc, texts)?;
     let mut gathered = Gathered::new(alloc);
     tell_repeated(&mut gathered, &texts.keys, &texts.repeated)?;
-    let named = locale.or(texts.locale).or(arb_locale(name, rules));
+    let named = locale.or(texts.locale).or(locale_of_name(name, rules));
     let count = found.count();
     if count == 0 {
         note_no_messages(&mut gathered)?;

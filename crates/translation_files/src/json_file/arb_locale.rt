@@ -8,7 +8,7 @@ const MOST_PARTS: usize = 8;
 
 // What stands behind an underscore in the name of an ARB file, if that is a locale whose language
 // has rules.
-pub(crate) fn arb_locale<'n, S: RulesOfLocales>(file: &'n str, rules: &S) -> Option<&'n str> {
+pub(crate) fn locale_of_name<'n, S: RulesOfLocales>(file: &'n str, rules: &S) -> Option<&'n str> {
     let mut rest = last_part(file).strip_suffix(".arb")?;
     for _ in 0..MOST_PARTS {
         let (_, after) = rest.split_once('_')?;

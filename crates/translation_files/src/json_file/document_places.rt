@@ -36,7 +36,7 @@ struct PlacedMessage<'a> {
 }
 
 // Where the messages of a document stand, whose text is JSON.
-pub(crate) fn document_places<'a>(
+pub(crate) fn places_of_document<'a>(
     alloc: Global,
     text: &'a str,
     scratch: &'a mut Scratch,

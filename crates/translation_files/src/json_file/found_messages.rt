@@ -26,7 +26,7 @@ pub(crate) struct FoundMessages<'a> {
 }
 
 // Those of a file's texts.
-pub(crate) fn found_messages<'a>(
+pub(crate) fn messages_in<'a>(
     alloc: Global,
     texts: &JsonTexts<'a>,
 ) -> Result<FoundMessages<'a>, AllocError> {
