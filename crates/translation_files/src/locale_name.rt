@@ -22,10 +22,10 @@ pub(crate) fn locale_of<S: RulesOfLocales>(
     rules: &S,
 ) -> Result<Said, AllocError> {
     if let Some(named) = named {
-        return said(alloc, named);
+        return locale_written(alloc, named);
     }
     match word_of_name(file, rules) {
-        Some(word) => said(alloc, word),
+        Some(word) => locale_written(alloc, word),
         None => Ok(Said::Fault(String::from_str(
             alloc,
             "its language isn't known: name it in the file, or by --locale",
@@ -34,7 +34,7 @@ pub(crate) fn locale_of<S: RulesOfLocales>(
 }
 
 // The locale that a text writes.
-fn said(alloc: Global, text: &str) -> Result<Said, AllocError> {
+fn locale_written(alloc: Global, text: &str) -> Result<Said, AllocError> {
     let locale = spelled(alloc, text)?;
     if is_locale(locale.as_str()) {
         return Ok(Said::Locale(locale));

@@ -107,7 +107,11 @@ fn tell_strays(
 fn tell(gathered: &mut Gathered, fault: &Fault) -> Result<(), AllocError> {
     let cause = fault.cause;
     let text = format!(in gathered.alloc; "{cause}")?;
-    gathered.tell(Some(fault.line as u64), NoticeCode::Syntax, text)
+    let code = match cause {
+        Cause::NotUtf8 => NoticeCode::Charset,
+        _ => NoticeCode::Syntax,
+    };
+    gathered.tell(Some(fault.line as u64), code, text)
 }
 
 // Tells how many lines aren't told.

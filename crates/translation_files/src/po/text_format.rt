@@ -30,15 +30,24 @@ const FORMATS: [Format; 11] = [
     Format::QtPlural,
 ];
 
+// Further flags, and the formats whose directives texts of these have.
+const ALIKE: [(&str, Format); 3] = [
+    ("kde-kuit-format", Format::Kde),
+    ("perl-format", Format::C),
+    ("tcl-format", Format::C),
+];
+
 // The format that a message's flags name.
 pub(crate) fn format_of(entry: &Entry) -> TextFormat {
     for format in FORMATS {
         if entry.has_flag(format.flag()) {
-            return TextFormat::Flagged(format);
+            return TextFormat::Flagged(with_plurals(format));
         }
     }
-    if entry.has_flag(b"kde-kuit-format") {
-        return TextFormat::Flagged(Format::Kde);
+    for (flag, format) in ALIKE {
+        if entry.has_flag(flag.as_bytes()) {
+            return TextFormat::Flagged(format);
+        }
     }
     for flag in str::from_utf8(entry.flags.as_slice())
         .unwrap_or("")
@@ -49,6 +58,14 @@ pub(crate) fn format_of(entry: &Entry) -> TextFormat {
         }
     }
     TextFormat::Unflagged
+}
+
+// A format where texts have plural forms: Qt's tools write one flag for all messages.
+fn with_plurals(format: Format) -> Format {
+    match format {
+        Format::Qt => Format::QtPlural,
+        _ => format,
+    }
 }
 
 // Whether a flag names a format.
