@@ -32,9 +32,9 @@ pub enum NoticeCode {
     NumberUnclear,
     /// `format-unknown`: the format of a message isn't read.
     FormatUnknown,
-    /// `too-many`: a text has more arguments than are read.
+    /// `too-many`: a text has more arguments, or the keys of a file more bytes, than are read.
     TooMany,
-    /// `twice`: a message stands twice.
+    /// `twice`: a message or a key stands twice.
     Twice,
     /// `left-out`: messages aren't checked, since they need no check.
     LeftOut,
