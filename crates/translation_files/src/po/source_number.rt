@@ -1,8 +1,9 @@
 //! Which argument of a message's source is the number.
 
-use crate::po::read_text::Read;
+use crate::po::read_text::{Read, directive};
 use format_arguments::{Argument, Kind, Name, number_of};
 use std::alloc::{AllocError, Global};
+use std::str;
 
 // Whether two names are one.
 pub(crate) fn is_same_name(one: &Name<'_>, other: &Name<'_>) -> bool {
@@ -40,14 +41,52 @@ pub(crate) fn unique<'t>(
     Ok(first)
 }
 
+// What an argument of a text is, its style in braces considered.
+fn kind_in(read: &Read<'_>, argument: &Argument<'_>) -> Kind {
+    match argument.kind {
+        Kind::Unknown => kind_of_style(directive(read.text, argument)),
+        kind => kind,
+    }
+}
+
+// What a directive in braces says by its style, as `{size:d}` and `{0,number}`.
+fn kind_of_style(directive: &[u8]) -> Kind {
+    match directive {
+        [b'{', .., b'}'] if directive.contains(&b':') => kind_of_letter(directive),
+        [b'{', .., b'}'] if names_number(directive) => Kind::Integer,
+        _ => Kind::Unknown,
+    }
+}
+
+// What Python's style says by its last letter.
+fn kind_of_letter(directive: &[u8]) -> Kind {
+    match directive {
+        [.., b'd' | b'b' | b'o' | b'x' | b'X', _] => Kind::Integer,
+        [.., b'e' | b'E' | b'f' | b'F' | b'g' | b'G' | b'%', _] => Kind::Number,
+        _ => Kind::Unknown,
+    }
+}
+
+// Whether Java's style is that of a number.
+fn names_number(directive: &[u8]) -> bool {
+    let Some((_, style)) = str::from_utf8(directive).unwrap_or("").split_once(',') else {
+        return false;
+    };
+    let style = style.trim_start();
+    style.starts_with("number") || style.starts_with("choice")
+}
+
 // Whether an argument is an integer.
-fn is_integer(argument: &Argument<'_>) -> bool {
-    matches!(argument.kind, Kind::Integer | Kind::Unsigned)
+fn is_integer(read: &Read<'_>, argument: &Argument<'_>) -> bool {
+    matches!(
+        kind_in(read, argument),
+        Kind::Integer | Kind::Unsigned
+    )
 }
 
 // Whether a directive doesn't say what it converts.
-fn is_unknown(argument: &Argument<'_>) -> bool {
-    matches!(argument.kind, Kind::Unknown)
+fn is_unknown(read: &Read<'_>, argument: &Argument<'_>) -> bool {
+    matches!(kind_in(read, argument), Kind::Unknown)
 }
 
 // Whether an argument has the name of a number.
@@ -92,17 +131,17 @@ impl<'t> Source<'_, 't> {
         find_name(self.singular.items.as_slice(), &argument.name).is_none()
     }
 
-    // Whether an argument shows that it is the number.
+    // Whether an argument of the plural shows that it is the number.
     fn shows(&self, sign: Sign, argument: &Argument<'_>) -> bool {
         match sign {
-            Sign::Integer => is_integer(argument),
+            Sign::Integer => is_integer(self.plural, argument),
             Sign::Named => has_numbers_name(argument),
-            Sign::Lacking => is_unknown(argument) && self.lacks(argument),
-            Sign::LackingInteger => is_integer(argument) && self.lacks(argument),
+            Sign::Lacking => is_unknown(self.plural, argument) && self.lacks(argument),
+            Sign::LackingInteger => is_integer(self.plural, argument) && self.lacks(argument),
             Sign::ChangingInteger => {
-                is_integer(argument) && changes(argument, self.plural, self.singular)
+                is_integer(self.plural, argument) && changes(argument, self.plural, self.singular)
             }
-            Sign::NamedInteger => is_integer(argument) && has_numbers_name(argument),
+            Sign::NamedInteger => is_integer(self.plural, argument) && has_numbers_name(argument),
         }
     }
 
@@ -116,6 +155,11 @@ impl<'t> Source<'_, 't> {
         if self.count(sign, items) != 1 {
             return None;
         }
+        self.first(sign, items)
+    }
+
+    // The first argument that shows so.
+    fn first(&self, sign: Sign, items: &[Argument<'t>]) -> Option<Name<'t>> {
         for it in items {
             if self.shows(sign, it) {
                 return Some(it.name);
@@ -125,7 +169,7 @@ impl<'t> Source<'_, 't> {
     }
 
     // The one of several integers that is the number: the only one that the singular lacks, or whose
-    // next word is another one there; if there are both, a number's name decides.
+    // next word is another one there; if there are both, a number's name decides. Else the first.
     fn of_integers(&self, items: &[Argument<'t>]) -> Option<Name<'t>> {
         let lacking = self.count(Sign::LackingInteger, items);
         let changing = self.count(Sign::ChangingInteger, items);
@@ -134,14 +178,15 @@ impl<'t> Source<'_, 't> {
         }
         let found = self.only(Sign::LackingInteger, items);
         let found = found.or(self.only(Sign::ChangingInteger, items));
-        found.or(self.only(Sign::NamedInteger, items))
+        let found = found.or(self.only(Sign::NamedInteger, items));
+        found.or(self.first(Sign::Integer, items))
     }
 
     // The one of some arguments, none of which is an integer.
     fn of_others(&self, items: &[Argument<'t>]) -> Option<Name<'t>> {
         let named = self.only(Sign::Named, items);
         let found = named.or(self.only(Sign::Lacking, items));
-        found.or(number_alone(items))
+        found.or(number_alone(self.plural, items))
     }
 }
 
@@ -163,9 +208,9 @@ pub(crate) fn number_in<'t>(
 }
 
 // The number, if it is the only argument, and has a place.
-fn number_alone<'t>(items: &[Argument<'t>]) -> Option<Name<'t>> {
+fn number_alone<'t>(plural: &Read<'_>, items: &[Argument<'t>]) -> Option<Name<'t>> {
     match items {
-        [only] if is_unknown(only) => match only.name {
+        [only] if is_unknown(plural, only) => match only.name {
             Name::Place(_) => Some(only.name),
             Name::Word(_) => None,
         },
