@@ -32,12 +32,14 @@ pub enum NoticeCode {
     NumberUnclear,
     /// `format-unknown`: the format of a message isn't read.
     FormatUnknown,
-    /// `too-many`: a text has more arguments than are read.
+    /// `too-many`: a text has more arguments, or the keys of a file more bytes, than are read.
     TooMany,
-    /// `twice`: a message stands twice.
+    /// `twice`: a message or a key stands twice.
     Twice,
     /// `left-out`: messages aren't checked, since they need no check.
     LeftOut,
+    /// `no-messages`: the file has no messages with plural forms.
+    NoMessages,
 }
 
 impl NoticeCode {
@@ -62,6 +64,7 @@ impl NoticeCode {
             NoticeCode::TooMany => "too-many",
             NoticeCode::Twice => "twice",
             NoticeCode::LeftOut => "left-out",
+            NoticeCode::NoMessages => "no-messages",
         }
     }
 }

@@ -12,6 +12,8 @@ use serde_json::Value;
 /// told of the file.
 #[derive(Drop)]
 pub struct FileMessages {
+    /// The name of the file that they stand in, if that is another one than was read.
+    pub name: Option<String>,
     /// The document of [`message_report::found_in_files`]: by locale, `cardinal`, `ordinal`,
     /// `source` and `patterns`, each by the keys of messages.
     pub document: Value,

@@ -200,6 +200,7 @@ impl Gathered {
             put(&mut document, alloc, locale.as_str(), Value::Object(parts))?;
         }
         Ok(FileMessages {
+            name: None,
             document: Value::Object(document),
             places,
             notices,

@@ -14,6 +14,7 @@ mod exports;
 mod fallback;
 mod findings;
 mod forms;
+mod json_files;
 mod message_reports;
 mod messages;
 mod packed_texts;
@@ -48,5 +49,6 @@ pub fn make(kind: &str, call: &mut Call) -> bool {
         || exported_bytes::make(kind, call)
         || catalogs::make(kind, call)
         || text_arguments::make(kind, call)
+        || json_files::make(kind, call)
         || translations::make(kind, call)
 }
