@@ -14,6 +14,7 @@ mod exports;
 mod fallback;
 mod findings;
 mod forms;
+mod located_findings;
 mod message_reports;
 mod messages;
 mod packed_texts;
@@ -21,6 +22,7 @@ mod packing;
 mod pattern_texts;
 mod patterns;
 mod plural_forms;
+mod sarif_members;
 mod styled_patterns;
 mod text_arguments;
 
@@ -37,6 +39,7 @@ pub fn make(kind: &str, call: &mut Call) -> bool {
         || fallback::make(kind, call)
         || message_reports::make(kind, call)
         || findings::make(kind, call)
+        || located_findings::make(kind, call)
         || forms::make(kind, call)
         || callers::make(kind, call)
         || patterns::make(kind, call)
