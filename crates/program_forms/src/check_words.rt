@@ -83,7 +83,7 @@ fn is_code(word: &str) -> bool {
 }
 
 // What words say; none, if they are wrong.
-pub(crate) fn check_words<'w>(
+pub(crate) fn said_by<'w>(
     alloc: Global,
     words: &[&'w str],
 ) -> Result<Option<CheckWords<'w>>, AllocError> {

@@ -9,7 +9,7 @@ mod opened;
 mod rules;
 
 use answers::{Asked, print, write_answer};
-use check_words::{CheckWords, check_words};
+use check_words::{CheckWords, said_by};
 use failure::{Failure, USAGE, VERSION};
 use form_commands::{Checking, Question, Verdict, Wanted, question_of};
 use opened::{Opened, documents_of, has_input, have_translations, open_all, translations_of};
@@ -55,7 +55,7 @@ fn check(rt: &HostRuntime, words: &[&str]) -> Result<Verdict, Failure> {
     if *command != "check" {
         return Err(Failure::Usage);
     }
-    match check_words(rt.alloc(), rest) {
+    match said_by(rt.alloc(), rest) {
         Ok(Some(said)) => check_said(rt, &said),
         Ok(None) => Err(Failure::Usage),
         Err(_) => Err(Failure::Memory),
