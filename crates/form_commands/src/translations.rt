@@ -252,13 +252,12 @@ fn totals_of(
         notes: 0,
         left_out: 0,
     };
-    for it in found {
+    for (it, read) in found.iter().zip(read.iter()) {
         let counts = it.counts();
-        totals.messages = sum(totals.messages, counts.messages)?;
+        let checked = sum(read.counts.checked, read.counts.noted)?;
+        totals.messages = sum(totals.messages, counts.messages.max(checked))?;
         totals.forms = sum(totals.forms, counts.forms)?;
-    }
-    for it in read {
-        totals.left_out = sum(totals.left_out, it.counts.left_out)?;
+        totals.left_out = sum(totals.left_out, read.counts.left_out)?;
     }
     for it in located {
         let count = count_of(it.told);

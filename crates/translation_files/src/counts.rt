@@ -8,11 +8,11 @@ use std::alloc::AllocError;
 /// What became of a message.
 #[derive(Clone, Copy, Debug, PartialEq, Eq)]
 pub enum Fate {
-    /// It is in the document, and all of it is checked.
+    /// All of it is checked.
     Checked,
-    /// It is in the document, and a note tells what of it isn't checked.
+    /// It is checked, and a notice tells what of it isn't, or isn't by the rules.
     Noted,
-    /// It isn't in the document, and a notice tells why.
+    /// It isn't checked, and a notice tells why.
     LeftOut,
 }
 
