@@ -96,6 +96,9 @@ fn read_catalog<S: RulesOfLocales>(
 ) -> Result<(), AllocError> {
     let standings = standings_of(catalog)?;
     tell_faults(gathered, catalog)?;
+    if standings.count() == 0 {
+        return gathered.note_no_messages();
+    }
     tell_left_out(gathered, &standings)?;
     if standings.whole == 0 {
         return Ok(());
