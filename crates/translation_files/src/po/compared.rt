@@ -7,7 +7,7 @@ use crate::po::mistakes::{Compared, argument_text, mistakes, shown_argument};
 use crate::po::read_text::{Read, has_too_many, read_text};
 use crate::po::source_number::{find_name, is_same_name, number_in, unique};
 use crate::po::text_format::{TextFormat, format_of};
-use format_arguments::{Argument, Name, stands_for};
+use format_arguments::{Argument, Name};
 use po_catalog::{Entry, Text};
 use serde_json::Value;
 use std::alloc::{AllocError, Global};
@@ -156,11 +156,18 @@ fn shared<'t>(
 ) -> Result<Vec<Argument<'t>>, AllocError> {
     let mut kept = Vec::new(alloc);
     for it in plural {
-        if forms.iter().any(|form| form.items.iter().any(|other| stands_for(it, other))) {
+        if forms.iter().any(|form| has_alike(form, it)) {
             kept.push(*it)?;
         }
     }
     Ok(kept)
+}
+
+// Whether a form has an argument of this name that converts the same.
+fn has_alike(form: &Read<'_>, argument: &Argument<'_>) -> bool {
+    form.items
+        .iter()
+        .any(|it| is_same_name(&it.name, &argument.name) && it.kind == argument.kind)
 }
 
 // All arguments of the plural.
