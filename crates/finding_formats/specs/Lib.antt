@@ -14,3 +14,4 @@ pub mod LocatedObjects
 pub mod LocatedLog
 pub mod LocatedCommands
 pub mod PrintedLocated
+pub mod LocatedLineLaws

@@ -4,7 +4,6 @@
 --     located_words located      what is printed of it after the name of its file
 use Rattle.std.specs.Prelude.{ℕ, ◌==◌, List, ◌++◌, codes, Option, Some, None, option_map, if◌then◌else◌}
 use Rattle.std.specs.Borrow.{Bor}
-use Rattle.std.specs.Fmt.{decimal}
 use Rattle.plural_documents.specs.PrintedKeys.{name_text}
 use Rattle.message_report.specs.FindingCauses.{cause_text, severity_of}
 use Rattle.message_report.specs.FormFaults.{are_text, form_fault_text}

@@ -1,6 +1,6 @@
 -- What is told of files as lines of JSON: an object for each, which has all of it, and one with the
 -- totals.
-use Rattle.std.specs.Prelude.{ℕ, List, [], ◌∷◌, ◌++◌, codes, map, Option, Some, None}
+use Rattle.std.specs.Prelude.{ℕ, List, ◌++◌, codes, map, Option, Some, None}
 use Rattle.std.specs.List.{flat_map}
 use Rattle.serde_json.specs.Data.{Data, number, unsigned, string, object, Members, no_members, member}
 use Rattle.finding_formats.specs.FindingCodes.{severity_word}
@@ -40,8 +40,6 @@ totals_data t =
     (member (codes "messages") (number (unsigned t.messages)) (member (codes "notes") (number (unsigned t.notes)) no_members))))))
     no_members)
 
-abbrev pub objects_told : List Located → Totals → List Data
-objects_told ls totals = map located_data ls ++ (totals_data totals ∷ [])
-
+-- the line of the totals is the last one
 abbrev pub located_lines : List Located → Totals → List ℕ
-located_lines ls totals = flat_map json_line (objects_told ls totals)
+located_lines ls totals = flat_map json_line (map located_data ls) ++ json_line (totals_data totals)

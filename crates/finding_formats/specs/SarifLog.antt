@@ -53,13 +53,16 @@ location_data line place =
     object (member (codes "logicalLocations") (one_item (only (codes "fullyQualifiedName") (string (place_text place))))
     (member (codes "physicalLocation") (physical_data line (file_of place)) no_members))
 
--- given its line, if it is known, and what is printed of it
+-- a result: its level, its location, what is printed of it, and its rule
+abbrev pub rule_result : List ℕ → Data → List ℕ → Code → Data
+rule_result level location text code =
+    object (member (codes "level") (string level) (member (codes "locations") (one_item location)
+    (member (codes "message") (message_data text) (member (codes "ruleId") (string (code_name code))
+    (member (codes "ruleIndex") (number (unsigned (code_place code))) no_members)))))
+
+-- that of a finding, given its line, if it is known, and what is printed of it
 abbrev pub finding_result : Option ℕ → Finding → List ℕ → Data
-finding_result line f text =
-    object (member (codes "level") (string (level_name (severity_of f.cause)))
-    (member (codes "locations") (one_item (location_data line f.place))
-    (member (codes "message") (message_data text) (member (codes "ruleId") (string (code_name (code_of f.cause)))
-    (member (codes "ruleIndex") (number (unsigned (code_place (code_of f.cause)))) no_members)))))
+finding_result line f text = rule_result (level_name (severity_of f.cause)) (location_data line f.place) text (code_of f.cause)
 
 -- no line is known
 abbrev pub result_data : Finding → Data

@@ -1,7 +1,7 @@
 //! Logs of SARIF.
 
 ghost use Rattle.std.specs.Prelude.{◌≡◌, ◌∷◌, [], ◌++◌, false, IfOk, OnOk, map, string_bytes};
-ghost use Rattle.finding_formats.specs.SarifLog.{finding_result, location_data, log_data, log_text, physical_data, result_data, rule_data};
+ghost use Rattle.finding_formats.specs.SarifLog.{finding_result, location_data, log_data, log_text, physical_data, result_data, rule_data, rule_result};
 ghost use Rattle.finding_formats.specs.SarifLog.{run_data, sarif_text, tool_data};
 ghost use Rattle.message_report.specs.MessageFindings.{finding_view};
 ghost use Rattle.message_report.specs.MessagePlaces.{place_view};
@@ -123,10 +123,23 @@ pub(crate) fn finding_result(
 ) -> Result<Value, AllocError>
     ensures { IfOk result (λ value. view value ≡ finding_result line (finding_view finding.now) text.now) }
 {
-    let code = Code::of(finding.cause);
     let location = location_value(alloc, finding.place, line)?;
+    let level = level(finding.cause.severity());
+    rule_result(alloc, level, location, text, Code::of(finding.cause))
+}
+
+// Returns a result, given its level, its location, what is printed of it, and its rule.
+fn rule_result(
+    alloc: Global,
+    level: &str,
+    location: Value,
+    text: &str,
+    code: Code,
+) -> Result<Value, AllocError>
+    ensures { IfOk result (λ value. view value ≡ rule_result level.now (view location) text.now code) }
+{
     json!(in alloc; {
-        "level": level(finding.cause.severity()),
+        "level": level,
         "locations": [location],
         "message": {"text": text},
         "ruleId": code.as_str(),

@@ -1,6 +1,6 @@
 //! What became of the messages of a file.
 
-ghost use Rattle.std.specs.Prelude.{◌≡◌, ◌+◌, ◌×◌, OnOk, OnErr};
+ghost use Rattle.std.specs.Prelude.{◌≡◌, ◌+◌, OnOk, OnErr};
 
 use plural_documents::sum;
 use std::alloc::AllocError;
@@ -8,11 +8,11 @@ use std::alloc::AllocError;
 /// What became of a message.
 #[derive(Clone, Copy, Debug, PartialEq, Eq)]
 pub enum Fate {
-    /// It is in the document, and all of it is checked.
+    /// All of it is checked.
     Checked,
-    /// It is in the document, and a note tells what of it isn't checked.
+    /// It is checked, and a notice tells what of it isn't, or isn't by the rules.
     Noted,
-    /// It isn't in the document, and a notice tells why.
+    /// It isn't checked, and a notice tells why.
     LeftOut,
 }
 
@@ -31,6 +31,8 @@ pub struct FileCounts {
 }
 
 impl FileCounts {
+    ghost use Rattle.translation_files.specs.MessageFates.{checked_of, noted_of, left_out_of};
+
     /// Returns the counts of no message.
     pub fn none() -> FileCounts
         ensures { result.read ≡ 0 }
@@ -45,18 +47,50 @@ impl FileCounts {
 
     /// Counts so many messages of a fate. A count that is too large is reported as out of memory.
     pub fn add(&mut self, fate: Fate, count: u64) -> Result<(), AllocError>
-        ensures adds { OnOk result (self.new.read ≡ self.old.read + count) }
+        ensures read { OnOk result (self.new.read ≡ self.old.read + count) }
+        ensures checked { OnOk result (self.new.checked ≡ self.old.checked + checked_of fate count) }
+        ensures noted { OnOk result (self.new.noted ≡ self.old.noted + noted_of fate count) }
+        ensures left_out { OnOk result (self.new.left_out ≡ self.old.left_out + left_out_of fate count) }
         ensures err { OnErr result (self.new ≡ self.old) }
     {
         let read = sum(self.read, count)?;
-        let mut next = *self;
-        next.read = read;
-        match fate {
-            Fate::Checked => next.checked += count,
-            Fate::Noted => next.noted += count,
-            Fate::LeftOut => next.left_out += count,
-        }
-        *self = next;
+        *self = self.grown(read, fate, count);
         Ok(())
+    }
+
+    // The counts of so many more messages of a fate, which are so many in all.
+    fn grown(&self, read: u64, fate: Fate, count: u64) -> FileCounts
+        requires { read ≡ self.now.read + count }
+        ensures read { result.read ≡ read }
+        ensures checked { result.checked ≡ self.now.checked + checked_of fate count }
+        ensures noted { result.noted ≡ self.now.noted + noted_of fate count }
+        ensures left_out { result.left_out ≡ self.now.left_out + left_out_of fate count }
+    {
+        let FileCounts {
+            checked,
+            noted,
+            left_out,
+            ..
+        } = *self;
+        match fate {
+            Fate::Checked => FileCounts {
+                read,
+                checked: checked + count,
+                noted,
+                left_out,
+            },
+            Fate::Noted => FileCounts {
+                read,
+                checked,
+                noted: noted + count,
+                left_out,
+            },
+            Fate::LeftOut => FileCounts {
+                read,
+                checked,
+                noted,
+                left_out: left_out + count,
+            },
+        }
     }
 }

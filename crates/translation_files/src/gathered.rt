@@ -94,6 +94,13 @@ impl Gathered {
         Ok(())
     }
 
+    // Tells that a file has no messages.
+    pub(crate) fn note_no_messages(&mut self) -> Result<(), AllocError> {
+        let text = "it has no messages with plural forms";
+        let text = String::from_str(self.alloc, text)?;
+        self.note(None, NoticeCode::NoMessages, text)
+    }
+
     // Counts messages.
     pub(crate) fn count(&mut self, fate: Fate, count: u64) -> Result<(), AllocError> {
         self.counts.add(fate, count)

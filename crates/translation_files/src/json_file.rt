@@ -226,17 +226,10 @@ fn read_texts<S: RulesOfLocales>(
     let named = locale.or(texts.locale).or(locale_of_name(name, rules));
     let count = found.count();
     if count == 0 {
-        note_no_messages(&mut gathered)?;
+        gathered.note_no_messages()?;
     } else if keep_locale(&mut gathered, rules, named, name, count)? {
         let has_zero = has_zero(rules, gathered.locale.as_str());
         add_found(&mut gathered, &texts.keys, &found, has_zero)?;
     }
     gathered.finish()
-}
-
-// Tells that no text of a file is a message.
-fn note_no_messages(gathered: &mut Gathered) -> Result<(), AllocError> {
-    let text = "it has no messages with plural forms";
-    let text = String::from_str(gathered.alloc, text)?;
-    gathered.note(None, NoticeCode::NoMessages, text)
 }

@@ -12,6 +12,7 @@ mod locale_name;
 mod notice;
 mod places;
 mod po;
+mod read_file;
 
 pub use code::NoticeCode;
 pub use counts::{Fate, FileCounts};
@@ -21,3 +22,4 @@ pub use lines::{FormLine, MessageKind, MessageLines};
 pub use notice::FileNotice;
 pub use places::Places;
 pub use po::read_po;
+pub use read_file::{no_messages, read_messages};

@@ -17,9 +17,9 @@ mod text_format;
 use crate::code::NoticeCode;
 use crate::counts::Fate;
 use crate::file_messages::FileMessages;
-use crate::gathered::Gathered;
+use crate::gathered::{Gathered, Note};
 use faults::{other_charset, tell_faults};
-use header::forms_of_file;
+use header::{Found, forms_of_file};
 use message::{add_messages, compare_messages};
 use message_report::RulesOfLocales;
 use plural_documents::name_text;
@@ -96,23 +96,52 @@ fn read_catalog<S: RulesOfLocales>(
 ) -> Result<(), AllocError> {
     let standings = standings_of(catalog)?;
     tell_faults(gathered, catalog)?;
+    if standings.count() == 0 {
+        return gathered.note_no_messages();
+    }
     tell_left_out(gathered, &standings)?;
     if standings.whole == 0 {
         return Ok(());
     }
-    let found = forms_of_file(gathered, catalog, name, rules, locale)?;
-    match found.forms {
+    let Found {
+        forms,
+        indices,
+        fate,
+    } = forms_of_file(gathered, catalog, name, rules, locale)?;
+    match forms {
         Ok(forms) => add_messages(gathered, catalog, forms),
         Err(refusal) => {
-            let alloc = gathered.alloc;
-            let left = left_out(alloc, standings.whole)?;
-            let cause = refusal.text;
-            let text = format!(in alloc; "{cause}; {left}")?;
-            gathered.tell(line_of_header(catalog), refusal.code, text)?;
-            gathered.count(Fate::LeftOut, standings.whole)?;
-            compare_messages(gathered, catalog, found.indices)
+            tell_refusal(gathered, catalog, refusal, fate, standings.whole)?;
+            compare_messages(gathered, catalog, indices)
         }
     }
+}
+
+// Tells why so many messages aren't checked by the rules, and what becomes of them.
+fn tell_refusal(
+    gathered: &mut Gathered,
+    catalog: &Catalog,
+    refusal: Note,
+    fate: Fate,
+    count: u64,
+) -> Result<(), AllocError> {
+    let alloc = gathered.alloc;
+    let left = match fate {
+        Fate::LeftOut => left_out(alloc, count)?,
+        _ => checked_alone(alloc, count)?,
+    };
+    let Note { code, text } = refusal;
+    let text = format!(in alloc; "{text}; {left}")?;
+    gathered.tell(line_of_header(catalog), code, text)?;
+    gathered.count(fate, count)
+}
+
+// How many messages are checked without the rules, in words.
+fn checked_alone(alloc: Global, count: u64) -> Result<String, AllocError> {
+    if count == 1 {
+        return String::from_str(alloc, "1 message is checked by the file's own rule");
+    }
+    format!(in alloc; "{count} messages are checked by the file's own rule")
 }
 
 // Tells how many messages need no check.

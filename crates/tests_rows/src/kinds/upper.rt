@@ -15,6 +15,7 @@ mod fallback;
 mod findings;
 mod forms;
 mod json_files;
+mod located_findings;
 mod message_reports;
 mod messages;
 mod packed_texts;
@@ -22,6 +23,7 @@ mod packing;
 mod pattern_texts;
 mod patterns;
 mod plural_forms;
+mod sarif_members;
 mod styled_patterns;
 mod text_arguments;
 mod translations;
@@ -39,6 +41,7 @@ pub fn make(kind: &str, call: &mut Call) -> bool {
         || fallback::make(kind, call)
         || message_reports::make(kind, call)
         || findings::make(kind, call)
+        || located_findings::make(kind, call)
         || forms::make(kind, call)
         || callers::make(kind, call)
         || patterns::make(kind, call)

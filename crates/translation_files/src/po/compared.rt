@@ -90,7 +90,7 @@ pub(crate) fn compare(
                 .iter()
                 .any(|it| has_too_many(it.bytes.as_slice())))
     {
-        let text = "a text has more than 100 arguments: cut it";
+        let text = "a text has more than 64 arguments: cut it";
         let text = String::from_str(alloc, text)?;
         let code = NoticeCode::TooMany;
         return Ok(Err(Note { code, text }));

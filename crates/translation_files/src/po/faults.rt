@@ -62,7 +62,10 @@ pub(crate) fn tell_faults(gathered: &mut Gathered, catalog: &Catalog) -> Result<
 // The faults before a line, and those from it on.
 fn cut_at_line(faults: &[Fault], line: usize) -> (&[Fault], &[Fault]) {
     let count = faults.iter().take_while(|it| it.line < line).count();
-    faults.split_at(count.min(faults.len()))
+    match faults.split_at_checked(count) {
+        Some(parts) => parts,
+        None => (faults, &[]),
+    }
 }
 
 // Tells the faults of a message.

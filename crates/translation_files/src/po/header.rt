@@ -1,6 +1,7 @@
 //! The forms of a catalog, by its header.
 
 use crate::code::NoticeCode;
+use crate::counts::Fate;
 use crate::gathered::{Gathered, Note};
 use crate::locale_name::{Said, locale_of};
 use crate::po::indices::{Indices, Read, indices_of};
@@ -29,6 +30,8 @@ pub(crate) struct Forms {
 pub(crate) struct Found {
     pub(crate) forms: Result<Forms, Note>,
     pub(crate) indices: Option<Indices>,
+    // What becomes of the messages then: they are left out, or checked by the file's own rule alone.
+    pub(crate) fate: Fate,
 }
 
 // Nothing but why.
@@ -36,6 +39,7 @@ fn refused(code: NoticeCode, text: String) -> Found {
     Found {
         forms: Err(Note { code, text }),
         indices: None,
+        fate: Fate::LeftOut,
     }
 }
 
@@ -126,12 +130,14 @@ fn forms_under<S: RulesOfLocales>(
             Found {
                 forms: Ok(Forms { indices, laid }),
                 indices: None,
+                fate: Fate::Checked,
             }
         }
         Err(clash) => {
             let text = clash_text(alloc, locale.as_str(), clash)?;
             let mut found = refused(NoticeCode::PluralForms, text);
             found.indices = Some(indices);
+            found.fate = Fate::Noted;
             found
         }
     };

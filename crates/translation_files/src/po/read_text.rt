@@ -5,7 +5,7 @@ use format_arguments::{Argument, Format, Name, arguments};
 use std::alloc::{AllocError, Global};
 
 // How many percent signs and braces a text has at most, and so arguments.
-pub(crate) const MOST_SIGNS: usize = 100;
+pub(crate) const MOST_SIGNS: usize = 64;
 
 // How many bytes the directive of a text without a flag has at most.
 const MOST_BYTES: usize = 100;

@@ -78,10 +78,7 @@ fn names_number(directive: &[u8]) -> bool {
 
 // Whether an argument is an integer.
 fn is_integer(read: &Read<'_>, argument: &Argument<'_>) -> bool {
-    matches!(
-        kind_in(read, argument),
-        Kind::Integer | Kind::Unsigned
-    )
+    matches!(kind_in(read, argument), Kind::Integer | Kind::Unsigned)
 }
 
 // Whether a directive doesn't say what it converts.
