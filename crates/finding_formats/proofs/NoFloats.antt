@@ -67,14 +67,14 @@ cause_without (cause.Branch fault) = branch_without fault
 cause_without (cause.More count) = refl
 
 -- the members of an object behind the first ones, which are no floats
-members_without : (f : Finding)
+object_without : (f : Finding)
     → (has_float (cause_data f.cause) || (false || (has_float (place_data f.place) || (false || (false || false))))) ≡ false
-members_without f =
+object_without f =
     ap (λ found. found || (false || (has_float (place_data f.place) || false))) (cause_without f.cause)
     ∙ ap (λ found. found || false) (place_without f.place)
 
 pub finding_without : (f : Finding) → has_float (finding_data f) ≡ false
-finding_without f = members_without f
+finding_without f = object_without f
 
 -- whether one of a list has a float
 abbrev pub list_has_float : List Data → Bool
@@ -91,10 +91,10 @@ log_without results h = rw h refl
 
 finding_told_without : (line : Option ℕ) (placeholder : Option (List ℕ)) (f : Finding) (words : List ℕ)
     → has_float (object (with_placeholder placeholder (with_line line (finding_members f words)))) ≡ false
-finding_told_without None None f words = members_without f
-finding_told_without None (Some placeholder) f words = members_without f
-finding_told_without (Some line) None f words = members_without f
-finding_told_without (Some line) (Some placeholder) f words = members_without f
+finding_told_without None None f words = object_without f
+finding_told_without None (Some placeholder) f words = object_without f
+finding_told_without (Some line) None f words = object_without f
+finding_told_without (Some line) (Some placeholder) f words = object_without f
 
 notice_told_without : (line : Option ℕ) (placeholder : Option (List ℕ)) (n : Notice) (words : List ℕ)
     → has_float (object (with_placeholder placeholder (with_line line (notice_members n words)))) ≡ false

@@ -75,8 +75,13 @@ fn print_rule(call: &mut Call, log: &Value, told: &Value) {
     let Some(index) = told.get("ruleIndex") else {
         return call.print("none");
     };
-    let rules = log.pointer("/runs/0/tool/driver/rules");
-    match index.as_u64().and_then(|index| rules?.get(index as usize)) {
+    let Some(index) = index.as_u64() else {
+        return call.print("!");
+    };
+    let Some(rules) = log.pointer("/runs/0/tool/driver/rules") else {
+        return call.print("!");
+    };
+    match rules.get(index as usize) {
         Some(rule) => print_text(call, rule.get("id")),
         None => call.print("!"),
     }
