@@ -1,1 +1,1 @@
-"""What tools/messages-document is made of."""
+"""What tools/messages-document and tools/translation-input are made of."""

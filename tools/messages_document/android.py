@@ -1,6 +1,7 @@
 """Android's resources: files of `plurals`."""
 import os
 import re
+from typing import NamedTuple
 from xml.parsers import expat
 
 from .document import CATEGORIES
@@ -26,18 +27,34 @@ def android_text(text, name):
     return text_of("".join(found), name)
 
 
+class Item(NamedTuple):
+    """An item of a `plurals`: its tag, its quantity, its text in parts, and its line."""
+
+    tag: str
+    quantity: str
+    parts: list
+    line: int
+
+
 class Plurals:
-    """A `plurals`: its line, its name, and its items as pairs of a tag or a quantity and a text in parts."""
+    """A `plurals`: its line, its name, and its items."""
 
     def __init__(self, line, name):
         self.line, self.name, self.items = line, name, []
 
 
-class Resources:
-    """Reads the plurals of an Android file. A file with a document type, and so with entities of its own, is refused."""
+class Refused(Exception):
+    """A file isn't read any further."""
 
-    def __init__(self, data, path):
-        self.found, self.path, self.depth, self.root, self.current = [], path, 0, None, None
+
+class Resources:
+    """Reads the plurals of an Android file, up to the fault of the file, if it has one: its line, or none, and what is wrong.
+
+    A file with a document type, and so with entities of its own, is refused.
+    """
+
+    def __init__(self, data):
+        self.found, self.fault, self.depth, self.root, self.current = [], None, 0, None, None
         self.parser = expat.ParserCreate()
         self.parser.buffer_text = True
         self.parser.StartElementHandler, self.parser.EndElementHandler = self.start, self.end
@@ -45,12 +62,15 @@ class Resources:
         try:
             self.parser.Parse(data, True)
         except expat.ExpatError as fault:
-            raise Fault(f"{path}:{fault.lineno}: it is no XML, {expat.ErrorString(fault.code)}: correct it there") from None
+            self.fault = fault.lineno, f"it is no XML, {expat.ErrorString(fault.code)}: correct it there"
         except (ValueError, LookupError) as fault:
-            raise Fault(f"{path}: it is no XML that is read: {fault}") from None
+            self.fault = None, f"it is no XML that is read: {fault}"
+        except Refused:
+            pass
 
     def refuse(self, *_):
-        raise Fault(f"{self.path}:{self.parser.CurrentLineNumber}: it has a document type, which isn't read: remove it")
+        self.fault = self.parser.CurrentLineNumber, "it has a document type, which isn't read: remove it"
+        raise Refused
 
     def start(self, tag, attributes):
         self.depth += 1
@@ -58,7 +78,7 @@ class Resources:
         if self.current is None and tag == "plurals":
             self.current, self.inside = Plurals(self.parser.CurrentLineNumber, attributes.get("name")), self.depth
         elif self.current is not None and self.depth == self.inside + 1:
-            self.current.items.append((tag, attributes.get("quantity"), []))
+            self.current.items.append(Item(tag, attributes.get("quantity"), [], self.parser.CurrentLineNumber))
 
     def end(self, _):
         if self.current is not None and self.depth == self.inside:
@@ -68,19 +88,32 @@ class Resources:
 
     def put(self, text):
         if self.current is not None and self.current.items and self.depth > self.inside:
-            self.current.items[-1][2].append(text)
+            self.current.items[-1].parts.append(text)
 
 
 def texts_of_plurals(plurals, key):
     """Returns the texts of a plurals by category."""
     texts = {}
-    for tag, name, parts in plurals.items:
-        if tag != "item" or name not in CATEGORIES:
-            raise Fault(f"{key}: it has the {tag} {name}, which is no form: write one of {', '.join(CATEGORIES)}")
+    for it in plurals.items:
+        name = it.quantity
+        if it.tag != "item" or name not in CATEGORIES:
+            raise Fault(f"{key}: it has the {it.tag} {name}, which is no form: write one of {', '.join(CATEGORIES)}")
         if name in texts:
             raise Fault(f"{key}: {name} stands twice: remove one of them")
-        texts[name] = android_text("".join(parts), f"{key}, {name}")
+        texts[name] = android_text("".join(it.parts), f"{key}, {name}")
     return texts
+
+
+def key_of(plurals, more):
+    """Returns the key of a plurals: what is for some devices or networks alone has their qualifiers in it."""
+    if plurals.name is None:
+        raise Fault("a plurals has no name: give it one")
+    return text_of(plurals.name, "name") + (f" ({more})" if more else "")
+
+
+def is_reference(texts):
+    """Tells whether a text is that of another resource."""
+    return any(re.match("[@?][^ ]*/", it) for it in texts.values())
 
 
 # A folder of resources: the network's country and operator, the language, and the rest, as values-mcc310-mnc004-de-rAT-land. `car` is a
@@ -89,13 +122,21 @@ NETWORK, LANGUAGE = r"(?:-mcc[0-9]{3})?(?:-mnc[0-9]{1,3})?", r"b\+([A-Za-z0-9+]+
 FOLDER = re.compile(rf"values({NETWORK})(?:-(?:{LANGUAGE}))?((?:-.*)?)")
 
 
-def read_android(document, data, path):
-    resources = Resources(data, path)
-    if resources.root != "resources":
-        return False
+def locale_of_folder(path):
+    """Returns the locale that a folder of resources names, and the further qualifiers; none or empty ones if there are none."""
     folder = FOLDER.fullmatch(os.path.basename(os.path.dirname(os.path.abspath(path))))
     own = folder and "-".join(it for it in (folder[2] or folder[3], folder[4]) if it).replace("+", "-")
-    more = folder and (folder[1] + folder[5])[1:]
+    return own, folder and (folder[1] + folder[5])[1:]
+
+
+def read_android(document, data, path):
+    resources = Resources(data)
+    if resources.fault:
+        line, text = resources.fault
+        raise Fault(f"{path}:{line}: {text}" if line else f"{path}: {text}")
+    if resources.root != "resources":
+        return False
+    own, more = locale_of_folder(path)
     if not resources.found:
         return True
     locale = document.locale_or_none(own, path, len(resources.found))
@@ -105,12 +146,10 @@ def read_android(document, data, path):
 
 
 def add_plurals(document, plurals, locale, more, place):
-    """Adds a message; what is for some devices or networks alone has their qualifiers in its key."""
-    if plurals.name is None:
-        raise Fault("a plurals has no name: give it one")
-    key = text_of(plurals.name, "name") + (f" ({more})" if more else "")
+    """Adds a message."""
+    key = key_of(plurals, more)
     texts = texts_of_plurals(plurals, shown(key))
-    if any(re.match("[@?][^ ]*/", it) for it in texts.values()):
+    if is_reference(texts):
         document.leave_out(f"{place}: note: {shown(key)} refers to another resource: left out", is_fault=False)
         return
     found = {name: arguments("Android", it) for name, it in texts.items()}

@@ -4,3 +4,6 @@ mod PlainData
 mod LineLemmas
 mod ReadFindings
 mod ObjectLemmas
+-- with lines
+mod ReadLocated
+mod LocatedLemmas

@@ -1,10 +1,10 @@
 -- No object of a finding has a float, and neither has a log.
-use Rattle.std.proofs.Common.{◌≡◌, ap, false, refl, List, [], ◌∷◌, Some, None, ◌∙◌}
+use Rattle.std.proofs.Common.{◌≡◌, ℕ, ap, Bool, false, refl, List, [], ◌∷◌, Option, Some, None, ◌∙◌}
 use Rattle.std.specs.Prelude.{map, ◌||◌}
+use Rattle.serde_json.specs.Data.{Data, object}
 use Rattle.serde_json.specs.View.{items_of}
 use Rattle.serde_json.specs.Written.{has_float, items_have_float}
 use Rattle.message_pattern.specs.PatternParts.{Exactly, Keyword}
-use Rattle.message_report.specs.FoundInMessages.{Found}
 use Rattle.message_report.specs.MessageFindings.{Finding}
 use Rattle.message_report.specs.MessagePlaces.{Place}
 use Rattle.message_report.specs.MessagePlaces.{at_document, at_locale, at_key, at_sources, at_source, at_messages, at_message, at_form}
@@ -15,8 +15,11 @@ use Rattle.message_report.specs.declared.cause.Cause.{Cause}
 use Rattle.message_report.specs.declared.cause.Cause.TheVariants as cause
 use Rattle.message_report.specs.declared.fault.FormFault.{FormFault}
 use Rattle.message_report.specs.declared.fault.FormFault.TheVariants as form
-use Rattle.finding_formats.specs.FindingObjects.{cause_data, finding_data, place_data}
-use Rattle.finding_formats.specs.SarifLog.{result_data, sarif_data}
+use Rattle.finding_formats.specs.FindingObjects.{cause_data, finding_data, finding_members, place_data}
+use Rattle.finding_formats.specs.LocatedFindings.{Located, Notice, Told, told_finding, told_notice, located_words}
+use Rattle.finding_formats.specs.LocatedLog.{located_result, told_result}
+use Rattle.finding_formats.specs.LocatedObjects.{located_data, notice_members, told_members, with_line, with_placeholder}
+use Rattle.finding_formats.specs.SarifLog.{log_data, result_data}
 
 place_without : (place : Place) → has_float (place_data place) ≡ false
 place_without (at_document file) = refl
@@ -63,14 +66,57 @@ cause_without (cause.NoPattern kind byte) = refl
 cause_without (cause.Branch fault) = branch_without fault
 cause_without (cause.More count) = refl
 
-pub finding_without : (f : Finding) → has_float (finding_data f) ≡ false
-finding_without f =
+-- the members of an object behind the first ones, which are no floats
+object_without : (f : Finding)
+    → (has_float (cause_data f.cause) || (false || (has_float (place_data f.place) || (false || (false || false))))) ≡ false
+object_without f =
     ap (λ found. found || (false || (has_float (place_data f.place) || false))) (cause_without f.cause)
     ∙ ap (λ found. found || false) (place_without f.place)
 
-results_without : (fs : List Finding) → items_have_float (items_of (map result_data fs)) ≡ false
+pub finding_without : (f : Finding) → has_float (finding_data f) ≡ false
+finding_without f = object_without f
+
+-- whether one of a list has a float
+abbrev pub list_has_float : List Data → Bool
+list_has_float ds = items_have_float (items_of ds)
+
+pub results_without : (fs : List Finding) → list_has_float (map result_data fs) ≡ false
 results_without [] = refl
 results_without (f ∷ fs) = results_without fs
 
-pub log_without : (found : Found) → has_float (sarif_data found) ≡ false
-log_without found = rw (results_without found.findings) refl
+pub log_without : (results : List Data) → list_has_float results ≡ false → has_float (log_data results) ≡ false
+log_without results h = rw h refl
+
+-- ---- With lines
+
+finding_told_without : (line : Option ℕ) (placeholder : Option (List ℕ)) (f : Finding) (words : List ℕ)
+    → has_float (object (with_placeholder placeholder (with_line line (finding_members f words)))) ≡ false
+finding_told_without None None f words = object_without f
+finding_told_without None (Some placeholder) f words = object_without f
+finding_told_without (Some line) None f words = object_without f
+finding_told_without (Some line) (Some placeholder) f words = object_without f
+
+notice_told_without : (line : Option ℕ) (placeholder : Option (List ℕ)) (n : Notice) (words : List ℕ)
+    → has_float (object (with_placeholder placeholder (with_line line (notice_members n words)))) ≡ false
+notice_told_without None None n words = refl
+notice_told_without None (Some placeholder) n words = refl
+notice_told_without (Some line) None n words = refl
+notice_told_without (Some line) (Some placeholder) n words = refl
+
+told_without : (line : Option ℕ) (placeholder : Option (List ℕ)) (t : Told) (words : List ℕ)
+    → has_float (object (with_placeholder placeholder (with_line line (told_members t words)))) ≡ false
+told_without line placeholder (told_finding f) words = finding_told_without line placeholder f words
+told_without line placeholder (told_notice n) words = notice_told_without line placeholder n words
+
+pub located_without : (l : Located) → has_float (located_data l) ≡ false
+located_without l = told_without l.line l.placeholder l.told (located_words l)
+
+result_without : (line : Option ℕ) (t : Told) (words : List ℕ) → has_float (told_result line t words) ≡ false
+result_without None (told_finding f) words = refl
+result_without None (told_notice n) words = refl
+result_without (Some line) (told_finding f) words = refl
+result_without (Some line) (told_notice n) words = refl
+
+pub told_results_without : (ls : List Located) → list_has_float (map located_result ls) ≡ false
+told_results_without [] = refl
+told_results_without (l ∷ ls) = rw (result_without l.line l.told (located_words l)) (told_results_without ls)

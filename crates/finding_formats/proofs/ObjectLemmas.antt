@@ -29,11 +29,11 @@ use Rattle.finding_formats.proofs.PlainData.{IsLineValue, IsPlain}
 use Rattle.finding_formats.proofs.ReadFindings.{object_tells}
 
 -- a value within the object of a finding
-record IsPart (d : Data) : Type 0 where
-  plain : IsPlain d
-  shallow : tree.depth (outline d) ≤ 2
+pub record IsPart (d : Data) : Type 0 where
+  pub plain : IsPlain d
+  pub shallow : tree.depth (outline d) ≤ 2
 
-place_part : (place : Place) → IsPart (place_data place)
+pub place_part : (place : Place) → IsPart (place_data place)
 place_part (at_document file) = record { plain = (tt, tt); shallow = lit≤ tt }
 place_part (at_locale l) = record { plain = (tt, (tt, tt)); shallow = lit≤ tt }
 place_part (at_key l key) = record { plain = (tt, (tt, (tt, tt))); shallow = lit≤ tt }
@@ -66,7 +66,7 @@ branch_part (branch.NoHash category first second) h = record { plain = (tt, (tt,
 branch_part (branch.Missing category first None) h = record { plain = (tt, (tt, ((h.0, tt), (tt, tt)))); shallow = lit≤ tt }
 branch_part (branch.Missing category first (Some second)) h = record { plain = (tt, (tt, ((h.0, (h.1, tt)), (tt, tt)))); shallow = lit≤ tt }
 
-cause_part : (c : Cause) → CauseFits c → IsPart (cause_data c)
+pub cause_part : (c : Cause) → CauseFits c → IsPart (cause_data c)
 cause_part cause.NoObject h = record { plain = (tt, tt); shallow = lit≤ tt }
 cause_part cause.NotAPart h = record { plain = (tt, tt); shallow = lit≤ tt }
 cause_part cause.NoTextList h = record { plain = (tt, tt); shallow = lit≤ tt }

@@ -31,25 +31,25 @@ use Rattle.finding_formats.specs.JsonLineLaws.{PlaceHasTexts, HasTexts}
 
 -- ---- What stands under a key
 
-abbrev value_at : List ℕ → Data → Data
+abbrev pub value_at : List ℕ → Data → Data
 value_at key d = unwrap_or (get key d) null
 
-abbrev text_of : Data → List ℕ
+abbrev pub text_of : Data → List ℕ
 text_of (string s) = s
 text_of _ = []
 
-abbrev text_at : List ℕ → Data → List ℕ
+abbrev pub text_at : List ℕ → Data → List ℕ
 text_at key d = text_of (value_at key d)
 
-abbrev number_of_num : Num → ℕ
+abbrev pub number_of_num : Num → ℕ
 number_of_num (unsigned n) = n
 number_of_num _ = 0
 
-abbrev number_of : Data → ℕ
+abbrev pub number_of : Data → ℕ
 number_of (number n) = number_of_num n
 number_of _ = 0
 
-abbrev number_at : List ℕ → Data → ℕ
+abbrev pub number_at : List ℕ → Data → ℕ
 number_at key d = number_of (value_at key d)
 
 -- ---- Words
@@ -321,7 +321,7 @@ cause_again (cause.More count) = refl
 
 -- ---- Findings
 
-abbrev finding_in : Data → Finding
+abbrev pub finding_in : Data → Finding
 finding_in d = record {
   place = place_in (text_at (codes "file") d) (value_at (codes "place") d);
   cause = cause_in (value_at (codes "cause") d);

@@ -1,4 +1,4 @@
--- The code of each cause of a finding, a word that stays the same, and how grave a cause is.
+-- The code of each cause of a finding, a word that stays the same, and what formats call a severity.
 --     code_of cause      the code of a cause
 --     code_name code      its word
 use Rattle.std.specs.Prelude.{ℕ, suc, List, [], ◌∷◌, bytes_eq, codes, if◌then◌else◌, map}
@@ -8,6 +8,8 @@ use Rattle.message_report.specs.declared.cause.Cause.{Cause}
 use Rattle.message_report.specs.declared.cause.Cause.TheVariants as cause
 use Rattle.message_report.specs.declared.fault.FormFault.{FormFault}
 use Rattle.message_report.specs.declared.fault.FormFault.TheVariants as form
+use Rattle.message_report.specs.declared.severity.Severity.{Severity}
+use Rattle.message_report.specs.declared.severity.Severity.TheVariants.{Error, Note}
 use Rattle.finding_formats.specs.declared.code.Code.{Code}
 use Rattle.finding_formats.specs.declared.code.Code.TheVariants.{NoObject, NotAPart, NoTextList, NoRules, Missing, Unused, NoNumber}
 use Rattle.finding_formats.specs.declared.code.Code.TheVariants.{NoText, NotAForm, NoPattern, NotACategory, StandsTwice, More}
@@ -84,10 +86,12 @@ place_among name (first ∷ names) = if bytes_eq first name then 0 else suc (pla
 abbrev pub code_place : Code → ℕ
 code_place code = place_among (code_name code) (map code_name all_codes)
 
--- every cause is a fault: a check that only advises would have a cause that isn't
-abbrev pub severity_name : Cause → List ℕ
-severity_name cause = codes "fault"
+-- what JSON calls a severity
+abbrev pub severity_word : Severity → List ℕ
+severity_word Error = codes "fault"
+severity_word Note = codes "note"
 
--- what SARIF and a workflow call a fault
-abbrev pub level_name : Cause → List ℕ
-level_name cause = codes "error"
+-- what SARIF calls it
+abbrev pub level_name : Severity → List ℕ
+level_name Error = codes "error"
+level_name Note = codes "note"

@@ -10,7 +10,7 @@ use Rattle.message_pattern.specs.PatternParts.{Selector, Exactly, Keyword}
 use Rattle.message_pattern.specs.declared.error.FaultKind.{FaultKind}
 use Rattle.message_pattern.specs.declared.error.FaultKind.TheVariants as kind
 use Rattle.plural_documents.specs.PrintedKeys.{length_text}
-use Rattle.message_report.specs.FindingCauses.{cause_text}
+use Rattle.message_report.specs.FindingCauses.{cause_text, severity_of}
 use Rattle.message_report.specs.MessageFindings.{Finding}
 use Rattle.message_report.specs.MessageForms.{form_name}
 use Rattle.message_report.specs.MessagePlaces.{ArgumentPlace, LocalePlace, MessagePlace, PatternPlace, Place, file_of, place_text, type_name}
@@ -23,7 +23,7 @@ use Rattle.message_report.specs.declared.cause.Cause.TheVariants as cause
 use Rattle.message_report.specs.declared.counts.Counts.{Counts}
 use Rattle.message_report.specs.declared.fault.FormFault.{FormFault}
 use Rattle.message_report.specs.declared.fault.FormFault.TheVariants as form
-use Rattle.finding_formats.specs.FindingCodes.{code_name, code_of, severity_name}
+use Rattle.finding_formats.specs.FindingCodes.{code_name, code_of, severity_word}
 
 -- the members with a text under a key; an object has its keys in the order of their bytes
 abbrev pub with_text : List ℕ → List ℕ → Members → Members
@@ -160,12 +160,16 @@ cause_data cause = object (with_text (codes "code") (code_name (code_of cause)) 
 abbrev pub finding_text : Finding → List ℕ
 finding_text f = place_text f.place ++ (codes ": " ++ cause_text f.cause)
 
+-- the members of its object, given what is printed of it
+abbrev pub finding_members : Finding → List ℕ → Members
+finding_members f text =
+    member (codes "cause") (cause_data f.cause) (member (codes "file") (string (file_of f.place))
+    (member (codes "place") (place_data f.place) (member (codes "severity") (string (severity_word (severity_of f.cause)))
+    (member (codes "text") (string text) no_members))))
+
 -- `{"cause":{..},"file":"ru.json","place":{..},"severity":"fault","text":"ru files many: .."}`
 abbrev pub finding_data : Finding → Data
-finding_data f =
-    object (member (codes "cause") (cause_data f.cause) (member (codes "file") (string (file_of f.place))
-    (member (codes "place") (place_data f.place) (member (codes "severity") (string (severity_name f.cause))
-    (member (codes "text") (string (finding_text f)) no_members)))))
+finding_data f = object (finding_members f (finding_text f))
 
 -- `{"counts":{"faults":3,"forms":40,"messages":12}}`
 abbrev pub counts_data : Counts → Data

@@ -3,6 +3,15 @@ pub mod FindingObjects
 pub mod JsonLines
 pub mod FileReferences
 pub mod SarifLog
+pub mod LineMarks
 pub mod WorkflowCommands
 pub mod FindingFormats
 pub mod JsonLineLaws
+-- with lines
+pub mod LocatedFindings
+pub mod LocatedReport
+pub mod LocatedObjects
+pub mod LocatedLog
+pub mod LocatedCommands
+pub mod PrintedLocated
+pub mod LocatedLineLaws

@@ -1,10 +1,11 @@
 -- What is found in files of messages as a log of SARIF 2.1.0: one run, whose results are the
 -- findings in their order, and whose rules are the codes.
-use Rattle.std.specs.Prelude.{ℕ, List, codes, map}
+use Rattle.std.specs.Prelude.{ℕ, List, Option, Some, None, codes, map}
 use Rattle.serde_json.specs.Data.{Data, number, unsigned, string, array, object, no_items, item, no_members, member}
 use Rattle.serde_json.specs.View.{items_of}
 use Rattle.serde_json.specs.Written.{compact_text}
 use Rattle.plural_documents.specs.FirstLines.{ended_line}
+use Rattle.message_report.specs.FindingCauses.{severity_of}
 use Rattle.message_report.specs.FoundInMessages.{Found}
 use Rattle.message_report.specs.MessageFindings.{Finding}
 use Rattle.message_report.specs.MessagePlaces.{Place, file_of, place_text}
@@ -35,31 +36,50 @@ tool_data =
     only (codes "driver") (object (member (codes "name") (string (codes "plural_forms"))
     (member (codes "rules") (array (items_of (map rule_data all_codes))) no_members)))
 
--- a file, of which no line is known
-abbrev pub physical_data : List ℕ → Data
-physical_data file = only (codes "artifactLocation") (only (codes "uri") (string (file_reference file)))
+-- a line: `{"startLine":12}`
+abbrev pub region_data : ℕ → Data
+region_data line = only (codes "startLine") (number (unsigned line))
+
+-- a file, with a line if it is known
+abbrev pub physical_data : Option ℕ → List ℕ → Data
+physical_data None file = only (codes "artifactLocation") (only (codes "uri") (string (file_reference file)))
+physical_data (Some line) file =
+    object (member (codes "artifactLocation") (only (codes "uri") (string (file_reference file)))
+    (member (codes "region") (region_data line) no_members))
 
 -- the file, and the place in it by its name
-abbrev pub location_data : Place → Data
-location_data place =
+abbrev pub location_data : Option ℕ → Place → Data
+location_data line place =
     object (member (codes "logicalLocations") (one_item (only (codes "fullyQualifiedName") (string (place_text place))))
-    (member (codes "physicalLocation") (physical_data (file_of place)) no_members))
+    (member (codes "physicalLocation") (physical_data line (file_of place)) no_members))
 
+-- a result: its level, its location, what is printed of it, and its rule
+abbrev pub rule_result : List ℕ → Data → List ℕ → Code → Data
+rule_result level location text code =
+    object (member (codes "level") (string level) (member (codes "locations") (one_item location)
+    (member (codes "message") (message_data text) (member (codes "ruleId") (string (code_name code))
+    (member (codes "ruleIndex") (number (unsigned (code_place code))) no_members)))))
+
+-- that of a finding, given its line, if it is known, and what is printed of it
+abbrev pub finding_result : Option ℕ → Finding → List ℕ → Data
+finding_result line f text = rule_result (level_name (severity_of f.cause)) (location_data line f.place) text (code_of f.cause)
+
+-- no line is known
 abbrev pub result_data : Finding → Data
-result_data f =
-    object (member (codes "level") (string (level_name f.cause)) (member (codes "locations") (one_item (location_data f.place))
-    (member (codes "message") (message_data (finding_text f)) (member (codes "ruleId") (string (code_name (code_of f.cause)))
-    (member (codes "ruleIndex") (number (unsigned (code_place (code_of f.cause)))) no_members)))))
+result_data f = finding_result None f (finding_text f)
 
-abbrev pub run_data : Found → Data
-run_data found =
-    object (member (codes "results") (array (items_of (map result_data found.findings))) (member (codes "tool") tool_data no_members))
+abbrev pub run_data : List Data → Data
+run_data results =
+    object (member (codes "results") (array (items_of results)) (member (codes "tool") tool_data no_members))
 
-abbrev pub sarif_data : Found → Data
-sarif_data found =
+abbrev pub log_data : List Data → Data
+log_data results =
     object (member (codes "$schema") (string (codes "https://json.schemastore.org/sarif-2.1.0.json"))
-    (member (codes "runs") (one_item (run_data found)) (member (codes "version") (string (codes "2.1.0")) no_members)))
+    (member (codes "runs") (one_item (run_data results)) (member (codes "version") (string (codes "2.1.0")) no_members)))
 
--- the log on one line
+-- the log of results on one line
+abbrev pub log_text : List Data → List ℕ
+log_text results = ended_line (compact_text (log_data results))
+
 abbrev pub sarif_text : Found → List ℕ
-sarif_text found = ended_line (compact_text (sarif_data found))
+sarif_text found = log_text (map result_data found.findings)

@@ -1,13 +1,17 @@
 -- What is found in files of messages as commands of a workflow of GitHub Actions, one for each
 -- finding.
-use Rattle.std.specs.Prelude.{ℕ, ◌==◌, Bool, ◌||◌, List, [], ◌∷◌, ◌++◌, codes, if◌then◌else◌}
+use Rattle.std.specs.Prelude.{ℕ, ◌==◌, Bool, ◌||◌, List, [], ◌∷◌, ◌++◌, codes, if◌then◌else◌, Option, None}
 use Rattle.std.specs.List.{flat_map}
 use Rattle.percent_encoding.specs.Percent.{percent_encode_byte}
+use Rattle.message_report.specs.FindingCauses.{severity_of}
 use Rattle.message_report.specs.FoundInMessages.{Found}
 use Rattle.message_report.specs.MessageFindings.{Finding}
 use Rattle.message_report.specs.MessagePlaces.{file_of}
-use Rattle.finding_formats.specs.FindingCodes.{code_name, code_of, level_name}
+use Rattle.message_report.specs.declared.severity.Severity.{Severity}
+use Rattle.message_report.specs.declared.severity.Severity.TheVariants.{Error, Note}
+use Rattle.finding_formats.specs.FindingCodes.{code_name, code_of}
 use Rattle.finding_formats.specs.FindingObjects.{finding_text}
+use Rattle.finding_formats.specs.LineMarks.{line_mark}
 use Rattle.finding_formats.specs.declared.workflow.Slot.{Slot}
 use Rattle.finding_formats.specs.declared.workflow.Slot.TheVariants.{Message, Property}
 
@@ -27,11 +31,20 @@ slot_byte slot byte = if needs_escape slot byte then percent_encode_byte byte el
 abbrev pub slot_text : Slot → List ℕ → List ℕ
 slot_text slot text = flat_map (slot_byte slot) text
 
--- `::error file=ru.json,title=missing::ru files many: missing, but 0 and 5 are many`
+abbrev pub command_name : Severity → List ℕ
+command_name Error = codes "error"
+command_name Note = codes "notice"
+
+-- `::error file=ru.po,line=12,title=missing::ru files many: missing, but 0 and 5 are many`: the title
+-- is given as it stands there, and the line is left out if none is known
+abbrev pub command_text : Severity → List ℕ → Option ℕ → List ℕ → List ℕ → List ℕ
+command_text severity file line title message =
+    codes "::" ++ (command_name severity ++ (codes " file=" ++ (slot_text Property file ++ (line_mark (codes ",line=") line
+    ++ (codes ",title=" ++ (title ++ (codes "::" ++ (slot_text Message message ++ codes "\n"))))))))
+
+-- no line is known
 abbrev pub command_line : Finding → List ℕ
-command_line f =
-    codes "::" ++ (level_name f.cause ++ (codes " file=" ++ (slot_text Property (file_of f.place) ++ (codes ",title="
-    ++ (code_name (code_of f.cause) ++ (codes "::" ++ (slot_text Message (finding_text f) ++ codes "\n")))))))
+command_line f = command_text (severity_of f.cause) (file_of f.place) None (code_name (code_of f.cause)) (finding_text f)
 
 abbrev pub workflow_text : Found → List ℕ
 workflow_text found = flat_map command_line found.findings

@@ -1,10 +1,12 @@
 //! Logs of SARIF.
 
-ghost use Rattle.std.specs.Prelude.{◌≡◌, ◌∷◌, [], ◌++◌, IfOk, OnOk, map, string_bytes};
-ghost use Rattle.finding_formats.specs.SarifLog.{location_data, physical_data, result_data, rule_data, run_data, sarif_data, sarif_text, tool_data};
+ghost use Rattle.std.specs.Prelude.{◌≡◌, ◌∷◌, [], ◌++◌, false, IfOk, OnOk, map, string_bytes};
+ghost use Rattle.finding_formats.specs.SarifLog.{finding_result, location_data, log_data, log_text, physical_data, result_data, rule_data, rule_result};
+ghost use Rattle.finding_formats.specs.SarifLog.{run_data, sarif_text, tool_data};
 ghost use Rattle.message_report.specs.MessageFindings.{finding_view};
 ghost use Rattle.message_report.specs.MessagePlaces.{place_view};
-ghost use Rattle.serde_json.specs.View.{view};
+ghost use Rattle.serde_json.specs.View.{items_of, view};
+ghost use Rattle.serde_json.specs.Written.{items_have_float};
 
 use crate::code::{ALL_CODES, Code};
 use crate::finding_object::finding_text;
@@ -19,17 +21,26 @@ use std::alloc::{AllocError, Global};
 pub(crate) fn sarif_text(alloc: Global, found: &Found<'_>) -> Result<String, AllocError>
     ensures { IfOk result (λ text. string_bytes text ≡ sarif_text found.now) }
 {
-    let log = log_value(alloc, found)?;
+    let results = results(alloc, found.findings())?;
+    log_text(alloc, results)
+}
+
+// Returns the log of results.
+pub(crate) fn log_text(alloc: Global, results: Vec<Value>) -> Result<String, AllocError>
+    requires { items_have_float (items_of (map view results.items)) ≡ false }
+    ensures { IfOk result (λ text. string_bytes text ≡ log_text (map view results.items)) }
+{
+    let log = log_value(alloc, results)?;
     let mut text = String::new(alloc);
     push_line(alloc, &mut text, &log)?;
     Ok(text)
 }
 
-// Returns the log as a value.
-fn log_value(alloc: Global, found: &Found<'_>) -> Result<Value, AllocError>
-    ensures { IfOk result (λ value. view value ≡ sarif_data found.now) }
+// Returns the log of results as a value.
+fn log_value(alloc: Global, results: Vec<Value>) -> Result<Value, AllocError>
+    ensures { IfOk result (λ value. view value ≡ log_data (map view results.items)) }
 {
-    let run = run_value(alloc, found)?;
+    let run = run_value(alloc, results)?;
     json!(in alloc; {
         "$schema": "https://json.schemastore.org/sarif-2.1.0.json",
         "runs": [run],
@@ -38,11 +49,11 @@ fn log_value(alloc: Global, found: &Found<'_>) -> Result<Value, AllocError>
 }
 
 // Returns the run.
-fn run_value(alloc: Global, found: &Found<'_>) -> Result<Value, AllocError>
-    ensures { IfOk result (λ value. view value ≡ run_data found.now) }
+fn run_value(alloc: Global, results: Vec<Value>) -> Result<Value, AllocError>
+    ensures { IfOk result (λ value. view value ≡ run_data (map view results.items)) }
 {
     let tool = tool_value(alloc)?;
-    let results = Value::Array(results(alloc, found.findings())?);
+    let results = Value::Array(results);
     json!(in alloc; {"results": results, "tool": tool})
 }
 
@@ -99,34 +110,69 @@ fn push_result(
 fn result_value(alloc: Global, finding: &Finding<'_>) -> Result<Value, AllocError>
     ensures { IfOk result (λ value. view value ≡ result_data (finding_view finding.now)) }
 {
-    let code = Code::of(finding.cause);
-    let location = location_value(alloc, finding.place)?;
     let text = finding_text(alloc, finding)?;
+    finding_result(alloc, finding, None, text.as_str())
+}
+
+// Returns the result of a finding, given its line, if it is known, and what is printed of it.
+pub(crate) fn finding_result(
+    alloc: Global,
+    finding: &Finding<'_>,
+    line: Option<u64>,
+    text: &str,
+) -> Result<Value, AllocError>
+    ensures { IfOk result (λ value. view value ≡ finding_result line (finding_view finding.now) text.now) }
+{
+    let location = location_value(alloc, finding.place, line)?;
+    let level = level(finding.cause.severity());
+    rule_result(alloc, level, location, text, Code::of(finding.cause))
+}
+
+// Returns a result, given its level, its location, what is printed of it, and its rule.
+fn rule_result(
+    alloc: Global,
+    level: &str,
+    location: Value,
+    text: &str,
+    code: Code,
+) -> Result<Value, AllocError>
+    ensures { IfOk result (λ value. view value ≡ rule_result level.now (view location) text.now code) }
+{
     json!(in alloc; {
-        "level": level(finding.cause),
+        "level": level,
         "locations": [location],
-        "message": {"text": &text},
+        "message": {"text": text},
         "ruleId": code.as_str(),
         "ruleIndex": code.place()
     })
 }
 
-// Returns the location of a place: its file, and the place in it by its name.
-fn location_value(alloc: Global, place: Place<'_>) -> Result<Value, AllocError>
-    ensures { IfOk result (λ value. view value ≡ location_data (place_view place.entry)) }
+// Returns the location of a place: its file, with a line if it is known, and the place in it by its
+// name.
+fn location_value(alloc: Global, place: Place<'_>, line: Option<u64>) -> Result<Value, AllocError>
+    ensures { IfOk result (λ value. view value ≡ location_data line (place_view place.entry)) }
 {
     let name = place.text(alloc)?;
-    let physical = physical_value(alloc, place.file())?;
+    let physical = physical_value(alloc, place.file(), line)?;
     json!(in alloc; {
         "logicalLocations": [{"fullyQualifiedName": &name}],
         "physicalLocation": physical
     })
 }
 
-// Returns the location of a file. No line of it is known; one would stand in a `region`.
-fn physical_value(alloc: Global, file: &str) -> Result<Value, AllocError>
-    ensures { IfOk result (λ value. view value ≡ physical_data file.now) }
+// Returns the location of a file, with a line if it is known.
+pub(crate) fn physical_value(
+    alloc: Global,
+    file: &str,
+    line: Option<u64>,
+) -> Result<Value, AllocError>
+    ensures { IfOk result (λ value. view value ≡ physical_data line file.now) }
 {
     let uri = file_reference(alloc, file)?;
-    json!(in alloc; {"artifactLocation": {"uri": &uri}})
+    match line {
+        Some(line) => {
+            json!(in alloc; {"artifactLocation": {"uri": &uri}, "region": {"startLine": line}})
+        }
+        None => json!(in alloc; {"artifactLocation": {"uri": &uri}}),
+    }
 }

@@ -1,20 +1,26 @@
-//! How grave a finding is.
+//! What formats call a severity.
 
 ghost use Rattle.std.specs.Prelude.{◌≡◌};
-ghost use Rattle.finding_formats.specs.FindingCodes.{level_name, severity_name};
+ghost use Rattle.finding_formats.specs.FindingCodes.{level_name, severity_word};
 
-use message_report::Cause;
+use message_report::Severity;
 
-// Returns how grave a cause is. Each is a fault; a cause that only advises would be a note.
-pub(crate) fn severity(_cause: Cause) -> &'static str
-    ensures { result.now ≡ severity_name _cause }
+// Returns what JSON calls it.
+pub(crate) fn severity_word(severity: Severity) -> &'static str
+    ensures { result.now ≡ severity_word severity }
 {
-    "fault"
+    match severity {
+        Severity::Error => "fault",
+        Severity::Note => "note",
+    }
 }
 
-// Returns what SARIF and a workflow call that.
-pub(crate) fn level(_cause: Cause) -> &'static str
-    ensures { result.now ≡ level_name _cause }
+// Returns what SARIF calls it.
+pub(crate) fn level(severity: Severity) -> &'static str
+    ensures { result.now ≡ level_name severity }
 {
-    "error"
+    match severity {
+        Severity::Error => "error",
+        Severity::Note => "note",
+    }
 }

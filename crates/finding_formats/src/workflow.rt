@@ -7,8 +7,8 @@ ghost use Rattle.finding_formats.specs.WorkflowCommands.{command_line, ends_mess
 ghost use Rattle.message_report.specs.MessageFindings.{finding_view};
 
 use crate::code::Code;
+use crate::command::command_text;
 use crate::finding_object::finding_text;
-use crate::severity::level;
 use message_report::{Finding, Found};
 use percent_encoding::percent_encode_byte;
 use std::alloc::{AllocError, Global};
@@ -58,34 +58,20 @@ fn command_line(alloc: Global, finding: &Finding<'_>) -> Result<String, AllocErr
     ensures { IfOk result (λ line. string_bytes line ≡ command_line (finding_view finding.now)) }
 {
     let text = finding_text(alloc, finding)?;
-    let message = slot_text(alloc, Slot::Message, text.as_str())?;
-    let file = slot_text(alloc, Slot::Property, finding.place.file())?;
     let code = Code::of(finding.cause).as_str();
-    command_of(
+    let severity = finding.cause.severity();
+    command_text(
         alloc,
-        level(finding.cause),
-        file.as_str(),
+        severity,
+        finding.place.file(),
+        None,
         code,
-        message.as_str(),
+        text.as_str(),
     )
 }
 
-// Returns a command, with a newline.
-fn command_of(
-    alloc: Global,
-    level: &str,
-    file: &str,
-    title: &str,
-    message: &str,
-) -> Result<String, AllocError>
-    ensures { IfOk result (λ line. string_bytes line ≡ codes "::" ++ (level.now ++ (codes " file=" ++ (file.now ++ (codes ",title="
-        ++ (title.now ++ (codes "::" ++ (message.now ++ codes "\n")))))))) }
-{
-    format!(in alloc; "::{level} file={file},title={title}::{message}\n")
-}
-
 // Returns a text as it stands in a command.
-fn slot_text(alloc: Global, slot: Slot, part: &str) -> Result<String, AllocError>
+pub(crate) fn slot_text(alloc: Global, slot: Slot, part: &str) -> Result<String, AllocError>
     ensures { IfOk result (λ text. string_bytes text ≡ slot_text slot part.now) }
 {
     let mut text = String::new(alloc);

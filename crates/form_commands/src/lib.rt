@@ -18,6 +18,7 @@ mod question;
 mod run;
 mod similar_keys;
 mod stream;
+mod translations;
 mod unknown_language;
 
 pub use error::{FormsError, LanguageError, Verdict};
@@ -28,3 +29,4 @@ pub use run::{
     answer_lines, answer_numbers, check_files, check_files_as, list_forms, write_gettext,
 };
 pub use similar_keys::SimilarKeys;
+pub use translations::{Checking, Content, TranslationFile, check_translations};

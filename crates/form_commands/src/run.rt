@@ -297,7 +297,7 @@ fn check_by<P: ReportPrinter, W: Write>(
 }
 
 // Returns the fault of rules that are refused.
-fn refused(error: JsonError) -> FormsError
+pub(crate) fn refused(error: JsonError) -> FormsError
     ensures { result ≡ refused_rules error }
 {
     match error {
@@ -425,7 +425,7 @@ fn rules_of_root(
 }
 
 // Returns the document in a reader.
-fn document_of<R: Read>(alloc: Global, reader: &mut R) -> Result<Value, FormsError>
+pub(crate) fn document_of<R: Read>(alloc: Global, reader: &mut R) -> Result<Value, FormsError>
     ensures document { (input : List ℕ) × IsInput (R.remaining reader.old) input × GivesDocument input result }
     ensures reads { IsRead forms_origin (R.remaining reader.old) (R.remaining reader.new) result }
 {

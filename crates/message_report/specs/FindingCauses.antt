@@ -1,5 +1,6 @@
 -- What is printed for what is wrong at a place.
 --     cause_text cause      the text after the place
+--     severity_of cause      how grave it is
 use Rattle.std.specs.Prelude.{ℕ, List, ◌++◌, codes}
 use Rattle.std.specs.Fmt.{decimal}
 use Rattle.icu_plurals.specs.declared.PluralRuleType.{PluralRuleType}
@@ -10,6 +11,8 @@ use Rattle.message_report.specs.FormFaults.{form_fault_text}
 use Rattle.message_report.specs.PatternFaults.{branch_fault_text}
 use Rattle.message_report.specs.declared.cause.Cause.{Cause}
 use Rattle.message_report.specs.declared.cause.Cause.TheVariants as cause
+use Rattle.message_report.specs.declared.severity.Severity.{Severity}
+use Rattle.message_report.specs.declared.severity.Severity.TheVariants.{Error}
 
 abbrev pub no_rules_text : PluralRuleType → List ℕ
 no_rules_text Cardinal = codes "no cardinal rules"
@@ -26,3 +29,7 @@ cause_text cause.NoText = codes "no text"
 cause_text (cause.NoPattern kind byte) = codes "no pattern: " ++ pattern_error_text (error.Fault kind byte)
 cause_text (cause.Branch fault) = branch_fault_text fault
 cause_text (cause.More count) = codes "and " ++ (decimal count ++ codes " more")
+
+-- each is a fault
+abbrev pub severity_of : Cause → Severity
+severity_of cause = Error

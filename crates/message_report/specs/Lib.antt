@@ -9,6 +9,7 @@ pub mod FormFaults
 pub mod PatternBranches
 pub mod PatternFaults
 -- findings
+pub mod Severities
 pub mod MessagePlaces
 pub mod FindingCauses
 pub mod MessageFindings

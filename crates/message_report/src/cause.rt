@@ -1,10 +1,11 @@
 //! What is wrong at a place.
 
 ghost use Rattle.std.specs.Prelude.{◌≡◌, Some};
-ghost use Rattle.message_report.specs.FindingCauses.{cause_text, no_rules_text};
+ghost use Rattle.message_report.specs.FindingCauses.{cause_text, no_rules_text, severity_of};
 
 use crate::branch_fault::BranchFault;
 use crate::fault::FormFault;
+use crate::severity::Severity;
 use icu_plurals::PluralRuleType;
 use message_pattern::{FaultKind, PatternError};
 use std::fmt;
@@ -32,6 +33,15 @@ pub enum Cause {
     Branch(BranchFault),
     /// So many more faults of the place aren't told.
     More(u64),
+}
+
+impl Cause {
+    /// Returns how grave it is.
+    pub fn severity(self) -> Severity
+        ensures { result ≡ severity_of self }
+    {
+        Severity::Error
+    }
 }
 
 impl fmt::Display for Cause {

@@ -1,7 +1,7 @@
 //! The kinds of the upper crates: `icu_plurals`, `plural_message`, `plural_checker`,
 //! `plural_fallback`, `message_report`, `finding_formats`, `form_commands`, `example_callers`,
-//! `message_pattern`, `message_format`, `gettext_plural`, `plural_exports`, `po_catalog` and
-//! `format_arguments`.
+//! `message_pattern`, `message_format`, `gettext_plural`, `plural_exports`, `po_catalog`,
+//! `format_arguments` and `translation_files`.
 
 mod callers;
 mod catalogs;
@@ -14,6 +14,8 @@ mod exports;
 mod fallback;
 mod findings;
 mod forms;
+mod json_files;
+mod located_findings;
 mod message_reports;
 mod messages;
 mod packed_texts;
@@ -21,8 +23,10 @@ mod packing;
 mod pattern_texts;
 mod patterns;
 mod plural_forms;
+mod sarif_members;
 mod styled_patterns;
 mod text_arguments;
+mod translations;
 
 use crate::call::Call;
 
@@ -37,6 +41,7 @@ pub fn make(kind: &str, call: &mut Call) -> bool {
         || fallback::make(kind, call)
         || message_reports::make(kind, call)
         || findings::make(kind, call)
+        || located_findings::make(kind, call)
         || forms::make(kind, call)
         || callers::make(kind, call)
         || patterns::make(kind, call)
@@ -47,4 +52,6 @@ pub fn make(kind: &str, call: &mut Call) -> bool {
         || exported_bytes::make(kind, call)
         || catalogs::make(kind, call)
         || text_arguments::make(kind, call)
+        || json_files::make(kind, call)
+        || translations::make(kind, call)
 }

@@ -1,7 +1,7 @@
-use Rattle.std.proofs.Common.{ap, ◌∙◌}
-use Rattle.finding_formats.proofs.NoFloats.{log_without}
+use Rattle.std.proofs.Common.{ap, map, ◌∙◌}
+use Rattle.message_report.specs.MessageFindings.{finding_view}
+use Rattle.finding_formats.proofs.NoFloats.{list_has_float, results_without}
 use Rattle.finding_formats.proofs.sarif.sarif_text.Goals as goal
-use Rattle.serde_json.specs.Written.{has_float}
 
-pub push_line-requires : goal.push_line-requires
-push_line-requires c = ap has_float c.in_ok-log.ensures ∙ log_without c.args.found.now
+pub log_text-requires : goal.log_text-requires
+log_text-requires c = ap list_has_float c.in_ok-results.ensures ∙ results_without (map finding_view c.findings.result.now)

@@ -1,0 +1,5 @@
+use Rattle.std.proofs.Common.{length}
+use Rattle.translation_files.proofs.json_file.texts.json_texts.Given as goal
+
+abbrev pub decreases-loop-member : goal.decreases-loop-member
+decreases-loop-member l = length l.members

@@ -1,0 +1,3 @@
+pub mod NoticeCodes
+pub mod MessageKinds
+pub mod MessageFates

@@ -1,0 +1,120 @@
+//! The messages of a file.
+
+use crate::counts::FileCounts;
+use crate::lines::MessageKind;
+use crate::notice::FileNotice;
+use crate::places::Places;
+use icu_plurals::PluralRuleType;
+use message_report::{Form, Place};
+use serde_json::Value;
+
+/// The messages of a file, as a check of messages takes them, where they stand in it, and what is
+/// told of the file.
+#[derive(Drop)]
+pub struct FileMessages {
+    /// The name of the file that they stand in, if that is another one than was read.
+    pub name: Option<String>,
+    /// The document of [`message_report::found_in_files`]: by locale, `cardinal`, `ordinal`,
+    /// `source` and `patterns`, each by the keys of messages.
+    pub document: Value,
+    /// Where the messages stand.
+    pub places: Places,
+    /// What is told of the file, in the order in which it is met.
+    pub notices: Vec<FileNotice>,
+    /// What became of its messages.
+    pub counts: FileCounts,
+}
+
+// A message by its locale, kind and key, and its form, if one is meant.
+#[derive(Clone, Copy)]
+struct Target<'a> {
+    locale: &'a str,
+    kind: MessageKind,
+    key: &'a str,
+    form: Option<Form>,
+}
+
+impl FileMessages {
+    /// Returns the line of a form's text, else that of its message, if the message is known.
+    pub fn line(
+        &self,
+        locale: &str,
+        kind: MessageKind,
+        key: &str,
+        form: Option<Form>,
+    ) -> Option<u64> {
+        let lines = self.places.find(locale, kind, key)?;
+        Some(lines.line_of(form))
+    }
+
+    /// Returns what stands for the number in the texts of a message, as `%d`, if that is known.
+    pub fn placeholder(&self, locale: &str, kind: MessageKind, key: &str) -> Option<&str> {
+        match &self.places.find(locale, kind, key)?.placeholder {
+            Some(text) => Some(text.as_str()),
+            None => None,
+        }
+    }
+
+    /// Returns the line of a finding's place, if its message is known.
+    pub fn line_at(&self, place: &Place<'_>) -> Option<u64> {
+        let target = target_of(place)?;
+        self.line(target.locale, target.kind, target.key, target.form)
+    }
+
+    /// Returns what stands for the number in the texts of a finding's message, if that is known.
+    pub fn placeholder_at(&self, place: &Place<'_>) -> Option<&str> {
+        let target = target_of(place)?;
+        self.placeholder(target.locale, target.kind, target.key)
+    }
+}
+
+// The message of a place, if it is of one.
+fn target_of<'a>(place: &Place<'a>) -> Option<Target<'a>> {
+    match *place {
+        Place::Source(locale, key) => Some(Target {
+            locale: locale.locale,
+            kind: MessageKind::Cardinal,
+            key,
+            form: None,
+        }),
+        Place::Message(message) => Some(Target {
+            locale: message.locale.locale,
+            kind: kind_of(message.rule_type),
+            key: message.key,
+            form: None,
+        }),
+        Place::Form(message, form) => Some(Target {
+            locale: message.locale.locale,
+            kind: kind_of(message.rule_type),
+            key: message.key,
+            form: Some(form),
+        }),
+        Place::OtherKey(message, _) => Some(Target {
+            locale: message.locale.locale,
+            kind: kind_of(message.rule_type),
+            key: message.key,
+            form: None,
+        }),
+        Place::Pattern(pattern) => Some(Target {
+            locale: pattern.locale.locale,
+            kind: MessageKind::Pattern,
+            key: pattern.key,
+            form: None,
+        }),
+        Place::Argument(argument) | Place::Branch(argument, _) => Some(Target {
+            locale: argument.pattern.locale.locale,
+            kind: MessageKind::Pattern,
+            key: argument.pattern.key,
+            form: None,
+        }),
+        _ => None,
+    }
+}
+
+// The kind of messages of a type.
+fn kind_of(rule_type: PluralRuleType) -> MessageKind {
+    match rule_type {
+        PluralRuleType::Cardinal => MessageKind::Cardinal,
+        PluralRuleType::Ordinal => MessageKind::Ordinal,
+    }
+}

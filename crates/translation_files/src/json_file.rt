@@ -1,0 +1,235 @@
+//! JSON files of messages: ARB, i18next, others whose texts are ICU patterns, documents of messages,
+//! and what a tool tells of a file that isn't read here.
+
+mod android_arguments;
+mod android_message;
+mod android_number;
+mod arb_locale;
+mod count_text;
+mod document_places;
+mod fault;
+mod form_text;
+mod found_messages;
+mod icu_message;
+mod icu_scan;
+mod key_suffix;
+mod key_tree;
+mod line_count;
+mod members;
+mod message_keys;
+mod pattern_message;
+mod suffix_groups;
+mod suffix_message;
+mod text_bytes;
+mod texts;
+mod told;
+
+use crate::code::NoticeCode;
+use crate::counts::{Fate, FileCounts};
+use crate::file_messages::FileMessages;
+use crate::gathered::Gathered;
+use crate::locale_name::{Said, locale_of};
+use arb_locale::locale_of_name;
+use document_places::{PlacesFound, places_of_document};
+use fault::tell_fault;
+use found_messages::{add_found, messages_in, tell_repeated};
+use icu_plurals::PluralRuleType;
+use json::Scratch;
+use message_report::RulesOfLocales;
+use serde_json::{Map, Value};
+use std::alloc::{AllocError, Global};
+use std::str;
+use texts::{JsonTexts, json_texts};
+use told::{ToldFile, add_notices, add_told, told_file};
+
+/// Reads a JSON file of messages.
+///
+/// A document of messages ([`is_document`]) is returned as it is, with the lines of its messages. Of
+/// what `tools/translation-input` prints, the file's own name and lines are told. Else the texts are
+/// read: keys are nested by dots, and one that begins with `@` is none; texts whose keys have
+/// i18next's suffixes, as `files_one` and `files_ordinal_few`, are a message, in which `{{count}}`
+/// is the number; an ICU pattern of one plural argument is one, in which `#` and `{n}` are, and
+/// another pattern with plurals is checked as it is. The locale is that of `@@locale`, else of the
+/// file's name, as `ru.json` or `app_ru.arb`, or of its folders; `locale` overrides these.
+///
+/// What is wrong with the file or a message is a notice with its line, and everything else is read.
+/// It allocates; the only error is out of memory.
+pub fn read_json<S: RulesOfLocales>(
+    alloc: Global,
+    name: &str,
+    bytes: &[u8],
+    rules: &S,
+    locale: Option<&str>,
+) -> Result<FileMessages, AllocError> {
+    let bytes = without_mark(bytes);
+    match Value::from_slice(alloc, bytes) {
+        Ok(value) => read_value(alloc, name, bytes, value, rules, locale),
+        Err(fault) if fault.is_memory() => Err(AllocError),
+        Err(fault) => {
+            let mut gathered = Gathered::new(alloc);
+            tell_fault(&mut gathered, bytes, &fault)?;
+            gathered.finish()
+        }
+    }
+}
+
+/// Returns whether a JSON value is a document of messages, as [`message_report::found_in_files`]
+/// takes it: no file of texts. It is if it isn't an object, or is empty, or a member is an object
+/// that has a part `cardinal` or `ordinal` with members, or no members but parts.
+pub fn is_document(value: &Value) -> bool {
+    let Value::Object(members) = value else {
+        return true;
+    };
+    if members.contains_key("@@locale") || members.contains_key("@@file") {
+        return false;
+    }
+    for (_, locale) in members.iter() {
+        if let Value::Object(parts) = locale {
+            if has_parts(parts) {
+                return true;
+            }
+        }
+    }
+    members.is_empty()
+}
+
+// Whether the members of a locale are parts of a document.
+fn has_parts(parts: &Map<String, Value>) -> bool {
+    let mut are_parts = !parts.is_empty();
+    for (key, part) in parts.iter() {
+        match key.as_str() {
+            "cardinal" | "ordinal" => {
+                if let Value::Object(_) = part {
+                    return true;
+                }
+            }
+            "source" | "patterns" => (),
+            _ => are_parts = false,
+        }
+    }
+    are_parts
+}
+
+// The bytes behind the mark of UTF-8 at their front, if it is there.
+fn without_mark(bytes: &[u8]) -> &[u8] {
+    match bytes {
+        [0xef, 0xbb, 0xbf, rest @ ..] => rest,
+        _ => bytes,
+    }
+}
+
+// Keeps the locale that is named, else that of a file's name. If it isn't known, tells so and how
+// many messages are left out, and returns false.
+fn keep_locale<S: RulesOfLocales>(
+    gathered: &mut Gathered,
+    rules: &S,
+    named: Option<&str>,
+    name: &str,
+    count: u64,
+) -> Result<bool, AllocError> {
+    let alloc = gathered.alloc;
+    match locale_of(alloc, named, name, rules)? {
+        Said::Locale(locale) => {
+            gathered.locale = locale;
+            Ok(true)
+        }
+        Said::Fault(fault) => {
+            let text = format!(in alloc; "{fault}; messages left out: {count}")?;
+            gathered.tell(None, NoticeCode::Language, text)?;
+            gathered.count(Fate::LeftOut, count)?;
+            Ok(false)
+        }
+    }
+}
+
+// Whether a language has a form zero of its own, or isn't known.
+fn has_zero<S: RulesOfLocales>(rules: &S, locale: &str) -> bool {
+    match rules.rules_of(PluralRuleType::Cardinal, locale) {
+        Some(rules) => rules.zero.is_some(),
+        None => true,
+    }
+}
+
+// Reads a file, given its bytes and its value.
+fn read_value<S: RulesOfLocales>(
+    alloc: Global,
+    name: &str,
+    bytes: &[u8],
+    value: Value,
+    rules: &S,
+    locale: Option<&str>,
+) -> Result<FileMessages, AllocError> {
+    let Ok(text) = str::from_utf8(bytes) else {
+        return Gathered::new(alloc).finish();
+    };
+    let mut scratch = Scratch::new(alloc);
+    if is_document(&value) {
+        let found = places_of_document(alloc, text, &mut scratch)?;
+        return placed_document(alloc, value, found);
+    }
+    if let Some(told) = told_file(&value) {
+        return read_told(alloc, &value, told, rules, locale);
+    }
+    let texts = json_texts(alloc, text, &mut scratch)?;
+    read_texts(alloc, name, &texts, rules, locale)
+}
+
+// A document with the places of its messages.
+fn placed_document(
+    alloc: Global,
+    document: Value,
+    found: PlacesFound,
+) -> Result<FileMessages, AllocError> {
+    let mut counts = FileCounts::none();
+    let PlacesFound { places, count } = found;
+    counts.add(Fate::Checked, count)?;
+    Ok(FileMessages {
+        name: None,
+        document,
+        places,
+        notices: Vec::new(alloc),
+        counts,
+    })
+}
+
+// Reads what a tool tells of a file.
+fn read_told<S: RulesOfLocales>(
+    alloc: Global,
+    value: &Value,
+    told: ToldFile<'_>,
+    rules: &S,
+    locale: Option<&str>,
+) -> Result<FileMessages, AllocError> {
+    let mut gathered = Gathered::new(alloc);
+    add_notices(&mut gathered, value)?;
+    let named = locale.or(told.locale);
+    let count = told.messages.len() as u64;
+    if count > 0 && keep_locale(&mut gathered, rules, named, told.name, count)? {
+        add_told(&mut gathered, told.messages)?;
+    }
+    let mut messages = gathered.finish()?;
+    messages.name = Some(String::from_str(alloc, told.name)?);
+    Ok(messages)
+}
+
+// Reads the texts of a file.
+fn read_texts<S: RulesOfLocales>(
+    alloc: Global,
+    name: &str,
+    texts: &JsonTexts<'_>,
+    rules: &S,
+    locale: Option<&str>,
+) -> Result<FileMessages, AllocError> {
+    let found = messages_in(alloc, texts)?;
+    let mut gathered = Gathered::new(alloc);
+    tell_repeated(&mut gathered, &texts.keys, &texts.repeated)?;
+    let named = locale.or(texts.locale).or(locale_of_name(name, rules));
+    let count = found.count();
+    if count == 0 {
+        gathered.note_no_messages()?;
+    } else if keep_locale(&mut gathered, rules, named, name, count)? {
+        let has_zero = has_zero(rules, gathered.locale.as_str());
+        add_found(&mut gathered, &texts.keys, &found, has_zero)?;
+    }
+    gathered.finish()
+}

@@ -1,0 +1,123 @@
+//! The texts of i18next that are forms of one message: their keys differ in the suffix alone.
+
+use crate::json_file::key_suffix::{SuffixedKey, suffixed_key};
+use crate::json_file::key_tree::{KeyTree, Piece, ROOT};
+use crate::json_file::texts::JsonText;
+use icu_plurals::PluralCategory;
+use std::alloc::{AllocError, Global};
+use std::collections::BTreeMap;
+
+// What the keys of such texts have in common.
+#[derive(Clone, Copy, Debug, PartialEq, Eq, PartialOrd, Ord)]
+pub(crate) struct GroupName<'a> {
+    pub(crate) base: Piece<'a>,
+    pub(crate) is_ordinal: bool,
+}
+
+// A form.
+#[derive(Clone, Copy)]
+pub(crate) struct GroupForm<'a> {
+    pub(crate) category: PluralCategory,
+    pub(crate) text: &'a str,
+    pub(crate) line: u64,
+}
+
+// The forms of a message, in the order of the file.
+#[derive(Drop)]
+pub(crate) struct Group<'a> {
+    pub(crate) name: GroupName<'a>,
+    pub(crate) line: u64,
+    pub(crate) forms: Vec<GroupForm<'a>>,
+}
+
+// The messages of a file.
+#[derive(Drop)]
+pub(crate) struct Groups<'a> {
+    alloc: Global,
+    groups: Vec<Group<'a>>,
+    known: BTreeMap<GroupName<'a>, usize>,
+}
+
+impl<'a> Groups<'a> {
+    // No message yet.
+    pub(crate) fn new(alloc: Global) -> Groups<'a> {
+        Groups {
+            alloc,
+            groups: Vec::new(alloc),
+            known: BTreeMap::new(alloc),
+        }
+    }
+
+    // The messages, in the order of the file.
+    pub(crate) fn into_groups(self) -> Vec<Group<'a>> {
+        let Groups {
+            alloc: _,
+            groups,
+            known,
+        } = self;
+        drop(known);
+        groups
+    }
+
+    // Takes a text, if its key has a suffix.
+    pub(crate) fn take(
+        &mut self,
+        keys: &KeyTree<'a>,
+        text: JsonText<'a>,
+    ) -> Result<(), AllocError> {
+        let Some(piece) = keys.piece(text.place) else {
+            return Ok(());
+        };
+        let Some(key) = suffixed_key(piece.parent == ROOT, piece.name) else {
+            return Ok(());
+        };
+        self.add(piece.parent, key, text)
+    }
+
+    // Adds a form to its message.
+    fn add(
+        &mut self,
+        parent: usize,
+        key: SuffixedKey<'a>,
+        text: JsonText<'a>,
+    ) -> Result<(), AllocError> {
+        let name = GroupName {
+            base: Piece {
+                parent,
+                name: key.base,
+            },
+            is_ordinal: key.is_ordinal,
+        };
+        let index = self.index(name, text.line)?;
+        let Some(group) = self.groups.get_mut(index) else {
+            return Ok(());
+        };
+        group.forms.push(GroupForm {
+            category: key.category,
+            text: text.text,
+            line: text.line,
+        })?;
+        Ok(())
+    }
+
+    // The index of a message, which is added if it is new.
+    fn index(&mut self, name: GroupName<'a>, line: u64) -> Result<usize, AllocError> {
+        let next = self.groups.len();
+        let index = *self.known.entry(name)?.or_insert(next);
+        if index == next {
+            let forms = Vec::new(self.alloc);
+            self.groups.push(Group { name, line, forms })?;
+        }
+        Ok(index)
+    }
+}
+
+impl<'a> Group<'a> {
+    // Whether it is one form, which isn't other: then its suffix may be none.
+    pub(crate) fn is_doubtful(&self) -> bool {
+        match self.forms.as_slice() {
+            [form] => form.category != PluralCategory::Other,
+            _ => false,
+        }
+    }
+}

@@ -1,0 +1,112 @@
+//! The texts of a JSON file, by their keys.
+
+use crate::json_file::key_tree::{KeyTree, ROOT};
+use crate::json_file::members::{Member, MemberValue, Members};
+use json::Scratch;
+use std::alloc::{AllocError, Global};
+
+// A text, at the place of its key.
+#[derive(Clone, Copy)]
+pub(crate) struct JsonText<'a> {
+    pub(crate) place: usize,
+    pub(crate) text: &'a str,
+    pub(crate) line: u64,
+}
+
+// A key that stands again.
+#[derive(Clone, Copy)]
+pub(crate) struct Repeated {
+    pub(crate) place: usize,
+    pub(crate) line: u64,
+}
+
+// The texts of a file, in their order; of a key that stands twice, the first one.
+#[derive(Drop)]
+pub(crate) struct JsonTexts<'a> {
+    pub(crate) keys: KeyTree<'a>,
+    pub(crate) texts: Vec<JsonText<'a>>,
+    pub(crate) repeated: Vec<Repeated>,
+    // What `@@locale` says.
+    pub(crate) locale: Option<&'a str>,
+    // The places of the objects around the next member.
+    open: Vec<usize>,
+}
+
+// The texts of a JSON text.
+pub(crate) fn json_texts<'a>(
+    alloc: Global,
+    text: &'a str,
+    scratch: &'a mut Scratch,
+) -> Result<JsonTexts<'a>, AllocError> {
+    let mut members = Members::of(text, scratch)?;
+    let mut texts = JsonTexts::new(alloc)?;
+    while let Some(member) = members.next() {
+        if is_note(member.key) {
+            texts.take_note(member);
+            if let MemberValue::Object = member.value {
+                members.pass_object();
+            }
+        } else {
+            texts.take(member)?;
+        }
+    }
+    Ok(texts)
+}
+
+// Whether a key is that of a note on a message, or on the file, as ARB has them.
+fn is_note(key: &str) -> bool {
+    key.starts_with("@")
+}
+
+impl<'a> JsonTexts<'a> {
+    fn new(alloc: Global) -> Result<JsonTexts<'a>, AllocError> {
+        Ok(JsonTexts {
+            keys: KeyTree::new(alloc)?,
+            texts: Vec::new(alloc),
+            repeated: Vec::new(alloc),
+            locale: None,
+            open: Vec::new(alloc),
+        })
+    }
+
+    // Takes what a note says of the file.
+    fn take_note(&mut self, note: Member<'a>) {
+        if note.depth == 0 && note.key == "@@locale" && self.locale.is_none() {
+            if let MemberValue::Text(locale) = note.value {
+                self.locale = Some(locale);
+            }
+        }
+    }
+
+    // Takes a member.
+    fn take(&mut self, member: Member<'a>) -> Result<(), AllocError> {
+        self.open.truncate(member.depth);
+        let parent = self.open.last().copied().unwrap_or(ROOT);
+        match member.value {
+            MemberValue::Object => {
+                let place = self.keys.place_of(parent, member.key)?;
+                self.open.push(place)?;
+                Ok(())
+            }
+            MemberValue::Text(text) => self.take_text(parent, member, text),
+            MemberValue::Other => Ok(()),
+        }
+    }
+
+    // Takes a text.
+    fn take_text(
+        &mut self,
+        parent: usize,
+        member: Member<'a>,
+        text: &'a str,
+    ) -> Result<(), AllocError> {
+        let place = self.keys.place_of(parent, member.key)?;
+        let line = member.line;
+        if self.keys.keep_line(place, line).is_some() {
+            self.repeated.push(Repeated { place, line })?;
+        } else {
+            self.texts.push(JsonText { place, text, line })?;
+        }
+        Ok(())
+    }
+}

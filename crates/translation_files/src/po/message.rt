@@ -1,0 +1,229 @@
+//! The messages of a catalog, compared and put into the document.
+
+use crate::code::NoticeCode;
+use crate::counts::Fate;
+use crate::gathered::{Gathered, Message, Note};
+use crate::lines::{FormLine, MessageKind, MessageLines};
+use crate::po::compared::{Sides, Times, compare, line_of};
+use crate::po::header::Forms;
+use crate::po::indices::Indices;
+use crate::po::standing::{Standing, standing_of};
+use message_report::Form;
+use po_catalog::{Catalog, Entry, Text};
+use serde_json::{Map, Value, put};
+use std::alloc::{AllocError, Global};
+
+// Adds the messages of a catalog.
+pub(crate) fn add_messages(
+    gathered: &mut Gathered,
+    catalog: &Catalog,
+    forms: Forms,
+) -> Result<(), AllocError> {
+    for entry in catalog.entries.iter() {
+        if let Standing::Whole = standing_of(entry) {
+            add_message(gathered, entry, &forms)?;
+        }
+    }
+    Ok(())
+}
+
+// Compares the messages of a catalog that aren't in the document.
+pub(crate) fn compare_messages(
+    gathered: &mut Gathered,
+    catalog: &Catalog,
+    indices: Option<Indices>,
+) -> Result<(), AllocError> {
+    for entry in catalog.entries.iter() {
+        if let Standing::Whole = standing_of(entry) {
+            compare_alone(gathered, entry, &indices)?;
+        }
+    }
+    Ok(())
+}
+
+// What is told of a message with more forms than its catalog has.
+fn too_many_forms(alloc: Global, entry: &Entry, count: u64) -> Result<Option<Note>, AllocError> {
+    if entry.forms.len() as u64 <= count {
+        return Ok(None);
+    }
+    let text = format!(in alloc;
+        "it has msgstr[{count}], and the file's nplurals is {count}: remove the form, or correct Plural-Forms"
+    )?;
+    let code = NoticeCode::Indices;
+    Ok(Some(Note { code, text }))
+}
+
+// Tells what is wrong with a message that isn't in the document.
+fn compare_alone(
+    gathered: &mut Gathered,
+    entry: &Entry,
+    indices: &Option<Indices>,
+) -> Result<(), AllocError> {
+    let times = match indices {
+        Some(indices) => {
+            if let Some(note) = too_many_forms(gathered.alloc, entry, indices.count)? {
+                return gathered.tell(Some(entry.line as u64), note.code, note.text);
+            }
+            Times::Known(indices.times.as_slice())
+        }
+        None => Times::Unknown,
+    };
+    match compare(gathered, entry, times, false)? {
+        Err(note) => gathered.tell(Some(entry.line as u64), note.code, note.text),
+        Ok(sides) => match times {
+            Times::Known(times) => tell_missing(gathered, entry, &sides, times, &[]),
+            Times::Unknown => Ok(()),
+        },
+    }
+}
+
+// Tells the first form that numbers have and that has no text. A text that is missing and is the
+// form of a category is told by the rules.
+fn tell_missing(
+    gathered: &mut Gathered,
+    entry: &Entry,
+    sides: &Sides,
+    times: &[u64],
+    of_categories: &[u64],
+) -> Result<(), AllocError> {
+    for (index, count) in times.iter().enumerate() {
+        let index = index as u64;
+        let is_missing = *count > 0 && text_at(sides.texts.as_slice(), index).is_empty();
+        if is_missing && !of_categories.contains(&index) {
+            let text = format!(in gathered.alloc; "msgstr[{index}] has no text: translate it")?;
+            return gathered.tell(
+                line_of(entry, index as usize),
+                NoticeCode::NotTranslated,
+                text,
+            );
+        }
+    }
+    Ok(())
+}
+
+// Adds a message, or tells why it is left out.
+fn add_message(gathered: &mut Gathered, entry: &Entry, forms: &Forms) -> Result<(), AllocError> {
+    let alloc = gathered.alloc;
+    if let Some(note) = too_many_forms(alloc, entry, forms.indices.count)? {
+        return leave_out(gathered, entry, note);
+    }
+    let times = forms.indices.times.as_slice();
+    let sides = match compare(gathered, entry, Times::Known(times), true)? {
+        Ok(sides) => sides,
+        Err(note) => return leave_out(gathered, entry, note),
+    };
+    let of_categories = indices_of_categories(alloc, forms)?;
+    tell_missing(gathered, entry, &sides, times, of_categories.as_slice())?;
+    let key = key_of(alloc, entry)?;
+    let Sides {
+        texts,
+        source,
+        placeholder,
+        note,
+    } = sides;
+    let lines = MessageLines {
+        line: entry.line as u64,
+        forms: lines_of(alloc, entry, forms)?,
+        placeholder,
+    };
+    let message = Message {
+        value: forms_value(alloc, forms, texts.as_slice())?,
+        source: Some(source),
+        lines,
+        note,
+    };
+    gathered.add(MessageKind::Cardinal, key.as_str(), message)
+}
+
+// Tells why a message is left out.
+fn leave_out(gathered: &mut Gathered, entry: &Entry, note: Note) -> Result<(), AllocError> {
+    gathered.tell(Some(entry.line as u64), note.code, note.text)?;
+    gathered.count(Fate::LeftOut, 1)
+}
+
+// The indices of the forms of categories.
+fn indices_of_categories(alloc: Global, forms: &Forms) -> Result<Vec<u64>, AllocError> {
+    let mut indices = Vec::new(alloc);
+    for it in forms.laid.forms.iter() {
+        if let Form::Category(_) = it.form {
+            indices.push(it.index)?;
+        }
+    }
+    Ok(indices)
+}
+
+// The key of a message: its context and its id.
+fn key_of(alloc: Global, entry: &Entry) -> Result<String, AllocError> {
+    let mut key = String::new(alloc);
+    if let Some(context) = &entry.context {
+        push_text(&mut key, context)?;
+        key.push('|')?;
+    }
+    if let Some(id) = &entry.id {
+        push_text(&mut key, id)?;
+    }
+    Ok(key)
+}
+
+// Appends a text.
+fn push_text(key: &mut String, text: &Text) -> Result<(), AllocError> {
+    key.push_str(text.as_str().unwrap_or(""))
+}
+
+// The texts of a message under the names of their forms. Where exactly 0 or 1 has a form of its own
+// without a text, none is shown. A category that no number has takes the last text: gettext's
+// numbers are whole.
+fn forms_value(alloc: Global, forms: &Forms, texts: &[String]) -> Result<Value, AllocError> {
+    let mut members = Map::new(alloc);
+    for it in forms.laid.forms.iter() {
+        let text = text_at(texts, it.index);
+        let is_own = !matches!(it.form, Form::Category(_));
+        if is_own || !text.is_empty() {
+            let value = Value::try_from_str(alloc, text)?;
+            put(&mut members, alloc, it.form.as_str(), value)?;
+        }
+    }
+    let last = last_text(texts);
+    for category in forms.laid.unused.iter() {
+        let value = Value::try_from_str(alloc, last)?;
+        put(
+            &mut members,
+            alloc,
+            Form::Category(*category).as_str(),
+            value,
+        )?;
+    }
+    Ok(Value::Object(members))
+}
+
+// The text at an index, empty if there is none.
+fn text_at(texts: &[String], index: u64) -> &str {
+    match texts.get(index as usize) {
+        Some(text) => text.as_str(),
+        None => "",
+    }
+}
+
+// The last text that isn't empty.
+fn last_text(texts: &[String]) -> &str {
+    let mut last = "";
+    for it in texts {
+        if !it.is_empty() {
+            last = it.as_str();
+        }
+    }
+    last
+}
+
+// The lines of the forms of a message.
+fn lines_of(alloc: Global, entry: &Entry, forms: &Forms) -> Result<Vec<FormLine>, AllocError> {
+    let mut lines = Vec::new(alloc);
+    for it in forms.laid.forms.iter() {
+        if let Some(text) = entry.forms.get(it.index as usize) {
+            let form = it.form;
+            let line = text.line as u64;
+            lines.push(FormLine { form, line })?;
+        }
+    }
+    Ok(lines)
+}

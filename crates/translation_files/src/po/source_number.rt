@@ -1,0 +1,267 @@
+//! Which argument of a message's source is the number.
+
+use crate::po::read_text::{Read, directive};
+use format_arguments::{Argument, Kind, Name, number_of};
+use std::alloc::{AllocError, Global};
+use std::str;
+
+// Whether two names are one.
+pub(crate) fn is_same_name(one: &Name<'_>, other: &Name<'_>) -> bool {
+    match (one, other) {
+        (Name::Place(one), Name::Place(other)) => *one == *other,
+        (Name::Word(one), Name::Word(other)) => *one == *other,
+        _ => false,
+    }
+}
+
+// The first argument of a name.
+pub(crate) fn find_name<'a, 't>(
+    items: &'a [Argument<'t>],
+    name: &Name<'_>,
+) -> Option<&'a Argument<'t>> {
+    for it in items {
+        if is_same_name(&it.name, name) {
+            return Some(it);
+        }
+    }
+    None
+}
+
+// The first argument of each name.
+pub(crate) fn unique<'t>(
+    alloc: Global,
+    items: &[Argument<'t>],
+) -> Result<Vec<Argument<'t>>, AllocError> {
+    let mut first = Vec::new(alloc);
+    for it in items {
+        if find_name(first.as_slice(), &it.name).is_none() {
+            first.push(*it)?;
+        }
+    }
+    Ok(first)
+}
+
+// What an argument of a text is, its style in braces considered.
+fn kind_in(read: &Read<'_>, argument: &Argument<'_>) -> Kind {
+    match argument.kind {
+        Kind::Unknown => kind_of_style(directive(read.text, argument)),
+        kind => kind,
+    }
+}
+
+// What a directive in braces says by its style, as `{size:d}` and `{0,number}`.
+fn kind_of_style(directive: &[u8]) -> Kind {
+    match directive {
+        [b'{', .., b'}'] if directive.contains(&b':') => kind_of_letter(directive),
+        [b'{', .., b'}'] if names_number(directive) => Kind::Integer,
+        _ => Kind::Unknown,
+    }
+}
+
+// What Python's style says by its last letter.
+fn kind_of_letter(directive: &[u8]) -> Kind {
+    match directive {
+        [.., b'd' | b'b' | b'o' | b'x' | b'X', _] => Kind::Integer,
+        [.., b'e' | b'E' | b'f' | b'F' | b'g' | b'G' | b'%', _] => Kind::Number,
+        _ => Kind::Unknown,
+    }
+}
+
+// Whether Java's style is that of a number.
+fn names_number(directive: &[u8]) -> bool {
+    let Some((_, style)) = str::from_utf8(directive).unwrap_or("").split_once(',') else {
+        return false;
+    };
+    let style = style.trim_start();
+    style.starts_with("number") || style.starts_with("choice")
+}
+
+// Whether an argument is an integer.
+fn is_integer(read: &Read<'_>, argument: &Argument<'_>) -> bool {
+    matches!(kind_in(read, argument), Kind::Integer | Kind::Unsigned)
+}
+
+// Whether a directive doesn't say what it converts.
+fn is_unknown(read: &Read<'_>, argument: &Argument<'_>) -> bool {
+    matches!(kind_in(read, argument), Kind::Unknown)
+}
+
+// Whether an argument has the name of a number.
+fn has_numbers_name(argument: &Argument<'_>) -> bool {
+    match argument.name {
+        Name::Place(_) => false,
+        Name::Word(_) => {
+            // The text with this argument alone, of which nothing else is known.
+            let mut alone = *argument;
+            alone.kind = Kind::Unknown;
+            number_of(&[alone], &[alone]).is_some()
+        }
+    }
+}
+
+// What shows that an argument is the number.
+#[derive(Clone, Copy)]
+enum Sign {
+    Integer,
+    // It has a number's name.
+    Named,
+    // It says nothing of what it converts, and the singular lacks it.
+    Lacking,
+    // An integer that the singular lacks.
+    LackingInteger,
+    // An integer whose next word is another one in the singular.
+    ChangingInteger,
+    // An integer with a number's name.
+    NamedInteger,
+}
+
+// The texts of a source.
+#[derive(Clone, Copy)]
+struct Source<'a, 't> {
+    plural: &'a Read<'t>,
+    singular: &'a Read<'t>,
+}
+
+impl<'t> Source<'_, 't> {
+    // Whether the singular lacks an argument.
+    fn lacks(&self, argument: &Argument<'_>) -> bool {
+        find_name(self.singular.items.as_slice(), &argument.name).is_none()
+    }
+
+    // Whether an argument of the plural shows that it is the number.
+    fn shows(&self, sign: Sign, argument: &Argument<'_>) -> bool {
+        match sign {
+            Sign::Integer => is_integer(self.plural, argument),
+            Sign::Named => has_numbers_name(argument),
+            Sign::Lacking => is_unknown(self.plural, argument) && self.lacks(argument),
+            Sign::LackingInteger => is_integer(self.plural, argument) && self.lacks(argument),
+            Sign::ChangingInteger => {
+                is_integer(self.plural, argument) && changes(argument, self.plural, self.singular)
+            }
+            Sign::NamedInteger => is_integer(self.plural, argument) && has_numbers_name(argument),
+        }
+    }
+
+    // How many arguments show so.
+    fn count(&self, sign: Sign, items: &[Argument<'_>]) -> usize {
+        items.iter().filter(|it| self.shows(sign, *it)).count()
+    }
+
+    // The only argument that shows so; none if there are none or several.
+    fn only(&self, sign: Sign, items: &[Argument<'t>]) -> Option<Name<'t>> {
+        if self.count(sign, items) != 1 {
+            return None;
+        }
+        self.first(sign, items)
+    }
+
+    // The first argument that shows so.
+    fn first(&self, sign: Sign, items: &[Argument<'t>]) -> Option<Name<'t>> {
+        for it in items {
+            if self.shows(sign, it) {
+                return Some(it.name);
+            }
+        }
+        None
+    }
+
+    // The one of several integers that is the number: the only one that the singular lacks, or whose
+    // next word is another one there; if there are both, a number's name decides. Else the first.
+    fn of_integers(&self, items: &[Argument<'t>]) -> Option<Name<'t>> {
+        let lacking = self.count(Sign::LackingInteger, items);
+        let changing = self.count(Sign::ChangingInteger, items);
+        if lacking > 0 && changing > 0 {
+            return self.only(Sign::NamedInteger, items);
+        }
+        let found = self.only(Sign::LackingInteger, items);
+        let found = found.or(self.only(Sign::ChangingInteger, items));
+        let found = found.or(self.only(Sign::NamedInteger, items));
+        found.or(self.first(Sign::Integer, items))
+    }
+
+    // The one of some arguments, none of which is an integer.
+    fn of_others(&self, items: &[Argument<'t>]) -> Option<Name<'t>> {
+        let named = self.only(Sign::Named, items);
+        let found = named.or(self.only(Sign::Lacking, items));
+        found.or(number_alone(self.plural, items))
+    }
+}
+
+// The name of the argument that is the number, and none if there is none or it isn't clear which.
+pub(crate) fn number_in<'t>(
+    alloc: Global,
+    kept: &[Argument<'t>],
+    plural: &Read<'t>,
+    singular: &Read<'t>,
+) -> Result<Option<Name<'t>>, AllocError> {
+    let distinct = unique(alloc, kept)?;
+    let items = distinct.as_slice();
+    let source = Source { plural, singular };
+    match source.count(Sign::Integer, items) {
+        0 => Ok(source.of_others(items)),
+        1 => Ok(source.only(Sign::Integer, items)),
+        _ => Ok(source.of_integers(items)),
+    }
+}
+
+// The number, if it is the only argument, and has a place.
+fn number_alone<'t>(plural: &Read<'_>, items: &[Argument<'t>]) -> Option<Name<'t>> {
+    match items {
+        [only] if is_unknown(plural, only) => match only.name {
+            Name::Place(_) => Some(only.name),
+            Name::Word(_) => None,
+        },
+        _ => None,
+    }
+}
+
+// Whether the word behind an argument is another one in the singular.
+fn changes(argument: &Argument<'_>, plural: &Read<'_>, singular: &Read<'_>) -> bool {
+    match word_behind(singular, &argument.name) {
+        Some(word) => word_behind(plural, &argument.name) != Some(word),
+        None => false,
+    }
+}
+
+// The word behind the last argument of a name, before the next argument; empty if there is none, and
+// `None` if there is no such argument.
+fn word_behind<'t>(read: &Read<'t>, name: &Name<'_>) -> Option<&'t [u8]> {
+    let mut word = None;
+    for (index, it) in read.items.iter().enumerate() {
+        if is_same_name(&it.name, name) {
+            let end = match read.items.get(index.saturating_add(1)) {
+                Some(next) => next.start,
+                None => read.text.len(),
+            };
+            word = Some(first_word(read.text.get(it.end..end).unwrap_or(b"")));
+        }
+    }
+    word
+}
+
+// How many bytes a word stands behind its argument at most.
+const MOST_BEHIND: usize = 100;
+
+// The first word of a text, which isn't between `<` and `>`.
+fn first_word(text: &[u8]) -> &[u8] {
+    let mut is_tag = false;
+    let mut start = None;
+    for (index, byte) in text.iter().enumerate().take(MOST_BEHIND) {
+        let is_letter = !is_tag && is_of_word(*byte);
+        match start {
+            None if is_letter => start = Some(index),
+            Some(start) if !is_letter => return text.get(start..index).unwrap_or(b""),
+            _ => (),
+        }
+        is_tag = *byte == b'<' || is_tag && *byte != b'>';
+    }
+    match start {
+        Some(start) => text.get(start..).unwrap_or(b""),
+        None => b"",
+    }
+}
+
+// Whether a byte is of a word: a letter, a digit or `_`, or one of a character that isn't ASCII.
+fn is_of_word(byte: u8) -> bool {
+    byte.is_ascii_alphanumeric() || byte == b'_' || byte >= 128
+}

@@ -1,0 +1,79 @@
+"""What plural_forms reads of files that it doesn't read itself: a JSON text of an Android file, and UTF-8 of another charset."""
+import codecs
+import json
+import re
+
+from .android import Resources, is_reference, key_of, locale_of_folder, texts_of_plurals
+from .catalogs import CHARSET
+from .lines import Fault, shown
+
+# The charset of a gettext file, as its header names it.
+NAMED = re.compile(rb"(Content-Type:[^\"\n]{0,99}charset=)([^\s\\\"]{1,60})")
+WIDE = (codecs.BOM_UTF16_LE, codecs.BOM_UTF16_BE)
+
+
+def notice(line, code, text, severity="error", left_out=0):
+    """Returns what is told of a file, or of a message that is left out."""
+    return {"line": line, "severity": severity, "code": code, "text": text, **({"left_out": left_out} if left_out else {})}
+
+
+def told_plurals(plurals, more):
+    """Returns a message; raises a fault if it can't be read."""
+    key = key_of(plurals, more)
+    texts = texts_of_plurals(plurals, shown(key))
+    if is_reference(texts):
+        return None
+    lines = {it.quantity: it.line for it in plurals.items}
+    forms = {name: {"line": lines[name], "text": text} for name, text in texts.items()}
+    return {"key": key, "line": plurals.line, "type": "cardinal", "forms": forms}
+
+
+def told_android(data, path):
+    """Returns the JSON text that tells the messages of an Android file, with their lines, and what is wrong with it."""
+    resources = Resources(data)
+    locale, more = locale_of_folder(path)
+    messages, notices = [], []
+    if resources.fault:
+        notices.append(notice(resources.fault[0], "syntax", resources.fault[1]))
+    elif resources.root != "resources":
+        notices.append(notice(None, "not-read", "it is no file of messages: name a file of gettext, Android, i18next or ARB"))
+    for it in resources.found:
+        try:
+            message = told_plurals(it, more)
+        except Fault as fault:
+            notices.append(notice(it.line, "syntax", str(fault), left_out=1))
+            continue
+        if message is None:
+            notices.append(notice(it.line, "left-out", f"{shown(key_of(it, more))} refers to another resource: left out", "note", 1))
+        else:
+            messages.append(message)
+    told = {"@@file": path, **({"@@locale": locale} if locale else {}), "messages": messages, "notices": notices}
+    return json.dumps(told, ensure_ascii=False, indent=1).encode("utf-8", "backslashreplace") + b"\n"
+
+
+def codec_of(data):
+    """Returns the codec of a gettext file in another charset than UTF-8, and none for all others."""
+    named = NAMED.search(data)
+    try:
+        codec = codecs.lookup(named[2].decode("ascii", "replace")).name if named else "utf-8"
+    except (LookupError, ValueError):
+        return None
+    return codec if codec != "utf-8" and re.fullmatch(CHARSET, codec) else None
+
+
+def in_utf8(data):
+    """Returns a text in UTF-8, line by line, and its header with that charset. What can't be read stays as it is."""
+    codec = "utf-16" if data.startswith(WIDE) else codec_of(data)
+    if codec is None:
+        return data
+    try:
+        text = data.decode(codec).encode("utf-8")
+    except UnicodeError:
+        return data
+    return NAMED.sub(rb"\1UTF-8", text, count=1)
+
+
+def input_of(data, path):
+    """Returns what plural_forms reads of the bytes of a file."""
+    first = (in_utf8(data) if data.startswith(WIDE) else data.removeprefix(codecs.BOM_UTF8)).lstrip()[:1]
+    return told_android(data, path) if first == b"<" else in_utf8(data)
