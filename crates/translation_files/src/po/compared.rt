@@ -110,10 +110,10 @@ pub(crate) fn compare(
         _ => unshared(alloc, plural.items.as_slice())?,
     };
     let number = number_in(alloc, kept.as_slice(), &plural, &singular)?;
-    if matches!(format, TextFormat::Flagged(_))
+    let is_told = matches!(format, TextFormat::Flagged(_))
         && singular.fault.is_none()
-        && plural.fault.is_none()
-    {
+        && plural.fault.is_none();
+    if is_told {
         let compared = Compared {
             singular: &singular,
             plural: &plural,
@@ -122,7 +122,7 @@ pub(crate) fn compare(
         tell_mistakes(gathered, entry, &compared, forms.as_slice(), times)?;
     }
     Ok(Ok(Sides {
-        texts: marked_texts(alloc, forms.as_slice(), kept.as_slice(), number)?,
+        texts: marked_texts(alloc, forms.as_slice(), kept.as_slice(), number, is_told)?,
         source: source_value(alloc, &plural, kept.as_slice(), number)?,
         placeholder: placeholder_of(alloc, &plural, kept.as_slice(), number)?,
         note: note_of(alloc, &plural, kept.as_slice(), number)?,
@@ -165,9 +165,7 @@ fn shared<'t>(
 
 // Whether a form has an argument of this name that converts the same.
 fn has_alike(form: &Read<'_>, argument: &Argument<'_>) -> bool {
-    form.items
-        .iter()
-        .any(|it| is_same_name(&it.name, &argument.name) && it.kind == argument.kind)
+    form.items.iter().any(|it| is_same_name(&it.name, &argument.name) && it.kind == argument.kind)
 }
 
 // All arguments of the plural.
@@ -208,16 +206,17 @@ pub(crate) fn line_of(entry: &Entry, index: usize) -> Option<u64> {
     }
 }
 
-// The texts of the forms, with `{}` for the number.
+// The texts of the forms, with `{}` for the number, also where another conversion of it is told.
 fn marked_texts(
     alloc: Global,
     forms: &[Read<'_>],
     kept: &[Argument<'_>],
     number: Option<Name<'_>>,
+    is_told: bool,
 ) -> Result<Vec<String>, AllocError> {
     let mut texts = Vec::new(alloc);
     for form in forms {
-        texts.push(marked(alloc, form, kept, number)?)?;
+        texts.push(marked(alloc, form, kept, number, is_told)?)?;
     }
     Ok(texts)
 }

@@ -6,19 +6,20 @@ use format_arguments::{Argument, Name, stands_for};
 use std::alloc::{AllocError, Global};
 use std::str;
 
-// A text with `{}` for its number, where an argument stands for one of the source, and `{ }` for any
-// other `{}`.
+// A text with `{}` for its number, where an argument stands for one of the source, or its other
+// conversion is told, and `{ }` for any other `{}`.
 pub(crate) fn marked(
     alloc: Global,
     read: &Read<'_>,
     source: &[Argument<'_>],
     number: Option<Name<'_>>,
+    is_told: bool,
 ) -> Result<String, AllocError> {
     let mut text = String::new(alloc);
     let mut end = 0usize;
     if let Some(number) = number {
         for it in read.items.iter() {
-            if is_same_name(&it.name, &number) && is_known(it, source) {
+            if is_same_name(&it.name, &number) && (is_told || is_known(it, source)) {
                 push_plain(&mut text, read.text.get(end..it.start).unwrap_or(b""))?;
                 text.push_str("{}")?;
                 end = it.end;
