@@ -46,7 +46,7 @@ flags_of C = codes "-+ #0'I"
 flags_of ObjectiveC = codes "-+ #0'I"
 flags_of Boost = codes "-+ #0'_="
 flags_of Python = codes "-+ #0"
-flags_of JavaScript = codes "-+ #0"
+flags_of JavaScript = codes "-+ #0I"
 flags_of _ = []
 
 -- the letters of which the size of an argument is written, as `ll`

@@ -14,7 +14,8 @@ pub(crate) fn flags_of(format: Format) -> &'static [u8]
     match format {
         Format::C | Format::ObjectiveC => b"-+ #0'I",
         Format::Boost => b"-+ #0'_=",
-        Format::Python | Format::JavaScript => b"-+ #0",
+        Format::Python => b"-+ #0",
+        Format::JavaScript => b"-+ #0I",
         _ => b"",
     }
 }
