@@ -5,7 +5,7 @@ use crate::lines::MessageKind;
 use crate::notice::FileNotice;
 use crate::places::Places;
 use icu_plurals::PluralRuleType;
-use message_report::{Form, Place};
+use message_report::{Form, MessagePlace, PatternPlace, Place};
 use serde_json::Value;
 
 /// The messages of a file, as a check of messages takes them, where they stand in it, and what is
@@ -68,6 +68,28 @@ impl FileMessages {
     }
 }
 
+impl<'a> Target<'a> {
+    // A message, or a form of it.
+    fn of_message(message: MessagePlace<'a>, form: Option<Form>) -> Target<'a> {
+        Target {
+            locale: message.locale.locale,
+            kind: kind_of(message.rule_type),
+            key: message.key,
+            form,
+        }
+    }
+
+    // A pattern.
+    fn of_pattern(pattern: PatternPlace<'a>) -> Target<'a> {
+        Target {
+            locale: pattern.locale.locale,
+            kind: MessageKind::Pattern,
+            key: pattern.key,
+            form: None,
+        }
+    }
+}
+
 // The message of a place, if it is of one.
 fn target_of<'a>(place: &Place<'a>) -> Option<Target<'a>> {
     match *place {
@@ -77,36 +99,14 @@ fn target_of<'a>(place: &Place<'a>) -> Option<Target<'a>> {
             key,
             form: None,
         }),
-        Place::Message(message) => Some(Target {
-            locale: message.locale.locale,
-            kind: kind_of(message.rule_type),
-            key: message.key,
-            form: None,
-        }),
-        Place::Form(message, form) => Some(Target {
-            locale: message.locale.locale,
-            kind: kind_of(message.rule_type),
-            key: message.key,
-            form: Some(form),
-        }),
-        Place::OtherKey(message, _) => Some(Target {
-            locale: message.locale.locale,
-            kind: kind_of(message.rule_type),
-            key: message.key,
-            form: None,
-        }),
-        Place::Pattern(pattern) => Some(Target {
-            locale: pattern.locale.locale,
-            kind: MessageKind::Pattern,
-            key: pattern.key,
-            form: None,
-        }),
-        Place::Argument(argument) | Place::Branch(argument, _) => Some(Target {
-            locale: argument.pattern.locale.locale,
-            kind: MessageKind::Pattern,
-            key: argument.pattern.key,
-            form: None,
-        }),
+        Place::Message(message) | Place::OtherKey(message, _) => {
+            Some(Target::of_message(message, None))
+        }
+        Place::Form(message, form) => Some(Target::of_message(message, Some(form))),
+        Place::Pattern(pattern) => Some(Target::of_pattern(pattern)),
+        Place::Argument(argument) | Place::Branch(argument, _) => {
+            Some(Target::of_pattern(argument.pattern))
+        }
         _ => None,
     }
 }

@@ -57,6 +57,13 @@ struct Source<'e> {
     plural: &'e [u8],
 }
 
+impl Source<'_> {
+    // Whether a text has more arguments than are read.
+    fn has_too_many(&self) -> bool {
+        has_too_many(self.singular) || has_too_many(self.plural)
+    }
+}
+
 // The texts of a message's source.
 fn source_of(entry: &Entry) -> Source<'_> {
     Source {
@@ -83,13 +90,7 @@ pub(crate) fn compare(
 ) -> Result<Result<Sides, Note>, AllocError> {
     let alloc = gathered.alloc;
     let source = source_of(entry);
-    if has_too_many(source.singular)
-        || (has_too_many(source.plural)
-            || entry
-                .forms
-                .iter()
-                .any(|it| has_too_many(it.bytes.as_slice())))
-    {
+    if source.has_too_many() || forms_have_too_many(entry) {
         let text = "a text has more than 64 arguments: cut it";
         let text = String::from_str(alloc, text)?;
         let code = NoticeCode::TooMany;
@@ -99,6 +100,56 @@ pub(crate) fn compare(
     if let TextFormat::Unread = format {
         return Ok(Ok(unread(alloc, entry)?));
     }
+    let texts = read_texts(alloc, entry, format, source)?;
+    let is_told = matches!(format, TextFormat::Flagged(_)) && texts.is_source_whole();
+    if is_told {
+        let compared = Compared {
+            singular: &texts.singular,
+            plural: &texts.plural,
+            number: if is_number_checked {
+                texts.number
+            } else {
+                None
+            },
+        };
+        tell_mistakes(gathered, entry, &compared, texts.forms.as_slice(), times)?;
+    }
+    Ok(Ok(sides_of(alloc, &texts, is_told)?))
+}
+
+// Whether a form has more arguments than are read.
+fn forms_have_too_many(entry: &Entry) -> bool {
+    entry
+        .forms
+        .iter()
+        .any(|it| has_too_many(it.bytes.as_slice()))
+}
+
+// The texts of a message, and their arguments.
+#[derive(Drop)]
+struct Texts<'e> {
+    singular: Read<'e>,
+    plural: Read<'e>,
+    forms: Vec<Read<'e>>,
+    // The arguments of the plural that are some.
+    kept: Vec<Argument<'e>>,
+    number: Option<Name<'e>>,
+}
+
+impl Texts<'_> {
+    // Whether no sign in the source begins an argument and is none.
+    fn is_source_whole(&self) -> bool {
+        self.singular.fault.is_none() && self.plural.fault.is_none()
+    }
+}
+
+// Reads the texts of a message.
+fn read_texts<'e>(
+    alloc: Global,
+    entry: &'e Entry,
+    format: TextFormat,
+    source: Source<'e>,
+) -> Result<Texts<'e>, AllocError> {
     let singular = read_text(alloc, format, source.singular)?;
     let plural = read_text(alloc, format, source.plural)?;
     let mut forms = Vec::new(alloc);
@@ -110,23 +161,25 @@ pub(crate) fn compare(
         _ => unshared(alloc, plural.items.as_slice())?,
     };
     let number = number_in(alloc, kept.as_slice(), &plural, &singular)?;
-    let is_told = matches!(format, TextFormat::Flagged(_))
-        && singular.fault.is_none()
-        && plural.fault.is_none();
-    if is_told {
-        let compared = Compared {
-            singular: &singular,
-            plural: &plural,
-            number: if is_number_checked { number } else { None },
-        };
-        tell_mistakes(gathered, entry, &compared, forms.as_slice(), times)?;
-    }
-    Ok(Ok(Sides {
-        texts: marked_texts(alloc, forms.as_slice(), kept.as_slice(), number, is_told)?,
-        source: source_value(alloc, &plural, kept.as_slice(), number)?,
-        placeholder: placeholder_of(alloc, &plural, kept.as_slice(), number)?,
-        note: note_of(alloc, &plural, kept.as_slice(), number)?,
-    }))
+    Ok(Texts {
+        singular,
+        plural,
+        forms,
+        kept,
+        number,
+    })
+}
+
+// What goes into the document of a message's texts, whose mistakes are told or not.
+fn sides_of(alloc: Global, texts: &Texts<'_>, is_told: bool) -> Result<Sides, AllocError> {
+    let kept = texts.kept.as_slice();
+    let number = texts.number;
+    Ok(Sides {
+        texts: marked_texts(alloc, texts.forms.as_slice(), kept, number, is_told)?,
+        source: source_value(alloc, &texts.plural, kept, number)?,
+        placeholder: placeholder_of(alloc, &texts.plural, kept, number)?,
+        note: note_of(alloc, &texts.plural, kept, number)?,
+    })
 }
 
 // The texts of a message whose format isn't read.
