@@ -1,4 +1,4 @@
-"""What plural_forms reads of files that it doesn't read itself: a JSON text of an Android file, and UTF-8 of another charset."""
+"""What plural_forms reads of files that it doesn't read itself: a JSON text of an Android file, and of a catalog in another charset."""
 import codecs
 import json
 import re
@@ -73,7 +73,15 @@ def in_utf8(data):
     return NAMED.sub(rb"\1UTF-8", text, count=1)
 
 
+def told_catalog(text, path):
+    """Returns the JSON text that tells a gettext file in UTF-8, under its name."""
+    return json.dumps({"@@file": path, "catalog": text.decode("utf-8", "replace")}, ensure_ascii=False).encode("utf-8", "backslashreplace") + b"\n"
+
+
 def input_of(data, path):
-    """Returns what plural_forms reads of the bytes of a file."""
-    first = (in_utf8(data) if data.startswith(WIDE) else data.removeprefix(codecs.BOM_UTF8)).lstrip()[:1]
-    return told_android(data, path) if first == b"<" else in_utf8(data)
+    """Returns what plural_forms reads of the bytes of a file: the same bytes, where it reads these."""
+    text = in_utf8(data)
+    first = (text if data.startswith(WIDE) else data.removeprefix(codecs.BOM_UTF8)).lstrip()[:1]
+    if first == b"<":
+        return told_android(data, path)
+    return text if text is data or first == b"{" else told_catalog(text, path)

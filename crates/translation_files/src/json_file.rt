@@ -29,6 +29,7 @@ use crate::counts::{Fate, FileCounts};
 use crate::file_messages::FileMessages;
 use crate::gathered::Gathered;
 use crate::locale_name::{Said, locale_of};
+use crate::po::read_po;
 use arb_locale::locale_of_name;
 use document_places::{PlacesFound, places_of_document};
 use fault::tell_fault;
@@ -40,7 +41,7 @@ use serde_json::{Map, Value};
 use std::alloc::{AllocError, Global};
 use std::str;
 use texts::{JsonTexts, json_texts};
-use told::{ToldFile, add_notices, add_told, told_file};
+use told::{ToldCatalog, ToldFile, add_notices, add_told, told_catalog, told_file};
 
 /// Reads a JSON file of messages.
 ///
@@ -170,6 +171,9 @@ fn read_value<S: RulesOfLocales>(
     if let Some(told) = told_file(&value) {
         return read_told(alloc, &value, told, rules, locale);
     }
+    if let Some(told) = told_catalog(&value) {
+        return read_told_catalog(alloc, told, rules, locale);
+    }
     let texts = json_texts(alloc, text, &mut scratch)?;
     read_texts(alloc, name, &texts, rules, locale)
 }
@@ -208,6 +212,18 @@ fn read_told<S: RulesOfLocales>(
         add_told(&mut gathered, told.messages)?;
     }
     let mut messages = gathered.finish()?;
+    messages.name = Some(String::from_str(alloc, told.name)?);
+    Ok(messages)
+}
+
+// Reads a catalog that a tool tells.
+fn read_told_catalog<S: RulesOfLocales>(
+    alloc: Global,
+    told: ToldCatalog<'_>,
+    rules: &S,
+    locale: Option<&str>,
+) -> Result<FileMessages, AllocError> {
+    let mut messages = read_po(alloc, told.name, told.text.as_bytes(), rules, locale)?;
     messages.name = Some(String::from_str(alloc, told.name)?);
     Ok(messages)
 }

@@ -31,6 +31,21 @@ pub(crate) fn told_file(value: &Value) -> Option<ToldFile<'_>> {
     }
 }
 
+// A gettext catalog that is told.
+#[derive(Clone, Copy)]
+pub(crate) struct ToldCatalog<'v> {
+    pub(crate) name: &'v str,
+    pub(crate) text: &'v str,
+}
+
+// The catalog that a document tells, if it does: it names the file, and has its text.
+pub(crate) fn told_catalog(value: &Value) -> Option<ToldCatalog<'_>> {
+    Some(ToldCatalog {
+        name: text_under("@@file", value)?,
+        text: text_under("catalog", value)?,
+    })
+}
+
 // Adds the messages that are told.
 pub(crate) fn add_told(gathered: &mut Gathered, messages: &[Value]) -> Result<(), AllocError> {
     for message in messages {
