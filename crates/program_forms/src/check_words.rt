@@ -88,21 +88,23 @@ pub(crate) fn said_by<'w>(
     words: &[&'w str],
 ) -> Result<Option<CheckWords<'w>>, AllocError> {
     let mut said = CheckWords::new(alloc);
-    let mut rest = words;
-    while let [word, after @ ..] = rest {
-        rest = after;
-        if !word.starts_with("--") {
+    // Whether the word before is an option that this one belongs to.
+    let mut is_taken = false;
+    for (index, word) in words.iter().enumerate() {
+        if is_taken {
+            is_taken = false;
+        } else if !word.starts_with("--") {
             said.names.push(*word)?;
         } else if !said.names.is_empty() {
             return Ok(None);
         } else if !said.take_alone(word) {
-            let [value, behind @ ..] = after else {
+            let Some(value) = words.get(index.saturating_add(1)) else {
                 return Ok(None);
             };
-            if !said.take(word, value)? {
+            if !said.take(word, *value)? {
                 return Ok(None);
             }
-            rest = behind;
+            is_taken = true;
         }
     }
     Ok(if said.names.is_empty() {
