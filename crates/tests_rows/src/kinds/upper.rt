@@ -1,7 +1,7 @@
 //! The kinds of the upper crates: `icu_plurals`, `plural_message`, `plural_checker`,
 //! `plural_fallback`, `message_report`, `finding_formats`, `form_commands`, `example_callers`,
-//! `message_pattern`, `message_format`, `gettext_plural`, `plural_exports`, `po_catalog` and
-//! `format_arguments`.
+//! `message_pattern`, `message_format`, `gettext_plural`, `plural_exports`, `po_catalog`,
+//! `format_arguments` and `packed_pattern`.
 
 mod callers;
 mod catalogs;
@@ -16,6 +16,7 @@ mod findings;
 mod forms;
 mod message_reports;
 mod messages;
+mod packed_patterns;
 mod packed_texts;
 mod packing;
 mod pattern_texts;
@@ -31,6 +32,7 @@ pub fn make(kind: &str, call: &mut Call) -> bool {
     elements::make(kind, call)
         || packing::make(kind, call)
         || packed_texts::make(kind, call)
+        || packed_patterns::make(kind, call)
         || elements_json::make(kind, call)
         || messages::make(kind, call)
         || checker::make(kind, call)
