@@ -47,6 +47,14 @@ impl<'p> Pattern<'p> {
         }
     }
 
+    /// Returns the pattern of these parts, as [`parts`](Pattern::parts) returned them. They aren't
+    /// checked: others, too, are printed and formatted.
+    pub fn from_parts(parts: Vec<Part<'p>>) -> Pattern<'p>
+        ensures { result ≡ parts_view parts.entry.items }
+    {
+        Pattern { parts }
+    }
+
     /// Returns the parts, from the first to the last.
     pub fn parts(&self) -> &[Part<'p>]
         ensures { parts_view result.now ≡ self.now }

@@ -1,7 +1,7 @@
 //! The kinds of the upper crates: `icu_plurals`, `plural_message`, `plural_checker`,
 //! `plural_fallback`, `message_report`, `finding_formats`, `form_commands`, `example_callers`,
 //! `message_pattern`, `message_format`, `gettext_plural`, `plural_exports`, `po_catalog`,
-//! `format_arguments` and `translation_files`.
+//! `format_arguments`, `translation_files` and `packed_pattern`.
 
 mod callers;
 mod catalogs;
@@ -18,6 +18,7 @@ mod json_files;
 mod located_findings;
 mod message_reports;
 mod messages;
+mod packed_patterns;
 mod packed_texts;
 mod packing;
 mod pattern_texts;
@@ -35,6 +36,7 @@ pub fn make(kind: &str, call: &mut Call) -> bool {
     elements::make(kind, call)
         || packing::make(kind, call)
         || packed_texts::make(kind, call)
+        || packed_patterns::make(kind, call)
         || elements_json::make(kind, call)
         || messages::make(kind, call)
         || checker::make(kind, call)

@@ -1,0 +1,132 @@
+-- The items of a block, and the fault of the first bad one.
+use Rattle.std.proofs.Common.{◌≡◌, ◌∙◌, ℕ, ◌+◌, ◌<◌, List, [], ◌∷◌, drop, get_or, length, map, refl, ap, sym, subst, true, false, Bool, Some, None}
+use Rattle.std.specs.Prelude.{Option, bytes_eq, not, if◌then◌else◌, is_some, slice_get}
+use Rattle.std.specs.List.{list_all}
+use Rattle.std.specs.Cmp.{first_so, second_so}
+use Rattle.std.specs.Cmp.Derive.{both_true}
+use Rattle.std.proofs.lemmas.List.{drop_more}
+use Rattle.std.proofs.lemmas.Option.{slice_get-get_or}
+use Rattle.packed_list.specs.ListBytes.{ListBytes}
+use Rattle.packed_list.specs.Inner.ListReading.{items_in}
+use Rattle.message_pattern.specs.PatternParts.{Part}
+use Rattle.packed_pattern.specs.declared.error.BlockError.{BlockError}
+use Rattle.packed_pattern.specs.PackedParts.{is_packable, item_bytes, items_of, skip_of}
+use Rattle.packed_pattern.specs.PatternBlocks.{PatternBlock, first_item_fault, is_item_with, is_part_item, is_skip_of, item_fault, or_fault}
+use Rattle.packed_pattern.specs.Inner.PartReading.{IsBlock, part_in, skip_in}
+use Rattle.packed_pattern.proofs.PartBytes.{bytes_same, part_again, same_bytes, skip_again}
+use Rattle.packed_pattern.specs.declared.error.BlockError.TheVariants as errors
+
+-- the items that parts are packed as hold these parts
+pub parts_again : (parts : List Part) → list_all is_packable parts ≡ true → map part_in (items_of parts) ≡ parts
+parts_again [] h = refl
+parts_again (p ∷ ps) h =
+    rw (
+      part_again p (skip_of p.depth p.piece ps) (first_so (is_packable p) (list_all is_packable ps) h),
+      parts_again ps (second_so (is_packable p) (list_all is_packable ps) h),
+    ) refl
+
+-- where both tests pass there is no fault
+both_pass : (part skip : Bool) (f g : BlockError) → part ≡ true → skip ≡ true
+    → (if not part then Some f else if not skip then Some g else None) ≡ None
+both_pass true true f g h k = refl
+both_pass true false f g h k = cc
+both_pass false skip f g h k = cc
+
+-- without a fault both have passed
+both_passed : (part skip : Bool) (f g : BlockError) → (if not part then Some f else if not skip then Some g else None) ≡ None
+    → (part ≡ true) × (skip ≡ true)
+both_passed true true f g h = (refl, refl)
+both_passed true false f g h = (refl, cc)
+both_passed false skip f g h = (cc, cc)
+
+-- the item of a part has no fault
+item_passes : (place : ℕ) (p : Part) (ps : List Part) → is_packable p ≡ true → list_all is_packable ps ≡ true
+    → item_fault place (item_bytes p (skip_of p.depth p.piece ps)) (items_of ps) ≡ None
+item_passes place p ps h g =
+    let skip = skip_of p.depth p.piece ps in
+    let item = item_bytes p skip in
+    let held : part_in item ≡ p = part_again p skip h in
+    let fits : is_packable (part_in item) ≡ true = ap is_packable held ∙ h in
+    let own : is_item_with item (skip_in item) ≡ true =
+    bytes_same item (item_bytes (part_in item) (skip_in item))
+    (sym (ap (λ q. item_bytes q (skip_in item)) held ∙ skip_again p skip)) in
+    let others : map part_in (items_of ps) ≡ ps = parts_again ps g in
+    let wanted : skip_of (part_in item).depth (part_in item).piece (map part_in (items_of ps)) ≡ skip =
+    ap (λ q. skip_of q.depth q.piece (map part_in (items_of ps))) held ∙ ap (skip_of p.depth p.piece) others in
+    let ends : is_skip_of item (items_of ps) ≡ true =
+    bytes_same item (item_bytes (part_in item) (skip_of (part_in item).depth (part_in item).piece (map part_in (items_of ps))))
+    (sym (ap (item_bytes (part_in item)) wanted ∙ ap (λ q. item_bytes q skip) held)) in
+    both_pass (is_part_item item) (is_skip_of item (items_of ps)) (errors.Part place) (errors.Skip place) (both_true fits own) ends
+
+-- neither have those of parts
+pub no_fault : (place : ℕ) (parts : List Part) → list_all is_packable parts ≡ true → first_item_fault place (items_of parts) ≡ None
+no_fault place [] h = refl
+no_fault place (p ∷ ps) h =
+    let others = second_so (is_packable p) (list_all is_packable ps) h in
+    ap (λ f. or_fault f (first_item_fault (place + 1) (items_of ps)))
+    (item_passes place p ps (first_so (is_packable p) (list_all is_packable ps) h) others)
+    ∙ no_fault (place + 1) ps others
+
+-- without a first fault neither this item nor a later one has one
+neither : (first other : Option BlockError) → or_fault first other ≡ None → (first ≡ None) × (other ≡ None)
+neither None other h = (refl, h)
+neither (Some fault) other h = (h, cc)
+
+-- items without a fault are those of the parts that they hold
+pub is_block : (place : ℕ) (items : List (List ℕ)) → first_item_fault place items ≡ None → IsBlock items
+is_block place [] h = record { packable = refl; packed = refl }
+is_block place (item ∷ items) h =
+    let n = neither (item_fault place item items) (first_item_fault (place + 1) items) h in
+    let passed = both_passed (is_part_item item) (is_skip_of item items) (errors.Part place) (errors.Skip place) n.0 in
+    let others = is_block (place + 1) items n.1 in
+    let skip = skip_of (part_in item).depth (part_in item).piece (map part_in items) in
+    let here : item ≡ item_bytes (part_in item) skip = same_bytes item (item_bytes (part_in item) skip) passed.1 in
+    record {
+      packable = both_true (first_so (is_packable (part_in item)) (is_item_with item (skip_in item)) passed.0) others.packable;
+      packed = ap (λ x. x ∷ items_of (map part_in items)) (sym here) ∙ ap (λ xs. item ∷ xs) others.packed;
+    }
+
+-- a fault that was found is the first one
+pub or_fault_some : (fault other : Option BlockError) → is_some fault ≡ true → or_fault fault other ≡ fault
+or_fault_some None other h = cc
+or_fault_some (Some fault) other h = refl
+
+-- if none was found, the others decide
+pub or_fault_none : (fault other : Option BlockError) → is_some fault ≡ false → or_fault fault other ≡ other
+or_fault_none None other h = refl
+or_fault_none (Some fault) other h = cc
+
+-- one item more was checked
+pub first_fault_step : (items : List (List ℕ)) (k : ℕ) → k < length items
+    → first_item_fault k (drop k items)
+    ≡ or_fault (item_fault k (get_or items k []) (drop (k + 1) items)) (first_item_fault (k + 1) (drop (k + 1) items))
+first_fault_step items k h = ap (first_item_fault k) (drop_more items k [] h)
+
+-- the item at a place, and those behind it
+pub items_step : (items : List (List ℕ)) (k : ℕ) (item : List ℕ) → k < length items → Some item ≡ slice_get items k
+    → drop k items ≡ item ∷ drop (k + 1) items
+items_step items k item h e =
+    let g = slice_get-get_or items k [] h in
+    let i : get_or items k [] ≡ item = cc in
+    drop_more items k [] h ∙ ap (λ x. x ∷ drop (k + 1) items) i
+
+-- the item at a place within the list
+pub item_there : (items : List (List ℕ)) (k : ℕ) → k < length items → Some (get_or items k []) ≡ slice_get items k
+item_there items k h = sym (slice_get-get_or items k [] h)
+
+-- ---- whole blocks
+
+-- the law of packed lists that is used below
+abbrev pub PackedItems : Type 0
+PackedItems = (items : List (List ℕ)) (bytes : List ℕ) → ListBytes items bytes → items_in bytes ≡ items
+
+-- a block has one list of parts
+pub parts_in_one : PackedItems → (parts : List Part) (bytes : List ℕ) → PatternBlock parts bytes → map part_in (items_in bytes) ≡ parts
+parts_in_one law parts bytes h = ap (map part_in) (law (items_of parts) bytes h.packed) ∙ parts_again parts h.packable
+
+-- the parts in items that pass are those of the bytes
+pub is_pattern : (items : List (List ℕ)) (bytes : List ℕ) → IsBlock items → ListBytes items bytes → PatternBlock (map part_in items) bytes
+is_pattern items bytes block list = record {
+  packable = block.packable;
+  packed = subst (λ (xs : List (List ℕ)). ListBytes xs bytes) (sym block.packed) list;
+}

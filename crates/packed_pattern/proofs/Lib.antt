@@ -1,0 +1,5 @@
+pub mod PartBytes
+pub mod BlockItems
+pub mod BlockFaults
+pub mod PartsPacked
+pub mod Joined

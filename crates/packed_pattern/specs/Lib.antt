@@ -1,0 +1,5 @@
+-- patterns as blocks of bytes
+pub mod PackedParts
+pub mod PatternBlocks
+-- not definitions of the subject
+pub mod Inner

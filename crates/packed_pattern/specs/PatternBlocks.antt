@@ -1,0 +1,74 @@
+-- The bytes of a pattern: a packed list whose items are its parts.
+use Rattle.std.specs.Prelude.{◌≡◌, ℕ, ◌+◌, List, [], ◌∷◌, ◌++◌, map, Bool, ◌&&◌, not, bytes_eq, IsTrue, Option, Some, None, if◌then◌else◌, codes}
+use Rattle.std.specs.Fmt.{decimal}
+use Rattle.std.specs.List.{list_all}
+use Rattle.packed_list.specs.ListBytes.{ListBytes, HasFault, list_error_text}
+use Rattle.message_pattern.specs.PatternParts.{Part}
+use Rattle.packed_pattern.specs.declared.error.BlockError.{BlockError}
+use Rattle.packed_pattern.specs.declared.error.BlockError.TheVariants as errors
+use Rattle.packed_pattern.specs.declared.error.PackPatternError.{PackPatternError}
+use Rattle.packed_pattern.specs.declared.error.PackPatternError.TheVariants as packing
+use Rattle.packed_pattern.specs.PackedParts.{item_bytes, items_of, skip_of, is_packable}
+use Rattle.packed_pattern.specs.Inner.PartReading.{part_in, skip_in}
+
+-- the bytes encode the parts
+pub record PatternBlock (parts : List Part) (bytes : List ℕ) : Type 0 where
+  pub packable : IsTrue (list_all is_packable parts)
+  pub packed : ListBytes (items_of parts) bytes
+
+-- ---- What is wrong with the items of a packed list that is no pattern.
+
+-- the item is that of the part that it holds, with this skip
+abbrev pub is_item_with : List ℕ → ℕ → Bool
+is_item_with item skip = bytes_eq item (item_bytes (part_in item) skip)
+
+-- the item is one of a part, whatever it skips
+abbrev pub is_part_item : List ℕ → Bool
+is_part_item item = is_packable (part_in item) && is_item_with item (skip_in item)
+
+-- it skips what it has to, before these items
+abbrev pub is_skip_of : List ℕ → List (List ℕ) → Bool
+is_skip_of item items = is_item_with item (skip_of (part_in item).depth (part_in item).piece (map part_in items))
+
+-- the fault of the item at a place, before these items
+abbrev pub item_fault : ℕ → List ℕ → List (List ℕ) → Option BlockError
+item_fault place item items =
+    if not (is_part_item item) then Some (errors.Part place)
+    else if not (is_skip_of item items) then Some (errors.Skip place)
+    else None
+
+-- a fault, or else that of what follows
+abbrev pub or_fault : Option BlockError → Option BlockError → Option BlockError
+or_fault None other = other
+or_fault (Some fault) other = Some fault
+
+-- the fault of the first bad item, if there is one; the first item is at the given place
+abbrev pub first_item_fault : ℕ → List (List ℕ) → Option BlockError
+first_item_fault place [] = None
+first_item_fault place (item ∷ items) = or_fault (item_fault place item items) (first_item_fault (place + 1) items)
+
+-- bytes are refused with a fault: they aren't a packed list, or it is that of the first bad item
+abbrev pub HasBlockFault : List ℕ → BlockError → Type 0
+HasBlockFault bytes (errors.List fault) = HasFault bytes fault
+HasBlockFault bytes fault = (items : List (List ℕ)) × ListBytes items bytes × (first_item_fault 0 items ≡ Some fault)
+
+-- ---- What can't be packed.
+
+-- the place of the first part that can't be packed, if there is one; the first part is at the given
+-- place
+abbrev pub first_unpackable : ℕ → List Part → Option ℕ
+first_unpackable place [] = None
+first_unpackable place (p ∷ ps) = if is_packable p then first_unpackable (place + 1) ps else Some place
+
+-- ---- The texts that the errors print
+
+abbrev pub block_error_text : BlockError → List ℕ
+block_error_text (errors.List fault) = list_error_text fault
+block_error_text (errors.Part place) = codes "bad part " ++ decimal place
+block_error_text (errors.Skip place) = codes "bad end of part " ++ decimal place
+
+abbrev pub pack_pattern_error_text : PackPatternError → List ℕ
+pack_pattern_error_text packing.CountLimit = codes "too many parts"
+pack_pattern_error_text (packing.Part place) = codes "part " ++ decimal place ++ codes " can't be packed"
+pack_pattern_error_text packing.StartLimit = codes "pattern too long"
+pack_pattern_error_text packing.Memory = codes "out of memory"

@@ -1,0 +1,14 @@
+//! Laws of the definitions that the contracts name.
+
+ghost use Rattle.std.specs.Prelude.{◌≡◌, ◌↔◌, ℕ, List};
+ghost use Rattle.message_pattern.specs.PatternParts.{Part};
+ghost use Rattle.packed_pattern.specs.PatternBlocks.{PatternBlock};
+
+use packed_list::laws::read_again;
+
+/// Packed patterns have the same bytes if and only if they have the same parts.
+pub fn one_encoding()
+    ensures { (parts others : List Part) (a b : List ℕ) → PatternBlock parts a → PatternBlock others b → (a ≡ b) ↔ (parts ≡ others) }
+{
+    read_again();
+}

@@ -1,0 +1,15 @@
+//! Patterns of messages, packed as blocks of bytes that are read in place.
+#![tactic(auto)]
+
+mod block;
+mod error;
+mod item;
+pub mod laws;
+mod packing;
+mod parts;
+mod skips;
+mod source;
+
+pub use block::PackedPattern;
+pub use error::{BlockError, PackPatternError};
+pub use packing::pack;
