@@ -42,23 +42,35 @@ pub(crate) fn places_of_document<'a>(
     scratch: &'a mut Scratch,
 ) -> Result<PlacesFound, AllocError> {
     let mut members = Members::of(text, scratch)?;
-    let mut gathered = DocumentPlaces {
-        alloc,
-        places: Places::new(alloc),
-        locale: "",
-        kind: None,
-        message: None,
-        count: 0,
-    };
+    let mut gathered = DocumentPlaces::new(alloc);
     while let Some(member) = members.next() {
         gathered.take(member)?;
     }
-    gathered.end_message()?;
-    let DocumentPlaces { places, count, .. } = gathered;
-    Ok(PlacesFound { places, count })
+    gathered.finish()
 }
 
 impl<'a> DocumentPlaces<'a> {
+    // Nothing yet.
+    fn new(alloc: Global) -> DocumentPlaces<'a> {
+        DocumentPlaces {
+            alloc,
+            places: Places::new(alloc),
+            locale: "",
+            kind: None,
+            message: None,
+            count: 0,
+        }
+    }
+
+    // What was gathered, behind the last member.
+    fn finish(mut self) -> Result<PlacesFound, AllocError> {
+        self.end_message()?;
+        Ok(PlacesFound {
+            places: self.places,
+            count: self.count,
+        })
+    }
+
     // Takes a member: a locale, a part, a message or a form.
     fn take(&mut self, member: Member<'a>) -> Result<(), AllocError> {
         if member.depth > 2 {
