@@ -1,5 +1,5 @@
 -- Every file says a catalog: what follows a front is shorter.
-use Rattle.std.proofs.Common.{◌≡◌, ◌≤◌, ◌⊎◌, ◌+◌, ◌*◌, ◌==◌, ℕ, zero, suc, nat_lt, List, [], ◌∷◌, Bool, true, false, Option, Some, None, Result, Ok, Err, length, codes, refl, ap, arith, inl, inr, if◌then◌else◌}
+use Rattle.std.proofs.Common.{◌≡◌, ◌≤◌, ◌⊎◌, ◌+◌, ◌*◌, ◌==◌, ℕ, zero, suc, nat_lt, List, [], ◌∷◌, Bool, true, false, Option, Some, None, Result, Ok, Err, length, codes, refl, arith, inl, inr, if◌then◌else◌}
 use Rattle.std.specs.Str.{bytes_eq}
 use Rattle.po_catalog.specs.declared.fault.Cause.{Cause}
 use Rattle.po_catalog.specs.declared.fault.Cause.TheVariants.{BadIndex, UnclosedText, UnknownWord, StrayText}
@@ -12,7 +12,7 @@ use Rattle.po_catalog.specs.LineKinds.{PoLine, Empty, Comment, Fields, line_of}
 use Rattle.po_catalog.specs.PoBytes.{behind_run, is_of_word, is_white, run_front}
 use Rattle.po_catalog.specs.Quoted as quoted
 use Rattle.po_catalog.specs.Quoted.{Breaks, Said, End, Byte, Says, byte_of_letter, code_front, digit_value, escape_front, hexadecimal, hexadecimal_code, letter_or_code, octal, of_ascii, said_code, said_front}
-use Rattle.po_catalog.specs.ReadCatalogs.{EveryFileIsACatalog, IsCatalog, PoCatalog, ReadsFields, ReadsLine, ReadsLines, behind_mark, catalog_at, longer, next_line, no_line}
+use Rattle.po_catalog.specs.ReadCatalogs.{EveryFileIsACatalog, ReadsFields, ReadsLine, ReadsLines, behind_mark, catalog_at, longer, next_line, no_line}
 use Rattle.po_catalog.specs.ReadCatalogs.{ends, unknown, fits, stray_keyword, goes_on, breaks, stray_text, empty, comment, fields}
 
 behind_run_within : (is_such : ℕ → Bool) (s : List ℕ) → length (behind_run is_such s) ≤ length s

@@ -9,13 +9,12 @@ use Rattle.po_catalog.specs.declared.fault.Cause.TheVariants as cause
 use Rattle.po_catalog.specs.declared.front.Keyword.{Keyword}
 use Rattle.po_catalog.specs.declared.front.Keyword.TheVariants.{Domain, Context, Id, PluralId, Form}
 use Rattle.po_catalog.specs.Catalogs.{PoMessage, PoText}
-use Rattle.po_catalog.specs.Drafts.{PoDraft, PoField, all_ended, behind_empty, behind_line, comment_checked, differ, empty_draft, ended_at_comment, ended_before, ended_if_whole, ends_before, field_at, field_begun, field_ended, field_taken, flags_read, form_checked, form_place, has_no_form, keyword_of_message, keyword_read, line_checked, message_begun, message_ended, message_kept, next_form, noted, passed_over, place_of, placed, plural_place, text_checked, text_ended, told, unknown_read, with_fault, with_field, with_text}
-use Rattle.po_catalog.specs.FileLines.{lines_of, numbered}
-use Rattle.po_catalog.specs.Fronts.{PoFront, Nothing, Word, Mark, Unknown, front_of}
+use Rattle.po_catalog.specs.Drafts.{PoDraft, PoField, all_ended, behind_empty, behind_line, comment_checked, differ, empty_draft, ended_at_comment, ended_before, ended_if_whole, ends_before, field_at, field_begun, field_ended, field_taken, flags_read, form_checked, form_place, has_no_form, keyword_of_message, keyword_read, line_checked, message_begun, message_ended, message_kept, next_form, noted, passed_over, place_of, placed, plural_place, text_checked, text_ended, told, unknown_read, with_field, with_text}
+use Rattle.po_catalog.specs.Fronts.{PoFront}
 use Rattle.po_catalog.specs.KeptIds.{HaveId, IdsAreKept, SaysId, text_of}
-use Rattle.po_catalog.specs.LineKinds.{PoLine, Empty, Comment, Fields, line_of}
+use Rattle.po_catalog.specs.LineKinds.{PoLine, Fields}
 use Rattle.po_catalog.specs.Quoted.{Says}
-use Rattle.po_catalog.specs.ReadCatalogs.{IsCatalog, PoCatalog, ReadsFields, ReadsLine, ReadsLines, behind_mark, longer, next_line, no_line}
+use Rattle.po_catalog.specs.ReadCatalogs.{PoCatalog, ReadsFields, ReadsLine, ReadsLines, longer, next_line, no_line}
 use Rattle.po_catalog.specs.ReadCatalogs.{ends, unknown, fits, stray_keyword, goes_on, breaks, stray_text, empty, comment, fields}
 use Rattle.po_catalog.proofs.OneCatalog.{Follows, KeywordFollows, LineFollows, LinesFollow, TextFollows, follows, line_follows, lines_follow, not_both}
 use Rattle.po_catalog.proofs.Sayings.{one_saying, said_of}

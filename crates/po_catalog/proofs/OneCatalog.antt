@@ -1,5 +1,5 @@
 -- A file says one catalog.
-use Rattle.std.proofs.Common.{◌≡◌, ◌⊎◌, ◌∙◌, ◌++◌, ℕ, List, [], ◌∷◌, Bool, Option, Some, None, Result, Ok, Err, refl, sym, ap, subst, inl, inr}
+use Rattle.std.proofs.Common.{◌≡◌, ◌⊎◌, ◌∙◌, ℕ, List, [], ◌∷◌, Bool, Option, Some, None, Result, Ok, Err, refl, sym, ap, subst, inl, inr}
 use Rattle.po_catalog.specs.declared.fault.Cause.{Cause}
 use Rattle.po_catalog.specs.declared.fault.Cause.TheVariants.{StrayText}
 use Rattle.po_catalog.specs.Drafts.{PoDraft, PoField, all_ended, behind_empty, behind_line, comment_checked, ended_at_comment, flags_read, keyword_read, line_checked, passed_over, unknown_read, with_field}

@@ -1,5 +1,5 @@
 -- Reading the keywords and texts of a line, one after the other.
-use Rattle.std.proofs.Common.{◌≡◌, ◌⊎◌, ◌++◌, ◌∙◌, ℕ, List, Bool, true, Option, Some, None, Result, Ok, Err, sym, ap, subst, inl, inr}
+use Rattle.std.proofs.Common.{◌≡◌, ◌∙◌, ℕ, List, Bool, true, Option, Some, None, Result, Ok, Err, sym, ap, subst, inl, inr}
 use Rattle.std.specs.Borrow.{Bor}
 use Rattle.po_catalog.specs.declared.draft.Place.{Place}
 use Rattle.po_catalog.specs.declared.fault.Cause.{Cause}
@@ -10,7 +10,6 @@ use Rattle.po_catalog.specs.declared.front.Keyword.{Keyword}
 use Rattle.po_catalog.specs.Drafts.{PoDraft, PoField, behind_empty, behind_line, comment_checked, ended_at_comment, flags_read, keyword_read, passed_over, unknown_read, with_field}
 use Rattle.po_catalog.specs.Fronts.{Nothing, Word, Mark, Unknown, front_of}
 use Rattle.po_catalog.specs.LineKinds.{Empty, Comment, Fields, line_of}
-use Rattle.po_catalog.specs.Quoted.{Breaks, Says}
 use Rattle.po_catalog.specs.ReadCatalogs.{ReadsFields, ReadsLine, longer, ends, unknown, fits, stray_keyword, goes_on, breaks, stray_text, empty, comment, fields}
 use Rattle.po_catalog.specs.Inner.DraftViews.{GoesOnIn, ReadsTold, TextGoesOn}
 use Rattle.po_catalog.specs.Inner.QuotedViews.{GoesOn}

@@ -10,7 +10,7 @@ use Rattle.po_catalog.specs.declared.front.Keyword.{Keyword}
 use Rattle.po_catalog.specs.Catalogs.{PoMessage, messages_view}
 use Rattle.po_catalog.specs.Drafts.{PoDraft, PoField, all_ended, behind_empty, behind_line, comment_checked, empty_draft, ended_at_comment, flags_read, keyword_read, line_checked, passed_over, unknown_read, with_field}
 use Rattle.po_catalog.specs.FileLines.{lines_of, numbered}
-use Rattle.po_catalog.specs.Fronts.{PoFront, Nothing, Word, Mark, Unknown, front_of}
+use Rattle.po_catalog.specs.Fronts.{Nothing, Word, Mark, Unknown, front_of}
 use Rattle.po_catalog.specs.LineKinds.{Empty, Comment, Fields, line_of}
 use Rattle.po_catalog.specs.Quoted.{Breaks, Says}
 
