@@ -4,6 +4,7 @@ use icu_plurals::PluralRuleType;
 use message_report::RulesOfLocales;
 use plural_documents::name_text;
 use std::alloc::{AllocError, Global};
+use std::str;
 
 // What a file or a word says of a locale.
 #[derive(Drop)]
@@ -121,17 +122,19 @@ fn is_subtag(subtag: &[u8], is_first: bool) -> bool {
 // The locale that a file's name says, up to its first dot, else that of its folder, or of the folder
 // above, if the language has rules.
 fn word_of_name<'a, S: RulesOfLocales>(file: &'a str, rules: &S) -> Option<&'a str> {
-    let mut name = "";
-    let mut folder = "";
-    let mut above = "";
+    let mut name: &[u8] = b"";
+    let mut folder: &[u8] = b"";
+    let mut above: &[u8] = b"";
     for part in file.split('/') {
         if !part.is_empty() {
             above = folder;
             folder = name;
-            name = part;
+            name = part.as_bytes();
         }
     }
-    let stem = without_charset(name);
+    let stem = without_charset(text_of(name));
+    let folder = text_of(folder);
+    let above = text_of(above);
     if is_named(stem, rules) {
         return Some(stem);
     }
@@ -145,16 +148,21 @@ fn word_of_name<'a, S: RulesOfLocales>(file: &'a str, rules: &S) -> Option<&'a s
     }
 }
 
+// The text of these bytes, which are UTF-8.
+pub(crate) fn text_of(bytes: &[u8]) -> &str {
+    str::from_utf8(bytes).unwrap_or("")
+}
+
 // Whether a name is that of a locale whose language has rules.
 pub(crate) fn is_named<S: RulesOfLocales>(name: &str, rules: &S) -> bool {
     let mut is_first = true;
-    let mut language = "";
+    let mut language: &[u8] = b"";
     for subtag in name.split(|it: char| it == '-' || it == '_' || it == '@') {
         if is_first {
             if !is_language(subtag.as_bytes()) {
                 return false;
             }
-            language = subtag;
+            language = subtag.as_bytes();
         } else if subtag.len() < 2
             || !subtag
                 .as_bytes()
@@ -165,7 +173,9 @@ pub(crate) fn is_named<S: RulesOfLocales>(name: &str, rules: &S) -> bool {
         }
         is_first = false;
     }
-    rules.rules_of(PluralRuleType::Cardinal, language).is_some()
+    rules
+        .rules_of(PluralRuleType::Cardinal, text_of(language))
+        .is_some()
 }
 
 // Whether a word may be a language: two or three small letters.
