@@ -41,12 +41,22 @@ pub(crate) fn places_of_document<'a>(
     text: &'a str,
     scratch: &'a mut Scratch,
 ) -> Result<PlacesFound, AllocError> {
+    let gathered = gathered_places(alloc, text, scratch)?;
+    gathered.finish()
+}
+
+// The places of the messages, member by member.
+fn gathered_places<'a>(
+    alloc: Global,
+    text: &'a str,
+    scratch: &'a mut Scratch,
+) -> Result<DocumentPlaces<'a>, AllocError> {
     let mut members = Members::of(text, scratch)?;
     let mut gathered = DocumentPlaces::new(alloc);
     while let Some(member) = members.next() {
         gathered.take(member)?;
     }
-    gathered.finish()
+    Ok(gathered)
 }
 
 impl<'a> DocumentPlaces<'a> {
