@@ -1,6 +1,8 @@
 -- The flags of a text, one after the other.
-use Rattle.std.proofs.Common.{◌≡◌, ◌<◌, ℕ, zero, suc, List, [], ◌∷◌, Bool, true, false, not, cond, slice_index_or, length, refl, sym, ap, subst, ◌∙◌, arith, if◌then◌else◌}
+use Rattle.std.proofs.Common.{◌≡◌, ◌<◌, ℕ, zero, suc, List, [], ◌∷◌, ◌++◌, flat_map, append_assoc, Bool, true, false, not, cond, slice_index_or, length, refl, sym, ap, subst, ◌∙◌, arith, if◌then◌else◌}
 use Rattle.std.specs.List.{filter, slice_split, onto_first, Contains}
+use Rattle.std.proofs.lemmas.List.{append-nil}
+use Rattle.po_catalog.specs.Drafts.{with_comma}
 use Rattle.po_catalog.specs.PoBytes.{is_between_flags, is_of_flag, run_front, behind_run, first_flag, behind_flag}
 use Rattle.po_catalog.specs.Flags.{is_any, flags_of}
 
@@ -107,3 +109,24 @@ left_later rest name flag after e f some ne h =
     let any : 0 < length (first_flag rest) = omega (arith, some, ap length e) in
     subst (λ (s : List ℕ). Contains (flags_of s) name) (sym f)
     (Contains-later (first_flag rest) name (flags_of (behind_flag rest)) (λ is. ne (e ∙ is)) (subst (λ (flags : List (List ℕ)). Contains flags name) (flags-cons rest any) h))
+
+-- ---- the flags of a comment are added one after the other
+
+pub no_more_flags : (now whole rest flag : List ℕ) → now ++ flat_map with_comma (flags_of rest) ≡ whole → flag ≡ first_flag rest → length flag ≡ 0 → now ≡ whole
+no_more_flags now whole rest flag h e none =
+    sym (append-nil now)
+    ∙ (ap (λ (flags : List (List ℕ)). now ++ flat_map with_comma flags) (sym (flags-nil rest (ap length (sym e) ∙ none))) ∙ h)
+
+pub more_flags : (now mid next whole rest flag after : List ℕ) → now ++ flat_map with_comma (flags_of rest) ≡ whole → flag ≡ first_flag rest → after ≡ behind_flag rest
+    → 0 < length flag → mid ≡ now ++ flag → next ≡ mid ++ 44 ∷ [] → next ++ flat_map with_comma (flags_of after) ≡ whole
+more_flags now mid next whole rest flag after h e f some is comma =
+    let any : 0 < length (first_flag rest) = omega (arith, some, ap length e) in
+    let more = flat_map with_comma (flags_of after) in
+    let words : flat_map with_comma (flags_of rest) ≡ with_comma flag ++ more
+    = ap (λ (flags : List (List ℕ)). flat_map with_comma flags) (flags-cons rest any)
+    ∙ (ap (λ (t : List ℕ). with_comma t ++ flat_map with_comma (flags_of (behind_flag rest))) (sym e)
+    ∙ ap (λ (t : List ℕ). with_comma flag ++ flat_map with_comma (flags_of t)) (sym f)) in
+    ap (λ (t : List ℕ). t ++ more) (comma ∙ ap (λ (t : List ℕ). t ++ 44 ∷ []) is)
+    ∙ (ap (λ (t : List ℕ). t ++ more) (append_assoc now flag (44 ∷ []))
+    ∙ (append_assoc now (with_comma flag) more
+    ∙ (ap (λ (t : List ℕ). now ++ t) (sym words) ∙ h)))

@@ -5,3 +5,8 @@ pub mod FlagWords
 pub mod HeaderLines
 pub mod Sayings
 pub mod Numbers
+pub mod Readings
+pub mod OneCatalog
+pub mod WholeCatalogs
+pub mod EveryFile
+pub mod KeptIds

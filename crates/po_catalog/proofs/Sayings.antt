@@ -84,11 +84,11 @@ broken_says (at_once s cause e) = fails s cause e
 broken_says (later s after text b cause e h) = fails_later s after b cause e (broken_says h)
 
 -- what is returned is all that could be
-abbrev IsText : Result (List ℕ × List ℕ) Cause → Type 0
+abbrev pub IsText : Result (List ℕ × List ℕ) Cause → Type 0
 IsText (Ok said) = Unit {0}
 IsText (Err cause) = ⊥
 
-abbrev said_of : Result (List ℕ × List ℕ) Cause → List ℕ × List ℕ
+abbrev pub said_of : Result (List ℕ × List ℕ) Cause → List ℕ × List ℕ
 said_of (Ok said) = said
 said_of (Err cause) = ([], [])
 

@@ -1,11 +1,15 @@
 //! White space, words and flags, and what stands before a byte.
 
-ghost use Rattle.std.specs.Prelude.{◌≡◌, ◌≤◌, ◌<◌, ◌+◌, length, IfSome};
+ghost use Rattle.std.specs.Prelude.{◌≡◌, ◌≤◌, ◌<◌, ◌+◌, ◌++◌, length, flat_map, IfSome, OnOk};
+ghost use Rattle.std.specs.Str.{is_utf8};
+ghost use Rattle.po_catalog.specs.Drafts.{with_comma};
 ghost use Rattle.po_catalog.specs.FileLines.{cut_at};
+ghost use Rattle.po_catalog.specs.Flags.{flags_of};
 ghost use Rattle.po_catalog.specs.PoBytes.{behind_flag, behind_run, first_flag, is_between_flags, is_of_word, is_white, run_front};
 ghost use Rattle.po_catalog.specs.Inner.ByteClasses.{is_in};
 ghost use Rattle.po_catalog.specs.Inner.LineViews.{cut_view};
 
+use std::alloc::AllocError;
 use std::str;
 
 // A class of bytes.
@@ -98,6 +102,22 @@ pub fn first_flag(flags: &[u8]) -> (&[u8], &[u8])
     split_run(Class::Flag, behind_run(Class::BetweenFlags, flags))
 }
 
+// Adds the flags of a comment, with a comma behind each.
+pub(crate) fn add_flags(flags: &mut Vec<u8>, comment: &[u8]) -> Result<(), AllocError>
+    ensures { OnOk result (flags.new.items ≡ flags.old.items ++ flat_map with_comma (flags_of comment.now)) }
+{
+    let mut rest = comment;
+    'words: loop {
+        let (flag, after) = first_flag(rest);
+        if flag.is_empty() {
+            return Ok(());
+        }
+        flags.extend_from_slice(flag)?;
+        flags.push(b',')?;
+        rest = after;
+    }
+}
+
 // What stands before the first such byte, and what stands behind it, if there is one.
 #[tactic(auto, using(crate::proofs::Cuts::cut_later, crate::proofs::Cuts::cut_here, crate::proofs::Cuts::cut_nowhere))]
 pub(crate) fn cut_at(byte: u8, text: &[u8]) -> (&[u8], Option<&[u8]>)
@@ -113,6 +133,8 @@ pub(crate) fn cut_at(byte: u8, text: &[u8]) -> (&[u8], Option<&[u8]>)
 }
 
 // Whether the bytes are a text in UTF-8.
-pub(crate) fn is_utf8(bytes: &[u8]) -> bool {
+pub(crate) fn is_utf8(bytes: &[u8]) -> bool
+    ensures { result ≡ is_utf8 bytes.now }
+{
     str::from_utf8(bytes).is_ok()
 }

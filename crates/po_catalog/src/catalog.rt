@@ -4,6 +4,7 @@ ghost use Rattle.std.specs.Prelude.{◌≡◌, option_copied, option_map};
 ghost use Rattle.std.specs.List.{find};
 ghost use Rattle.po_catalog.specs.Catalogs.{message_view, messages_view};
 ghost use Rattle.po_catalog.specs.Headers.{charset_of, field_of, is_header};
+ghost use Rattle.po_catalog.specs.ReadCatalogs.{ReadsCatalog, behind_mark};
 
 use crate::entry::{Entry, Text};
 use crate::fault::Fault;
@@ -24,7 +25,10 @@ pub struct Catalog {
 impl Catalog {
     /// Reads a catalog. Any bytes are read: what is wrong is a fault with its line, and everything
     /// else is read. Memory is taken for the texts; the error is that it ran out.
-    pub fn read(alloc: Global, bytes: &[u8]) -> Result<Catalog, AllocError> {
+    #[tactic(auto, using(crate::proofs::WholeCatalogs::nothing_read))]
+    pub fn read(alloc: Global, bytes: &[u8]) -> Result<Catalog, AllocError>
+        ensures { ReadsCatalog bytes.now result }
+    {
         let mut reader = Reader::new(alloc);
         let mut lines = Lines::of(without_mark(bytes));
         'lines: while let Some(line) = lines.next_line() {
@@ -64,9 +68,11 @@ impl Catalog {
 }
 
 // The bytes behind the mark of UTF-8 at their front, if it is there.
-fn without_mark(bytes: &[u8]) -> &[u8] {
-    match bytes {
-        [0xef, 0xbb, 0xbf, rest @ ..] => rest,
-        _ => bytes,
+fn without_mark(bytes: &[u8]) -> &[u8]
+    ensures { result.now ≡ behind_mark bytes.now }
+{
+    match bytes.strip_prefix(b"\xef\xbb\xbf") {
+        Some(rest) => rest,
+        None => bytes,
     }
 }

@@ -1,8 +1,14 @@
 //! The message that is being read.
 
+ghost use Rattle.std.specs.Prelude.{◌≡◌, ◌<◌, length, IfOk, OnOk};
+ghost use Rattle.po_catalog.specs.Catalogs.{message_view, text_view};
+ghost use Rattle.po_catalog.specs.Drafts.{ends_before, field_at, form_place, has_id, next_form, passed_over, place_of, plural_place, with_text};
+ghost use Rattle.po_catalog.specs.Inner.DraftViews.{GoesOnIn, field_view};
+
 use crate::entry::{Entry, Text};
-use crate::fault::Cause;
+use crate::fault::{Cause, ReadError};
 use crate::front::Keyword;
+use crate::quoted::push_text;
 use std::alloc::{AllocError, Global};
 
 // Where a text goes.
@@ -26,7 +32,9 @@ pub(crate) struct Field {
 
 impl Field {
     // A text that goes somewhere.
-    pub(crate) fn new(alloc: Global, place: Place, line: usize) -> Self {
+    pub(crate) fn new(alloc: Global, place: Place, line: usize) -> Self
+        ensures { field_view result ≡ field_at place line }
+    {
         Field {
             place,
             text: Text::new(alloc, line),
@@ -35,18 +43,31 @@ impl Field {
     }
 
     // A text that is passed over.
-    pub(crate) fn nowhere(alloc: Global) -> Self {
+    pub(crate) fn nowhere(alloc: Global) -> Self
+        ensures { field_view result ≡ passed_over }
+    {
         Field {
             place: Place::Nowhere,
             text: Text::new(alloc, 0),
             is_given: true,
         }
     }
+
+    // Adds a text from behind its first quotation mark on. Returns what follows it.
+    pub(crate) fn read_text<'l>(&mut self, line: &'l [u8]) -> Result<&'l [u8], ReadError>
+        ensures said { GoesOnIn line.now (field_view self.old) (field_view self.new) result }
+        ensures shorter { IfOk result (λ rest. length rest.now < length line.now) }
+    {
+        self.is_given = true;
+        push_text(line, &mut self.text.bytes)
+    }
 }
 
 impl Entry {
     // Takes a text.
-    pub(crate) fn take(&mut self, place: Place, text: Text) -> Result<(), AllocError> {
+    pub(crate) fn take(&mut self, place: Place, text: Text) -> Result<(), AllocError>
+        ensures { OnOk result (message_view self.new ≡ with_text place (text_view text) (message_view self.old)) }
+    {
         match place {
             Place::Nowhere => (),
             Place::Context => self.context = Some(text),
@@ -58,7 +79,9 @@ impl Entry {
     }
 
     // Whether the keyword begins another message.
-    pub(crate) fn ends_before(&self, keyword: Keyword) -> bool {
+    pub(crate) fn ends_before(&self, keyword: Keyword) -> bool
+        ensures { result ≡ ends_before keyword (message_view self.now) }
+    {
         match keyword {
             Keyword::Domain => true,
             Keyword::Context => self.context.is_some() || self.has_id(),
@@ -68,12 +91,16 @@ impl Entry {
     }
 
     // Whether a text of the message stands that is behind its context.
-    fn has_id(&self) -> bool {
+    fn has_id(&self) -> bool
+        ensures { result ≡ has_id (message_view self.now) }
+    {
         self.id.is_some() || (self.plural_id.is_some() || !self.forms.is_empty())
     }
 
     // Where the text of the keyword goes.
-    pub(crate) fn place_of(&self, keyword: Keyword) -> Result<Place, Cause> {
+    pub(crate) fn place_of(&self, keyword: Keyword) -> Result<Place, Cause>
+        ensures { result ≡ place_of keyword (message_view self.now) }
+    {
         match keyword {
             Keyword::Domain => Ok(Place::Nowhere),
             Keyword::Context => Ok(Place::Context),
@@ -84,7 +111,9 @@ impl Entry {
     }
 
     // Where the text of `msgid_plural` goes.
-    fn plural_place(&self) -> Result<Place, Cause> {
+    fn plural_place(&self) -> Result<Place, Cause>
+        ensures { result ≡ plural_place (message_view self.now) }
+    {
         if self.id.is_some() && (self.plural_id.is_none() && self.forms.is_empty()) {
             Ok(Place::PluralId)
         } else {
@@ -93,10 +122,19 @@ impl Entry {
     }
 
     // Where the text of `msgstr` goes.
-    fn form_place(&self, index: Option<usize>) -> Result<Place, Cause> {
+    fn form_place(&self, index: Option<usize>) -> Result<Place, Cause>
+        ensures { result ≡ form_place index (message_view self.now) }
+    {
         if self.id.is_none() {
             return Err(Cause::FormWithoutId);
         }
+        self.next_form(index)
+    }
+
+    // Where the text of `msgstr` goes behind `msgid`.
+    fn next_form(&self, index: Option<usize>) -> Result<Place, Cause>
+        ensures { result ≡ next_form index (message_view self.now) }
+    {
         match index {
             None if self.plural_id.is_some() => Err(Cause::FormWithoutIndex),
             None if !self.forms.is_empty() => Err(Cause::SecondForm),

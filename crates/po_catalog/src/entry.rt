@@ -2,12 +2,13 @@
 
 ghost use Rattle.std.specs.Prelude.{◌≡◌, ◌↔◌, codes, IsTrue, IsUtf8, MatchOption};
 ghost use Rattle.std.specs.List.{Contains};
-ghost use Rattle.po_catalog.specs.Catalogs.{message_view};
+ghost use Rattle.po_catalog.specs.Catalogs.{message_view, text_view};
+ghost use Rattle.po_catalog.specs.Drafts.{empty_message, empty_text};
 ghost use Rattle.po_catalog.specs.Flags.{flags_of};
 ghost use Rattle.po_catalog.specs.Headers.{is_header};
 
 use crate::bytes::first_flag;
-use std::alloc::{AllocError, Global};
+use std::alloc::Global;
 use std::str;
 
 /// A text of a message, as its escapes say it, and the line of its keyword, from 1 on.
@@ -19,7 +20,9 @@ pub struct Text {
 
 impl Text {
     // An empty text.
-    pub(crate) fn new(alloc: Global, line: usize) -> Self {
+    pub(crate) fn new(alloc: Global, line: usize) -> Self
+        ensures { text_view result ≡ empty_text line }
+    {
         Text {
             line,
             bytes: Vec::new(alloc),
@@ -57,7 +60,9 @@ pub struct Entry {
 
 impl Entry {
     // A message of which nothing is read.
-    pub(crate) fn new(alloc: Global) -> Self {
+    pub(crate) fn new(alloc: Global) -> Self
+        ensures { message_view result ≡ empty_message }
+    {
         Entry {
             line: 0,
             context: None,
@@ -101,20 +106,6 @@ impl Entry {
         match &self.id {
             Some(id) => !self.is_obsolete && (self.context.is_none() && id.bytes.is_empty()),
             None => false,
-        }
-    }
-
-    // Adds the flags of a comment.
-    pub(crate) fn add_flags(&mut self, line: &[u8]) -> Result<(), AllocError> {
-        let mut rest = line;
-        'flags: loop {
-            let (flag, after) = first_flag(rest);
-            if flag.is_empty() {
-                return Ok(());
-            }
-            self.flags.extend_from_slice(flag)?;
-            self.flags.push(b',')?;
-            rest = after;
         }
     }
 }

@@ -1,7 +1,8 @@
 //! What stands at the front of a line.
 
-ghost use Rattle.std.specs.Prelude.{◌≤◌, ◌<◌, length, IfSome};
-ghost use Rattle.po_catalog.specs.Inner.FrontViews.{IsBehind, IsNotLonger};
+ghost use Rattle.std.specs.Prelude.{◌≡◌, ◌≤◌, ◌<◌, length, IfSome};
+ghost use Rattle.po_catalog.specs.Fronts.{digit_of, form_front, front_of, index_front, word_front};
+ghost use Rattle.po_catalog.specs.Inner.FrontViews.{IsBehind, IsNotLonger, front_view, index_view};
 
 use crate::bytes::{Class, after_white, split_run};
 use crate::fault::Cause;
@@ -27,8 +28,10 @@ pub(crate) enum Front<'l> {
 }
 
 // The front of a line.
+#[tactic(auto, unfolding(crate::specs::Fronts::front_of))]
 pub(crate) fn front_of(line: &[u8]) -> Front<'_>
-    ensures { IsBehind result line.now }
+    ensures front { front_view result ≡ front_of line.now }
+    ensures shorter { IsBehind result line.now }
 {
     let text = after_white(line);
     match text {
@@ -39,8 +42,10 @@ pub(crate) fn front_of(line: &[u8]) -> Front<'_>
 }
 
 // The keyword at the front.
+#[tactic(auto, unfolding(crate::specs::Fronts::word_front))]
 fn word_front(text: &[u8]) -> Front<'_>
-    ensures { IsBehind result text.now }
+    ensures front { front_view result ≡ word_front text.now }
+    ensures shorter { IsBehind result text.now }
 {
     let (word, rest) = split_run(Class::Word, text);
     if word == b"msgid".as_slice() {
@@ -60,7 +65,8 @@ fn word_front(text: &[u8]) -> Front<'_>
 
 // The keyword `msgstr`, with what follows it.
 fn form_front(rest: &[u8]) -> Front<'_>
-    ensures { IsNotLonger result rest.now }
+    ensures front { front_view result ≡ form_front rest.now }
+    ensures shorter { IsNotLonger result rest.now }
 {
     let [b'[', inner @ ..] = after_white(rest) else {
         return Front::Keyword(Keyword::Form(None), rest);
@@ -76,7 +82,8 @@ fn form_front(rest: &[u8]) -> Front<'_>
 
 // The index of one or two digits at the front, and what follows it.
 fn index_front(text: &[u8]) -> Option<(usize, &[u8])>
-    ensures { IfSome result (λ index. length index.1.now ≤ length text.now) }
+    ensures index { index_view result ≡ index_front text.now }
+    ensures shorter { IfSome result (λ index. length index.1.now ≤ length text.now) }
 {
     let [first, after @ ..] = text else {
         return None;
@@ -93,7 +100,8 @@ fn index_front(text: &[u8]) -> Option<(usize, &[u8])>
 
 // The value of a digit.
 fn digit_of(byte: u8) -> Option<usize>
-    ensures { IfSome result (λ value. value < 10) }
+    ensures value { result ≡ digit_of byte }
+    ensures within { IfSome result (λ value. value < 10) }
 {
     if b'0' <= byte && byte <= b'9' {
         Some(usize::from(byte - b'0'))

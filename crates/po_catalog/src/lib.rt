@@ -10,6 +10,7 @@ mod front;
 mod header;
 pub mod laws;
 mod line;
+mod line_kind;
 mod quoted;
 mod reader;
 

@@ -1,14 +1,19 @@
 //! Reading a catalog, line by line.
 
-ghost use Rattle.std.specs.Prelude.{◌<◌, length, IfOk};
+ghost use Rattle.std.specs.Prelude.{◌≡◌, ◌<◌, length, IfOk, OnOk};
+ghost use Rattle.po_catalog.specs.Drafts.{all_ended, behind_empty, behind_line, comment_checked, empty_draft, ended_at_comment, ended_before, ended_if_whole, flags_read};
+ghost use Rattle.po_catalog.specs.Drafts.{field_taken, form_checked, keyword_of_message, keyword_read, line_checked, message_begun, message_ended, message_kept};
+ghost use Rattle.po_catalog.specs.Drafts.{noted, placed, text_checked, text_ended, told, unknown_read};
+ghost use Rattle.po_catalog.specs.Inner.DraftViews.{ReadsTold, TextGoesOn, draft_view, field_view};
+ghost use Rattle.po_catalog.specs.ReadCatalogs.{ReadsFields, ReadsLine, catalog_at, catalog_view};
 
-use crate::bytes::{after_white, is_utf8};
+use crate::bytes::{add_flags, is_utf8};
 use crate::catalog::Catalog;
-use crate::draft::{Field, Place};
+use crate::draft::Field;
 use crate::entry::Entry;
 use crate::fault::{Cause, Fault, ReadError};
 use crate::front::{Front, Keyword, front_of};
-use crate::quoted::push_text;
+use crate::line_kind::{LineKind, kind_of};
 use std::alloc::{AllocError, Global};
 use std::mem;
 
@@ -29,7 +34,9 @@ pub(crate) struct Reader {
 }
 
 impl Reader {
-    pub(crate) fn new(alloc: Global) -> Self {
+    pub(crate) fn new(alloc: Global) -> Self
+        ensures { draft_view result ≡ empty_draft }
+    {
         Reader {
             alloc,
             entries: Vec::new(alloc),
@@ -42,38 +49,80 @@ impl Reader {
         }
     }
 
-    // Tells what is wrong in a line of the message.
-    fn tell(&mut self, line: usize, cause: Cause) -> Result<(), AllocError> {
+    // Tells what is wrong in a comment.
+    #[tactic(auto, unfolding(crate::specs::Drafts::noted))]
+    fn note(&mut self, line: usize, cause: Cause) -> Result<(), AllocError>
+        ensures { OnOk result (draft_view self.new ≡ noted line cause (draft_view self.old)) }
+    {
         self.faults.push(Fault { line, cause })?;
+        Ok(())
+    }
+
+    // Tells what is wrong in a line of the message.
+    #[tactic(auto, unfolding(crate::specs::Drafts::told))]
+    fn tell(&mut self, line: usize, cause: Cause) -> Result<(), AllocError>
+        ensures { OnOk result (draft_view self.new ≡ told line cause (draft_view self.old)) }
+    {
+        self.note(line, cause)?;
         self.entry.is_faulty = true;
         Ok(())
     }
 
-    // Ends the text that is being read.
-    fn end_field(&mut self) -> Result<(), AllocError> {
-        let Some(field) = mem::replace(&mut self.field, None) else {
-            return Ok(());
-        };
+    // Tells that no text stood behind a keyword.
+    #[tactic(auto, unfolding(crate::specs::Drafts::text_checked))]
+    fn check_text(&mut self, is_given: bool, line: usize) -> Result<(), AllocError>
+        ensures { OnOk result (draft_view self.new ≡ text_checked is_given line (draft_view self.old)) }
+    {
+        if is_given {
+            Ok(())
+        } else {
+            self.tell(line, Cause::NoText)
+        }
+    }
+
+    // Takes a text that was read.
+    #[tactic(auto, unfolding(crate::specs::Drafts::field_taken))]
+    fn take_field(&mut self, field: Field) -> Result<(), AllocError>
+        ensures { OnOk result (draft_view self.new ≡ field_taken (field_view field) (draft_view self.old)) }
+    {
         let Field {
             place,
             text,
             is_given,
         } = field;
-        if !is_given {
-            self.tell(text.line, Cause::NoText)?;
-        }
-        self.entry.take(place, text)
+        self.check_text(is_given, text.line)?;
+        self.entry.take(place, text)?;
+        Ok(())
     }
 
-    // Ends the message that is being read.
-    fn end_entry(&mut self) -> Result<(), AllocError> {
-        self.end_field()?;
-        if !self.is_begun {
-            return Ok(());
+    // Ends the text that is being read.
+    #[tactic(auto, unfolding(crate::specs::Drafts::text_ended))]
+    fn end_field(&mut self) -> Result<(), AllocError>
+        ensures { OnOk result (draft_view self.new ≡ text_ended (draft_view self.old)) }
+    {
+        match mem::replace(&mut self.field, None) {
+            None => Ok(()),
+            Some(field) => self.take_field(field),
         }
+    }
+
+    // Tells that the message has no form, if nothing else is wrong in it.
+    #[tactic(auto, unfolding(crate::specs::Drafts::form_checked))]
+    fn check_form(&mut self) -> Result<(), AllocError>
+        ensures { OnOk result (draft_view self.new ≡ form_checked (draft_view self.old)) }
+    {
         if self.entry.forms.is_empty() && !self.entry.is_faulty {
-            self.tell(self.entry.line, Cause::NoForm)?;
+            self.tell(self.entry.line, Cause::NoForm)
+        } else {
+            Ok(())
         }
+    }
+
+    // Keeps the message, and reads another one.
+    #[tactic(auto, unfolding(crate::specs::Drafts::message_kept), using(std::proofs::lemmas::List::map_push))]
+    fn keep_message(&mut self) -> Result<(), AllocError>
+        ensures { OnOk result (draft_view self.new ≡ message_kept (draft_view self.old)) }
+    {
         let entry = mem::replace(&mut self.entry, Entry::new(self.alloc));
         self.entries.push(entry)?;
         self.is_begun = false;
@@ -81,79 +130,149 @@ impl Reader {
         Ok(())
     }
 
-    // Ends the message before a comment.
-    fn end_before_comment(&mut self) -> Result<(), AllocError> {
-        if self.is_whole || self.is_apart {
-            self.end_entry()?;
-        }
-        Ok(())
-    }
-
-    // Ends the message before a keyword that isn't of it, and begins one.
-    fn begin_entry(
-        &mut self,
-        line: usize,
-        is_obsolete: bool,
-        keyword: Keyword,
-    ) -> Result<(), AllocError> {
-        self.end_field()?;
-        if self.entry.ends_before(keyword) || self.entry.is_obsolete != is_obsolete {
-            self.end_entry()?;
-        }
-        if let Keyword::Domain = keyword {
+    // Ends the message, if it was begun.
+    #[tactic(auto, unfolding(crate::specs::Drafts::message_ended))]
+    fn end_message(&mut self) -> Result<(), AllocError>
+        ensures { OnOk result (draft_view self.new ≡ message_ended (draft_view self.old)) }
+    {
+        if !self.is_begun {
             return Ok(());
         }
-        if !self.is_begun {
-            self.entry.line = line;
-            self.entry.is_obsolete = is_obsolete;
-            self.is_begun = true;
-        }
-        if let Keyword::Form(_) = keyword {
-            self.is_whole = true;
-        }
-        Ok(())
+        self.check_form()?;
+        self.keep_message()
     }
 
-    // Begins the text of a keyword.
-    fn begin_field(
-        &mut self,
-        line: usize,
-        is_obsolete: bool,
-        keyword: Keyword,
-    ) -> Result<(), ReadError> {
-        self.begin_entry(line, is_obsolete, keyword)?;
+    // Ends the text and the message.
+    #[tactic(auto, unfolding(crate::specs::Drafts::all_ended))]
+    fn end_all(&mut self) -> Result<(), AllocError>
+        ensures { OnOk result (draft_view self.new ≡ all_ended (draft_view self.old)) }
+    {
+        self.end_field()?;
+        self.end_message()
+    }
+
+    // Ends the message before a comment.
+    #[tactic(auto, unfolding(crate::specs::Drafts::ended_at_comment))]
+    fn end_before_comment(&mut self) -> Result<(), AllocError>
+        ensures { OnOk result (draft_view self.new ≡ ended_at_comment (draft_view self.old)) }
+    {
+        if self.is_whole || self.is_apart {
+            self.end_all()
+        } else {
+            Ok(())
+        }
+    }
+
+    // Ends the message before a keyword that isn't of it.
+    #[tactic(auto, unfolding(crate::specs::Drafts::ended_before))]
+    fn end_before_keyword(&mut self, is_obsolete: bool, keyword: Keyword) -> Result<(), AllocError>
+        ensures { OnOk result (draft_view self.new ≡ ended_before is_obsolete keyword (draft_view self.old)) }
+    {
+        if self.entry.ends_before(keyword) || self.entry.is_obsolete != is_obsolete {
+            self.end_message()
+        } else {
+            Ok(())
+        }
+    }
+
+    // Begins a message at its first keyword.
+    #[tactic(auto, unfolding(crate::specs::Drafts::message_begun))]
+    fn begin_message(&mut self, line: usize, is_obsolete: bool)
+        ensures { draft_view self.new ≡ message_begun line is_obsolete (draft_view self.old) }
+    {
+        if self.is_begun {
+            return;
+        }
+        self.entry.line = line;
+        self.entry.is_obsolete = is_obsolete;
+        self.is_begun = true;
+    }
+
+    // Takes a keyword to the message.
+    fn take_keyword(&mut self, line: usize, is_obsolete: bool, keyword: Keyword)
+        ensures { draft_view self.new ≡ keyword_of_message line is_obsolete keyword (draft_view self.old) }
+    {
+        match keyword {
+            Keyword::Domain => (),
+            Keyword::Context | Keyword::Id | Keyword::PluralId => self.begin_message(
+                line,
+                is_obsolete,
+            ),
+            Keyword::Form(_) => {
+                self.begin_message(line, is_obsolete);
+                self.is_whole = true;
+            }
+        }
+    }
+
+    // Begins the text of a keyword. Returns why it doesn't fit, if nothing else is wrong.
+    #[tactic(auto, unfolding(crate::specs::Drafts::placed, crate::specs::Drafts::with_field))]
+    fn place(&mut self, line: usize, keyword: Keyword) -> Option<Cause>
+        ensures { (draft_view self.new, result) ≡ placed line keyword (draft_view self.old) }
+    {
         match self.entry.place_of(keyword) {
-            Ok(place) => self.field = Some(Field::new(self.alloc, place, line)),
+            Ok(place) => {
+                self.field = Some(Field::new(self.alloc, place, line));
+                None
+            }
             Err(cause) => {
                 self.field = Some(Field::nowhere(self.alloc));
-                // What was told of the message may be the cause.
-                if !self.entry.is_faulty {
-                    return Err(ReadError::Fault(cause));
+                if self.entry.is_faulty {
+                    None
+                } else {
+                    Some(cause)
                 }
             }
         }
-        Ok(())
+    }
+
+    // Reads a keyword. Returns why it doesn't fit.
+    #[tactic(auto, unfolding(crate::specs::Drafts::keyword_read))]
+    fn read_keyword(
+        &mut self,
+        line: usize,
+        is_obsolete: bool,
+        keyword: Keyword,
+    ) -> Result<Option<Cause>, AllocError>
+        ensures { IfOk result (λ cause. (draft_view self.new, cause) ≡ keyword_read line is_obsolete keyword (draft_view self.old)) }
+    {
+        self.end_field()?;
+        self.end_before_keyword(is_obsolete, keyword)?;
+        self.take_keyword(line, is_obsolete, keyword);
+        Ok(self.place(line, keyword))
+    }
+
+    // Ends a message whose `msgstr` was read, behind an empty line.
+    #[tactic(auto, unfolding(crate::specs::Drafts::ended_if_whole))]
+    fn end_if_whole(&mut self) -> Result<(), AllocError>
+        ensures { OnOk result (draft_view self.new ≡ ended_if_whole (draft_view self.old)) }
+    {
+        if self.is_whole && self.is_apart {
+            self.end_message()
+        } else {
+            Ok(())
+        }
     }
 
     // Passes over what follows in a line that begins with nothing known.
-    fn leave_field(&mut self) -> Result<(), AllocError> {
+    #[tactic(auto, unfolding(crate::specs::Drafts::unknown_read, crate::specs::Drafts::with_field))]
+    fn leave_field(&mut self) -> Result<(), AllocError>
+        ensures { OnOk result (draft_view self.new ≡ unknown_read (draft_view self.old)) }
+    {
         self.end_field()?;
-        if self.is_whole && self.is_apart {
-            self.end_entry()?;
-        }
+        self.end_if_whole()?;
         self.field = Some(Field::nowhere(self.alloc));
         Ok(())
     }
 
     // Reads a text from behind its first quotation mark on. Returns what follows it.
+    #[tactic(auto, unfolding(crate::specs::Drafts::with_field))]
     fn read_text<'l>(&mut self, line: &'l [u8]) -> Result<&'l [u8], ReadError>
-        ensures { IfOk result (λ rest. length rest.now < length line.now) }
+        ensures said { TextGoesOn line.now (draft_view self.old) (draft_view self.new) result }
+        ensures shorter { IfOk result (λ rest. length rest.now < length line.now) }
     {
         match &mut self.field {
-            Some(field) => {
-                field.is_given = true;
-                push_text(line, &mut field.text.bytes)
-            }
+            Some(field) => field.read_text(line),
             None => {
                 self.field = Some(Field::nowhere(self.alloc));
                 Err(ReadError::Fault(Cause::StrayText))
@@ -161,84 +280,130 @@ impl Reader {
         }
     }
 
-    // Reads keywords and texts up to the end of the line.
+    // Reads keywords and texts up to the end of the line, or its first fault, which is returned.
     fn read_fields(
         &mut self,
         number: usize,
         is_obsolete: bool,
         line: &[u8],
-    ) -> Result<(), ReadError> {
+    ) -> Result<Option<Cause>, AllocError>
+        ensures { IfOk result (λ cause. ReadsFields number is_obsolete (draft_view self.old) line.now (draft_view self.new, cause)) }
+    {
         let mut rest = line;
         'fronts: loop {
             match front_of(rest) {
-                Front::End => return Ok(()),
+                Front::End => return Ok(None),
                 Front::Keyword(keyword, after) => {
-                    self.begin_field(number, is_obsolete, keyword)?;
+                    if let Some(cause) = self.read_keyword(number, is_obsolete, keyword)? {
+                        return Ok(Some(cause));
+                    }
                     rest = after;
                 }
-                Front::Quote(after) => rest = self.read_text(after)?,
+                Front::Quote(text) => match self.read_text(text) {
+                    Ok(after) => rest = after,
+                    Err(ReadError::Fault(cause)) => return Ok(Some(cause)),
+                    Err(ReadError::Memory) => return Err(AllocError),
+                },
                 Front::Bad(cause) => {
                     self.leave_field()?;
-                    return Err(ReadError::Fault(cause));
+                    return Ok(Some(cause));
                 }
             }
+        }
+    }
+
+    // Tells at most one fault of a line of keywords and texts.
+    fn check_line(
+        &mut self,
+        number: usize,
+        line: &[u8],
+        fault: Option<Cause>,
+    ) -> Result<(), AllocError>
+        ensures { OnOk result (draft_view self.new ≡ line_checked number line.now fault (draft_view self.old)) }
+    {
+        match fault {
+            Some(cause) => self.tell(number, cause),
+            None if is_utf8(line) => Ok(()),
+            None => self.tell(number, Cause::NotUtf8),
         }
     }
 
     // Reads keywords and texts, and tells at most one fault of the line.
-    fn read_told(
-        &mut self,
-        number: usize,
-        is_obsolete: bool,
-        line: &[u8],
-    ) -> Result<(), AllocError> {
-        match self.read_fields(number, is_obsolete, line) {
-            Ok(()) if is_utf8(line) => Ok(()),
-            Ok(()) => self.tell(number, Cause::NotUtf8),
-            Err(ReadError::Fault(cause)) => self.tell(number, cause),
-            Err(ReadError::Memory) => Err(AllocError),
-        }
-    }
-
-    // Reads a comment, from behind its `#` on.
-    fn read_comment(&mut self, number: usize, comment: &[u8]) -> Result<(), AllocError> {
-        match comment {
-            [b'~', b'|', ..] => self.end_before_comment()?,
-            [b'~', rest @ ..] => return self.read_told(number, true, rest),
-            [b',' | b'=', rest @ ..] => {
-                self.end_before_comment()?;
-                self.entry.add_flags(rest)?;
-            }
-            _ => self.end_before_comment()?,
-        }
-        if !is_utf8(comment) {
-            let cause = Cause::NotUtf8;
-            self.faults.push(Fault {
-                line: number,
-                cause,
-            })?;
-        }
+    fn read_told(&mut self, number: usize, is_obsolete: bool, line: &[u8]) -> Result<(), AllocError>
+        ensures { OnOk result (ReadsTold number is_obsolete line.now (draft_view self.old) (draft_view self.new)) }
+    {
+        let fault = self.read_fields(number, is_obsolete, line)?;
+        self.check_line(number, line, fault)?;
         Ok(())
     }
 
-    // Reads a line.
-    pub(crate) fn read_line(&mut self, number: usize, line: &[u8]) -> Result<(), AllocError> {
-        match after_white(line) {
-            [] => {
-                self.entry.is_faulty = self.entry.is_faulty && self.is_begun;
-                self.is_apart = true;
-                return Ok(());
-            }
-            [b'#', comment @ ..] => self.read_comment(number, comment)?,
-            fields => self.read_told(number, false, fields)?,
+    // Tells bytes of a comment that are no UTF-8.
+    #[tactic(auto, unfolding(crate::specs::Drafts::comment_checked))]
+    fn check_comment(&mut self, number: usize, comment: &[u8]) -> Result<(), AllocError>
+        ensures { OnOk result (draft_view self.new ≡ comment_checked number comment.now (draft_view self.old)) }
+    {
+        if is_utf8(comment) {
+            Ok(())
+        } else {
+            self.note(number, Cause::NotUtf8)
         }
+    }
+
+    // Reads a comment, from behind its `#` on, and the flags in it.
+    #[tactic(auto, unfolding(crate::specs::Drafts::flags_read))]
+    fn read_comment(
+        &mut self,
+        number: usize,
+        comment: &[u8],
+        flags: &[u8],
+    ) -> Result<(), AllocError>
+        ensures { OnOk result (draft_view self.new ≡ comment_checked number comment.now (flags_read flags.now (ended_at_comment (draft_view self.old)))) }
+    {
+        self.end_before_comment()?;
+        add_flags(&mut self.entry.flags, flags)?;
+        self.check_comment(number, comment)
+    }
+
+    // Passes an empty line.
+    #[tactic(auto, unfolding(crate::specs::Drafts::behind_empty))]
+    fn pass_empty(&mut self)
+        ensures { draft_view self.new ≡ behind_empty (draft_view self.old) }
+    {
+        self.entry.is_faulty = self.entry.is_faulty && self.is_begun;
+        self.is_apart = true;
+    }
+
+    // Ends a line that isn't empty.
+    #[tactic(auto, unfolding(crate::specs::Drafts::behind_line))]
+    fn end_line(&mut self)
+        ensures { draft_view self.new ≡ behind_line (draft_view self.old) }
+    {
         self.is_apart = false;
+    }
+
+    // Reads a line.
+    pub(crate) fn read_line(&mut self, number: usize, line: &[u8]) -> Result<(), AllocError>
+        ensures { OnOk result (ReadsLine number line.now (draft_view self.old) (draft_view self.new)) }
+    {
+        match kind_of(line) {
+            LineKind::Empty => self.pass_empty(),
+            LineKind::Comment(comment, flags) => {
+                self.read_comment(number, comment, flags)?;
+                self.end_line();
+            }
+            LineKind::Fields(is_obsolete, fields) => {
+                self.read_told(number, is_obsolete, fields)?;
+                self.end_line();
+            }
+        }
         Ok(())
     }
 
     // What was read, behind the last line.
-    pub(crate) fn catalog(mut self) -> Result<Catalog, AllocError> {
-        self.end_entry()?;
+    pub(crate) fn catalog(mut self) -> Result<Catalog, AllocError>
+        ensures { IfOk result (λ catalog. catalog_view catalog ≡ catalog_at (all_ended (draft_view self))) }
+    {
+        self.end_all()?;
         Ok(Catalog {
             entries: self.entries,
             faults: self.faults,
