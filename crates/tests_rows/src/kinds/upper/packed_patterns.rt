@@ -130,16 +130,22 @@ fn packed_pattern_changes(call: &mut Call) {
         let mut refused: u64 = 0;
         let mut accepted: u64 = 0;
         for place in 0..bytes.len() {
-            let old = bytes[place];
             for bit in [1u8, 2, 4, 8, 16, 32, 64, 128] {
-                bytes[place] = old ^ bit;
+                flip(&mut bytes, place, bit);
                 match PackedPattern::parse_bytes(&bytes) {
                     Ok(_) => accepted = accepted.wrapping_add(1),
                     Err(_) => refused = refused.wrapping_add(1),
                 }
+                flip(&mut bytes, place, bit);
             }
-            bytes[place] = old;
         }
         let _ = write!(call, "{refused} refused, {accepted} patterns");
+    }
+}
+
+// Changes a byte by a bit.
+fn flip(bytes: &mut Vec<u8>, place: usize, bit: u8) {
+    if let Some(byte) = bytes.get_mut(place) {
+        *byte ^= bit;
     }
 }
