@@ -4,9 +4,8 @@ use crate::call::Call;
 use crate::kinds::upper::message_reports::print_lines;
 use finding_formats::Format;
 use form_commands::{
-    Checking, Content, FormsError, Question, TranslationFile, Verdict, answer_lines,
-    answer_numbers, check_files, check_files_as, check_translations, list_forms, question_of,
-    write_gettext,
+    FormsError, Question, Verdict, answer_lines, answer_numbers, check_files, check_files_as,
+    list_forms, question_of, write_gettext,
 };
 use message_report::MessageFile;
 use plural_fallback::Part;
@@ -24,7 +23,6 @@ pub fn make(kind: &str, call: &mut Call) -> bool {
         "forms_gettext" => forms_gettext(call),
         "forms_check" => forms_check(call, Format::Text),
         "forms_check_as" => forms_check_as(call),
-        "forms_translations" => forms_translations(call),
         _ => return false,
     }
     true
@@ -190,50 +188,6 @@ fn forms_check(call: &mut Call, format: Format) {
             call.alloc, &files, &format, &mut input, &mut text, &mut notes,
         ),
     };
-    print_noted(call, text.as_slice(), notes.as_slice(), answer);
-}
-
-// What is found in two files of translators, of which the first may be unread: the format, the locale
-// that overrides theirs, a code that isn't told, `strict` or nothing, the rules, and the name and the
-// text of each.
-fn forms_translations(call: &mut Call) {
-    let (word, locale) = (call.text(), call.text());
-    let (ignored, strict) = (call.text(), call.text());
-    let rules = call.text();
-    let (first, first_text) = (call.text(), call.text());
-    let (second, second_text) = (call.text(), call.text());
-    let Some(format) = Format::from_word(word.as_str()) else {
-        return call.not("format");
-    };
-    let files = [
-        TranslationFile {
-            name: first.as_str(),
-            content: if first_text.is_empty() {
-                Content::Unread("it can't be opened")
-            } else {
-                Content::Bytes(first_text.as_bytes())
-            },
-        },
-        TranslationFile {
-            name: second.as_str(),
-            content: Content::Bytes(second_text.as_bytes()),
-        },
-    ];
-    let checking = Checking {
-        format,
-        locale: if locale.is_empty() {
-            None
-        } else {
-            Some(locale.as_str())
-        },
-        ignored: &[ignored.as_str()],
-        is_strict: strict.as_str() == "strict",
-    };
-    let (mut text, mut notes) = (Vec::new(call.alloc), Vec::new(call.alloc));
-    let mut input = rules.as_bytes();
-    let answer = check_translations(
-        call.alloc, &files, checking, &mut input, &mut text, &mut notes,
-    );
     print_noted(call, text.as_slice(), notes.as_slice(), answer);
 }
 
