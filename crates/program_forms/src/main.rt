@@ -3,16 +3,15 @@
 #![tactic(auto)]
 
 mod answers;
-mod check_words;
 mod failure;
-mod opened;
+mod messages;
 mod rules;
 
 use answers::{Asked, print, write_answer};
-use check_words::{CheckWords, said_by};
 use failure::{Failure, USAGE, VERSION};
-use form_commands::{Checking, Question, Verdict, Wanted, question_of};
-use opened::{Opened, documents_of, has_input, have_translations, open_all, translations_of};
+use finding_formats::Format;
+use form_commands::{Question, Verdict, Wanted, question_of};
+use messages::{files_of, read_files};
 use plural_commands::arguments::arguments;
 use rules::{open, rules_name};
 use std::process::ExitCode;
@@ -33,7 +32,8 @@ fn answer_words(rt: &HostRuntime) -> Result<Verdict, Failure> {
         Some(Question::List(wanted)) => answer(rt, wanted.file, Asked::List(wanted)),
         Some(Question::Gettext(wanted)) => answer(rt, wanted.file, Asked::Gettext(wanted)),
         Some(Question::Category(wanted, numbers)) => category(rt, wanted, numbers),
-        Some(Question::Check(_, _, _)) | None => check(rt, words.as_slice()),
+        Some(Question::Check(file, format, names)) => check(rt, file, format, names),
+        None => Err(Failure::Usage),
     }
 }
 
@@ -48,58 +48,15 @@ fn category(rt: &HostRuntime, wanted: Wanted<'_>, numbers: &[&str]) -> Result<Ve
 }
 
 // Writes what files of messages lack.
-fn check(rt: &HostRuntime, words: &[&str]) -> Result<Verdict, Failure> {
-    let [command, rest @ ..] = words else {
-        return Err(Failure::Usage);
-    };
-    if *command != "check" {
-        return Err(Failure::Usage);
-    }
-    match said_by(rt.alloc(), rest) {
-        Ok(Some(said)) => check_said(rt, &said),
-        Ok(None) => Err(Failure::Usage),
-        Err(_) => Err(Failure::Memory),
-    }
-}
-
-// Writes what the files lack that words name. The rules and one of these can't both be in the input.
-fn check_said(rt: &HostRuntime, said: &CheckWords<'_>) -> Result<Verdict, Failure> {
-    let names = said.names.as_slice();
-    if has_input(names) && rules_name(rt, said.rules)?.is_none() {
-        return Err(Failure::Usage);
-    }
-    let all = open_all(rt, names)?;
-    if said.has_more() || have_translations(all.as_slice()) {
-        return check_opened(rt, said, all.as_slice());
-    }
-    let files = documents_of(rt.alloc(), all.as_slice())?;
-    answer(
-        rt,
-        said.rules,
-        Asked::Check(said.format(), files.as_slice()),
-    )
-}
-
-// Writes what files of translators lack.
-fn check_opened(
+fn check(
     rt: &HostRuntime,
-    said: &CheckWords<'_>,
-    all: &[Opened<'_>],
+    rules: Option<&str>,
+    format: Format,
+    names: &[&str],
 ) -> Result<Verdict, Failure> {
-    let Ok(files) = translations_of(rt.alloc(), all) else {
-        return Err(Failure::Memory);
-    };
-    let checking = Checking {
-        format: said.format(),
-        locale: said.locale,
-        ignored: said.ignored.as_slice(),
-        is_strict: said.is_strict,
-    };
-    answer(
-        rt,
-        said.rules,
-        Asked::Translations(checking, files.as_slice()),
-    )
+    let documents = read_files(rt, names)?;
+    let files = files_of(rt.alloc(), names, documents.as_slice())?;
+    answer(rt, rules, Asked::Check(format, files.as_slice()))
 }
 
 // Writes the answer by the rules in a file, or by those in the input. Then the numbers can't be
