@@ -37,7 +37,7 @@
  *     they are none.
  *
  * Stack
- *     The calls that read JSON, which are plurals_rules_from_document, plurals_ranges_from_document and
+ *     The calls that read JSON, which are plurals_rules_from_document, plurals_find_locale, plurals_ranges_from_document and
  *     plurals_elements_from_json, and plurals_pattern_format take at most 131072 bytes of stack, which JSON that is nested
  *     127 deep needs, about 1 KB a level; deeper JSON is refused by PLURALS_JSON. All other calls take at most
  *     4096 bytes of stack. examples/c/run-stack runs each call with so much; no proof bounds it. It counts what malloc of
@@ -79,10 +79,11 @@ enum plurals_category_number {
     PLURALS_OTHER = 5
 };
 
-/* The two types of rules in a document. */
+/* The parts of a document: its two types of rules, and its ranges, of which plurals_find_locale may be asked too. */
 enum plurals_type {
     PLURALS_CARDINAL = 0, /* 1 item, 2 items */
-    PLURALS_ORDINAL = 1   /* 1st, 2nd, 3rd */
+    PLURALS_ORDINAL = 1,  /* 1st, 2nd, 3rd */
+    PLURALS_RANGES = 2    /* 1 to 3 items */
 };
 
 /* Why a call returns no result. No fault tells a place. */
@@ -90,7 +91,8 @@ enum plurals_fault {
     PLURALS_MEMORY = -1, /* out of memory: malloc or realloc has failed */
     PLURALS_UTF8 = -2,   /* a text isn't UTF-8: of a rule, an element, a locale, a number or an argument; of JSON that is
                             PLURALS_JSON, and a pattern may be any bytes */
-    PLURALS_TYPE = -3,   /* the type of rules is neither PLURALS_CARDINAL nor PLURALS_ORDINAL */
+    PLURALS_TYPE = -3,   /* the type of rules is neither PLURALS_CARDINAL nor PLURALS_ORDINAL; nor, of plurals_find_locale,
+                            PLURALS_RANGES */
 
     /* of a number's text */
     PLURALS_NUMBER_SYNTAX = -10, /* it isn't a number */
@@ -140,7 +142,7 @@ enum plurals_fault {
     PLURALS_DOCUMENT_SHAPE = -72,       /* a value is of another kind than its place asks for */
     PLURALS_DOCUMENT_RANGE_KEY = -73,   /* a key names no range */
     PLURALS_DOCUMENT_RANGE_VALUE = -74, /* a range's value names no category */
-    PLURALS_LOCALE = -75,               /* the locale isn't present among the rules of this type, or the ranges */
+    PLURALS_LOCALE = -75,               /* the locale, or its chain, isn't among the rules of this type, or the ranges */
 
     PLURALS_TABLE_LENGTH = -80, /* a table of categories isn't of PLURALS_TABLE_BYTES bytes */
 
@@ -189,12 +191,20 @@ struct plurals_argument {
 #define PLURALS_ASK_RULES 6
 
 /* Writes the block of the rules that a document has for a locale (docs/JSON.md; tools/cldr-document makes a document of
- * CLDR's files). rule_type is PLURALS_CARDINAL or PLURALS_ORDINAL. The locale is compared byte by byte, without fallback.
- * Faults, in the order in which they are looked for: the type; the locale's text isn't UTF-8; the text isn't JSON; it isn't a
- * document, in any of its locales; the locale isn't present; PLURALS_RULES_LIMIT. Allocates in proportion to the
- * document. */
+ * CLDR's files). rule_type is PLURALS_CARDINAL or PLURALS_ORDINAL. The locale is compared byte by byte, without fallback,
+ * which is plurals_find_locale. Faults, in the order in which they are looked for: the type; the locale's text isn't UTF-8;
+ * the text isn't JSON; it isn't a document, in any of its locales; the locale isn't present; PLURALS_RULES_LIMIT. Allocates
+ * in proportion to the document. */
 int64_t plurals_rules_from_document(const char *json, size_t json_len, const char *locale, size_t locale_len,
                                     uint8_t rule_type, uint8_t *out, size_t out_len);
+
+/* Writes the key by which a document has a locale: pt-PT for pt_AO, ru for ru_RU, sr for sr-Latn-RS in that of CLDR. It is the
+ * first of the locale's chain (docs/C.md) that stands in a part, PLURALS_CARDINAL, PLURALS_ORDINAL or PLURALS_RANGES;
+ * plurals_rules_from_document and plurals_ranges_from_document take it as their locale. Of a language that isn't in the
+ * document it is root, if that is. Faults, in the order in which they are looked for: PLURALS_TYPE; the locale's text isn't
+ * UTF-8; the text isn't JSON; PLURALS_LOCALE, also of JSON that is no document. Allocates in proportion to the document. */
+int64_t plurals_find_locale(const char *json, size_t json_len, const char *locale, size_t locale_len, uint8_t part,
+                            char *out, size_t out_len);
 
 /* Writes the block of the rules of these five texts, which are as CLDR has them, with samples or without. A text of length
  * 0 isn't a rule. Faults, in the order in which they are looked for: a text isn't UTF-8; that of the first text that isn't a

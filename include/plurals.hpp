@@ -34,12 +34,16 @@ enum class Category : std::uint8_t {
 
 enum class Type : std::uint8_t { cardinal = PLURALS_CARDINAL, ordinal = PLURALS_ORDINAL };
 
+/* What a document has for locales: rules of the two types, and ranges. */
+enum class Part : std::uint8_t { cardinal = PLURALS_CARDINAL, ordinal = PLURALS_ORDINAL, ranges = PLURALS_RANGES };
+
 /* Returns the name of a category, as "one". */
 inline std::string_view name(Category category) noexcept { return plurals_category_name(static_cast<std::int32_t>(category)); }
 
 /* Why there is no result: one of the numbers of plurals_fault. */
 class Fault {
 public:
+    Fault() noexcept = default;
     explicit Fault(std::int64_t number) noexcept : number_(number) {}
     std::int64_t number() const noexcept { return number_; }
     /* Returns in a few English words what it is. */
@@ -49,15 +53,42 @@ public:
     }
 
 private:
-    std::int64_t number_;
+    std::int64_t number_ = 0;
+};
+
+/* Why there is nothing for a locale: a fault. The text of PLURALS_LOCALE names the locale, of a longer one 64 bytes at most. */
+class LocaleFault : public Fault {
+public:
+    LocaleFault() noexcept = default;
+    LocaleFault(Fault fault, std::string_view locale) noexcept : Fault(fault) {
+        if (number() != PLURALS_LOCALE) return;
+        std::size_t shown = locale.size() < 64 ? locale.size() : 64;
+        /* Not within a character. */
+        while (shown < locale.size() && shown > 0 && (static_cast<unsigned char>(locale[shown]) & 0xc0) == 0x80) shown--;
+        add(Fault::text().substr(0, sizeof told_ - 80));
+        add(" \"");
+        add(locale.substr(0, shown));
+        add(shown < locale.size() ? "..\"" : "\"");
+    }
+    /* Returns in a few English words what it is. The text is the fault's, so it ends with it. */
+    std::string_view text() const noexcept { return length_ ? std::string_view(told_, length_) : Fault::text(); }
+
+private:
+    void add(std::string_view text) noexcept {
+        if (text.size() == 0) return;
+        std::memcpy(told_ + length_, text.data(), text.size());
+        length_ += text.size();
+    }
+    char told_[192] = {};
+    std::size_t length_ = 0;
 };
 
 /* A value or a fault. Without a value, * and -> are undefined, as those of std::optional. */
-template <class Value>
+template <class Value, class Why = Fault>
 class [[nodiscard]] Result {
 public:
-    Result(Value value) noexcept : value_(std::move(value)), fault_(0) {}
-    Result(Fault fault) noexcept : fault_(fault) {}
+    Result(Value value) noexcept : value_(std::move(value)), fault_() {}
+    Result(Why fault) noexcept : fault_(fault) {}
     explicit operator bool() const noexcept { return value_.has_value(); }
     bool has_value() const noexcept { return value_.has_value(); }
     Value &operator*() & noexcept { return *value_; }
@@ -66,11 +97,12 @@ public:
     Value *operator->() noexcept { return &*value_; }
     const Value *operator->() const noexcept { return &*value_; }
     /* Returns the fault; its number is 0 if there is a value. */
-    Fault fault() const noexcept { return fault_; }
+    const Why &fault() const & noexcept { return fault_; }
+    Why fault() && noexcept { return fault_; }
 
 private:
     std::optional<Value> value_;
-    Fault fault_;
+    Why fault_;
 };
 
 /* Bytes that a call has written. They are moved, never copied; those that are moved from are empty. */
@@ -108,6 +140,51 @@ private:
     std::unique_ptr<std::uint8_t[]> bytes_;
     std::size_t size_ = 0;
 };
+
+/* Returns the key by which a JSON document has a locale in a part: the first of the locale's chain, as ru for ru_RU. Of a language that
+ * the document doesn't have it is root, if the document has that. */
+inline Result<Bytes> find_locale(std::string_view json, std::string_view locale, Part part) noexcept {
+    return Bytes::written([&](std::uint8_t *out, std::size_t room) {
+        return plurals_find_locale(json.data(), json.size(), locale.data(), locale.size(), static_cast<std::uint8_t>(part),
+                                   reinterpret_cast<char *>(out), room);
+    });
+}
+
+namespace detail {
+
+/* Returns whether a name is this one of lower-case letters, in any case. */
+inline bool is_name(std::string_view name, std::string_view lower) noexcept {
+    if (name.size() != lower.size()) return false;
+    for (std::size_t k = 0; k < name.size(); k++)
+        if (name[k] != lower[k] && name[k] != lower[k] - 'a' + 'A') return false;
+    return true;
+}
+
+/* Returns the key of a locale, but root's only if that was asked for, or if the document has another key for one of the two types. */
+inline Result<Bytes> known_key(std::string_view json, std::string_view locale, Part part) noexcept {
+    auto key = find_locale(json, locale, part);
+    std::string_view language = locale.substr(0, locale.find_first_of("-_"));
+    if (!key || !is_name(*key, "root") || is_name(language, "root") || is_name(language, "und")) return key;
+    for (Part type : {Part::cardinal, Part::ordinal}) {
+        auto other = find_locale(json, locale, type);
+        if (other ? !is_name(*other, "root") : other.fault().number() != PLURALS_LOCALE) return other ? std::move(key) : std::move(other);
+    }
+    return Fault(PLURALS_LOCALE);
+}
+
+/* Returns what a call reads for a locale, else for the key of its chain. */
+template <class Value, class Read>
+Result<Value, LocaleFault> of_locale(std::string_view json, std::string_view locale, Part part, Read read) noexcept {
+    Result<Value> found = read(locale);
+    if (!found && found.fault().number() == PLURALS_LOCALE) {
+        auto key = known_key(json, locale, part);
+        found = key ? read(key->view()) : Result<Value>(key.fault());
+    }
+    if (!found) return LocaleFault(found.fault(), locale);
+    return *std::move(found);
+}
+
+}  // namespace detail
 
 /* What is an integer here: a bool isn't. */
 template <class Integer>
@@ -181,6 +258,14 @@ public:
                                             texts.two.size(), texts.few.data(), texts.few.size(), texts.many.data(),
                                             texts.many.size(), out, room);
         }));
+    }
+
+    /* The rules that a JSON document has for the first locale of the chain: those of ru for ru_RU, as find_locale tells. The rules of
+     * root are for a language that the document has for the other type, and for root; any other language has the fault
+     * PLURALS_LOCALE. */
+    static Result<Rules, LocaleFault> of_locale(std::string_view json, std::string_view locale, Type type) noexcept {
+        return detail::of_locale<Rules>(json, locale, static_cast<Part>(type),
+                                        [&](std::string_view key) noexcept { return from_document(json, key, type); });
     }
 
     /* The rules that a JSON document has for a locale, which is compared byte by byte. */
@@ -262,6 +347,12 @@ private:
 /* The categories of ranges of numbers, as 1 to 3. */
 class Ranges {
 public:
+    /* The ranges that a JSON document has for the first locale of the chain, as Rules::of_locale finds rules. */
+    static Result<Ranges, LocaleFault> of_locale(std::string_view json, std::string_view locale) noexcept {
+        return detail::of_locale<Ranges>(json, locale, Part::ranges,
+                                         [&](std::string_view key) noexcept { return from_document(json, key); });
+    }
+
     /* The ranges that a JSON document has for a locale, which is compared byte by byte. */
     static Result<Ranges> from_document(std::string_view json, std::string_view locale) noexcept {
         Ranges found;

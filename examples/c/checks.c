@@ -170,6 +170,32 @@ static void ranges_and_texts(void) {
     CHECK(plurals_elements_from_texts(NULL, 0, NULL, 0, NULL, 0, NULL, 0, NULL, 0, NULL, 0, NULL, 0, NULL, 0, elements, 64) == 1);
 }
 
+/* Locales are found by their chains, and the key is what the other calls take. */
+static void locales(void) {
+    const char *json = "{\"cardinal\":{\"ru\":{\"few\":\"n = 2\"},\"en\":{},\"sr\":{},\"pt-PT\":{},\"root\":{}},\"ranges\":{\"pt\":{\"ranges\":{}}},"
+                       "\"parents\":{\"pt-AO\":\"pt-PT\"}}";
+    const char *rows[][2] = {{"ru_RU", "ru"}, {"en-US", "en"}, {"sr-Latn-RS", "sr"}, {"pt_AO", "pt-PT"}, {"xx", "root"}};
+    size_t json_len = strlen(json);
+    uint8_t rules[64], table[36];
+    char key[16];
+    int64_t key_len = plurals_find_locale(json, json_len, "ru_RU", 5, PLURALS_CARDINAL, key, sizeof key);
+    int64_t rules_len = plurals_rules_from_document(json, json_len, key, key_len, PLURALS_CARDINAL, rules, sizeof rules);
+    CHECK(plurals_category_of_integer(rules, (size_t)rules_len, 2) == PLURALS_FEW);
+    for (size_t k = 0; k < sizeof rows / sizeof *rows; k++) {
+        size_t length = strlen(rows[k][0]);
+        memset(key, 77, sizeof key);
+        key_len = plurals_find_locale(json, json_len, rows[k][0], length, PLURALS_CARDINAL, key, sizeof key);
+        CHECK(key_len == (int64_t)strlen(rows[k][1]) && !memcmp(key, rows[k][1], (size_t)key_len) && key[key_len] == 77);
+        CHECK(plurals_find_locale(json, json_len, rows[k][0], length, PLURALS_ORDINAL, key, sizeof key) == PLURALS_LOCALE);
+    }
+    key_len = plurals_find_locale(json, json_len, "pt_AO", 5, PLURALS_RANGES, key, sizeof key);
+    CHECK(key_len == 2 && plurals_ranges_from_document(json, json_len, key, 2, table, sizeof table) == 36);
+    CHECK(plurals_find_locale(json, json_len, "ru", 2, 3, key, sizeof key) == PLURALS_TYPE);
+    CHECK(plurals_find_locale(json, json_len, "ru", 2, PLURALS_CARDINAL, key, 1) == 2);
+    CHECK(plurals_find_locale(json, json_len, NULL, 0, PLURALS_CARDINAL, NULL, 0) == 4);
+    CHECK(plurals_find_locale(NULL, 0, NULL, 0, PLURALS_RANGES, NULL, 0) == PLURALS_JSON);
+}
+
 static void names_and_texts(void) {
     const char *names[] = {"zero", "one", "two", "few", "many", "other"};
     for (int32_t category = -2; category < 8; category++) {
@@ -197,6 +223,7 @@ int main(void) {
     tables();
     many();
     ranges_and_texts();
+    locales();
     names_and_texts();
     printf("%d failed\n", failed);
     return failed != 0;

@@ -72,7 +72,8 @@ struct text {
     size_t length;
 };
 
-enum kind { RULES, ELEMENTS, NUMBER, PATTERN, NAME, VALUE, RULE, DOCUMENT, ELEMENTS_JSON, LOCALE, TEXT_OF_ELEMENT, TEXT_OF_RULE, TABLE, KINDS };
+enum kind { RULES, ELEMENTS, NUMBER, PATTERN, NAME, VALUE, RULE, DOCUMENT, ELEMENTS_JSON, KEYS, LOCALE, CHAINED, TEXT_OF_ELEMENT, TEXT_OF_RULE, TABLE,
+            KINDS };
 
 /* Of each kind the good ones, which mistakes are made in. */
 static struct pool {
@@ -89,7 +90,9 @@ static const char *const alphabets[KINDS] = {
     [RULE] = "nivwftce%=!,.~@ 0123456789andorinteger",
     [DOCUMENT] = "{}[]:,\"0123456789cardinlots ",
     [ELEMENTS_JSON] = "{}[]:,\"0123456789other one ",
+    [KEYS] = "{}[]:,\"015cardinlotsparents-_ ",
     [LOCALE] = "aenrupl-",
+    [CHAINED] = "aenrtoUPL-_",
     [TEXT_OF_ELEMENT] = "{} item\xc3\xa9",
     [TEXT_OF_RULE] = "nivwftce%=!,.~@ 0123456789andorinteger",
 };
@@ -168,8 +171,14 @@ static void fill_pools(void) {
     add_text(NAME, "s");
     add_text(VALUE, "a");
     add_text(VALUE, "");
+    add_text(KEYS, "{}");
+    add_text(KEYS, "{\"cardinal\":{\"en\":{},\"pt-PT\":{},\"root\":{}},\"ordinal\":{\"root\":{}},\"parents\":{\"pt-AO\":\"pt-PT\",\"sr-Latn\":\"root\"}}");
+    add_text(KEYS, "{\"ranges\":{\"PT\":5,\"en_US\":1.5},\"cardinal\":{\"EN\":0,\"en\":0},\"parents\":{\"en\":\"pt\",\"pt\":\"en\"}}");
     add_text(LOCALE, "en");
     add_text(LOCALE, "ru");
+    add_text(CHAINED, "pt_AO");
+    add_text(CHAINED, "sr-Latn-RS");
+    add_text(CHAINED, "En-us-a-b-c-d-e-f-g-h-i-j-k-l-m-n-o-p-q-r-s-t-u-v-w-x-y-z-0-1-2-3");
     add_text(TEXT_OF_ELEMENT, "{} items");
     add_text(TEXT_OF_ELEMENT, "");
 }
@@ -295,6 +304,27 @@ static void good_document(struct text *text) {
     append(text, "}");
 }
 
+static const char *any_locale(void) {
+    return ONE_OF("en", "en", "en-US", "EN_us", "pt_AO", "pt-PT", "pt", "root", "ROOT", "EN", "sr-Latn", "sr", "", "x", "-", "en-US-x");
+}
+
+/* A document of keys, whose values don't count, and parents. */
+static void good_keys(struct text *text) {
+    append(text, "{");
+    for (bool is_first = true; below(4); is_first = false) {
+        bool are_parents = below(3) == 0;
+        append(text, is_first ? "\"" : ",\""), append(text, are_parents ? "parents" : ONE_OF("cardinal", "cardinal", "ordinal", "ranges"));
+        append(text, "\":{");
+        for (bool is_first_key = true; below(4); is_first_key = false) {
+            append(text, is_first_key ? "\"" : ",\""), append(text, any_locale()), append(text, "\":");
+            if (are_parents && below(8)) append(text, "\""), append(text, any_locale()), append(text, "\"");
+            else append(text, ONE_OF("{}", "null", "1.5", "\"en\"", "[0]"));
+        }
+        append(text, "}");
+    }
+    append(text, "}");
+}
+
 static void good_elements(struct text *text) {
     append(text, "{\"other\":[0,\"{} x\"]");
     while (below(3)) {
@@ -316,7 +346,10 @@ static void make_good(enum kind kind, struct text *text) {
     if (kind == DOCUMENT) good_document(text);
     if (kind == ELEMENTS_JSON) good_elements(text);
     if (kind == TABLE) good_table(text);
+    if (kind == KEYS) good_keys(text);
     if (kind == LOCALE) append(text, ONE_OF("en", "ru", "z", ""));
+    if (kind == CHAINED) append(text, any_locale());
+    while (kind == CHAINED && below(2)) append(text, ONE_OF("-x", "_US", "-us", "_Latn"));
     if (kind == TEXT_OF_ELEMENT) append(text, ONE_OF("{} items", "{} item", "", "{}{}", "\xc3\xa9"));
     if (kind == RULES) {
         static struct text rules[5];
@@ -388,6 +421,9 @@ static size_t arguments_len;
 
 static int64_t rules_from_document(const struct slice *s, uint8_t *out, size_t room) {
     return plurals_rules_from_document(TEXT(0), TEXT(1), type, out, room);
+}
+static int64_t find_locale(const struct slice *s, uint8_t *out, size_t room) {
+    return plurals_find_locale(TEXT(0), TEXT(1), type, (char *)out, room);
 }
 static int64_t rules_from_texts(const struct slice *s, uint8_t *out, size_t room) {
     return plurals_rules_from_texts(TEXT(0), TEXT(1), TEXT(2), TEXT(3), TEXT(4), out, room);
@@ -481,6 +517,7 @@ static int64_t pattern_format(const struct slice *s, uint8_t *out, size_t room) 
 /* The same by the model. */
 
 static int64_t model_of_document(const struct slice *s, uint8_t *out) { return model_rules_from_document(s[0], s[1], type, out); }
+static int64_t model_of_key(const struct slice *s, uint8_t *out) { return model_find_locale(s[0], s[1], type, out); }
 static int64_t model_of_texts(const struct slice *s, uint8_t *out) { return model_rules_from_texts(s, out); }
 static int64_t model_of_check(const struct slice *s, uint8_t *out) { return (void)out, model_check_rules(s[0]); }
 static int64_t model_of_integer(const struct slice *s, uint8_t *out) { return (void)out, model_category_of_integer(s[0], number); }
@@ -511,7 +548,7 @@ static int64_t model_of_pattern(const struct slice *s, uint8_t *out) {
 
 /* Groups of faults, as bits. */
 enum { OF_MEMORY = 1, OF_UTF8 = 2, OF_TYPE = 4, OF_NUMBER = 8, OF_TEXT = 16, OF_RULES = 32, OF_PACKED_RULES = 64, OF_ELEMENTS = 128,
-       OF_PACKED_ELEMENTS = 256, OF_JSON = 512, OF_DOCUMENT = 1024, OF_BOUND = 2048, OF_TABLE = 4096, OF_PATTERN = 8192, OF_ARGUMENT = 16384 };
+       OF_PACKED_ELEMENTS = 256, OF_JSON = 512, OF_DOCUMENT = 1024, OF_BOUND = 2048, OF_TABLE = 4096, OF_PATTERN = 8192, OF_ARGUMENT = 16384, OF_KEY = 32768 };
 
 static const struct export {
     const char *name;
@@ -525,6 +562,7 @@ static const struct export {
 } exports[] = {
     {"plurals_rules_from_document", rules_from_document, model_of_document, -1,
      OF_MEMORY | OF_UTF8 | OF_TYPE | OF_TEXT | OF_PACKED_RULES | OF_JSON | OF_DOCUMENT, 2, {DOCUMENT, LOCALE}},
+    {"plurals_find_locale", find_locale, model_of_key, -1, OF_MEMORY | OF_UTF8 | OF_TYPE | OF_KEY, 2, {KEYS, CHAINED}},
     {"plurals_rules_from_texts", rules_from_texts, model_of_texts, -1, OF_MEMORY | OF_UTF8 | OF_TEXT | OF_PACKED_RULES, 5,
      {RULE, RULE, RULE, RULE, RULE}},
     {"plurals_check_rules", check_rules, model_of_check, 0, OF_RULES, 1, {RULES}},
@@ -602,12 +640,12 @@ static struct fault {
     FAULT(PLURALS_ELEMENTS_ITEM_TEXT, OF_ELEMENTS),
     FAULT(PLURALS_ELEMENTS_DEFAULT_LIMIT, OF_PACKED_ELEMENTS),
     FAULT(PLURALS_ELEMENTS_START_LIMIT, OF_PACKED_ELEMENTS),
-    FAULT(PLURALS_JSON, OF_JSON),
+    FAULT(PLURALS_JSON, OF_JSON | OF_KEY),
     FAULT(PLURALS_DOCUMENT_FLOAT, OF_JSON),
     FAULT(PLURALS_DOCUMENT_SHAPE, OF_JSON),
     FAULT(PLURALS_DOCUMENT_RANGE_KEY, OF_DOCUMENT),
     FAULT(PLURALS_DOCUMENT_RANGE_VALUE, OF_DOCUMENT),
-    FAULT(PLURALS_LOCALE, OF_DOCUMENT),
+    FAULT(PLURALS_LOCALE, OF_DOCUMENT | OF_KEY),
     FAULT(PLURALS_TABLE_LENGTH, OF_TABLE),
     FAULT(PLURALS_PATTERN_UNCLOSED, OF_PATTERN),
     FAULT(PLURALS_PATTERN_EXPECTED_NAME, OF_PATTERN),
@@ -749,7 +787,7 @@ static void run_case(void) {
     }
     number = below(2) ? below(200) : next() >> below(64);
     for (int k = 0; k < 6; k++) operands[k] = below(2) ? below(12) : next() >> below(64);
-    type = below(8) ? (uint8_t)below(2) : (uint8_t)next();
+    type = below(8) ? (uint8_t)below(export->ask == find_locale ? 3 : 2) : (uint8_t)next();
     for (int k = 0; k < 2; k++) kinds_of_arguments[k] = below(16) ? (uint32_t)below(2) : (uint32_t)next();
     arguments_len = below(8) ? 2 : below(2);
     if (export->ask == pattern_format && below(2)) {
@@ -794,7 +832,9 @@ static const struct slice good[KINDS] = {
     [RULE] = BYTES("i = 1 and v = 0"),
     [DOCUMENT] = BYTES("{\"cardinal\":{\"en\":{\"one\":\"i = 1 and v = 0\"}},\"ordinal\":{\"en\":{}},\"ranges\":{\"en\":{\"ranges\":{}}}}"),
     [ELEMENTS_JSON] = BYTES("{\"other\":[0,\"{} items\"],\"one\":[0,\"{} item\"]}"),
+    [KEYS] = BYTES("{\"cardinal\":{\"en\":{}},\"ordinal\":{\"en\":{}},\"ranges\":{\"en\":{}},\"parents\":{\"fr\":\"xx\"}}"),
     [LOCALE] = BYTES("en"),
+    [CHAINED] = BYTES("en_US"),
     [TEXT_OF_ELEMENT] = BYTES("{} items"),
     [TEXT_OF_RULE] = BYTES("i = 1 and v = 0"),
     [TABLE] = BYTES(ONES "\1\1\1\1\1\1\1\1"),
@@ -842,7 +882,12 @@ static const struct bad {
     {DOCUMENT, BYTES("{\"ranges\":{\"a\":{\"ranges\":{\"one\":5}}}}"), -73},
     {DOCUMENT, BYTES("{\"ranges\":{\"a\":{\"ranges\":{\"one--two\":\"some\",\"two\":\"few\"}}}}"), -74},
     {DOCUMENT, BYTES("{}"), -75}, {DOCUMENT, BYTES("{\"cardinal\":null}"), -75}, {DOCUMENT, BYTES("{\"ranges\":{\"ru\":{\"ranges\":{}}}}"), -75},
-    {LOCALE, BYTES("\xff"), -2}, {LOCALE, BYTES("e"), -75}, {LOCALE, BYTES("EN"), -75}, {LOCALE, BYTES(""), -75},
+    {KEYS, BYTES(""), -70}, {KEYS, BYTES("{"), -70}, {KEYS, BYTES("{} {}"), -70}, {KEYS, BYTES("\"\xff\""), -70}, {KEYS, BYTES("[\"\\ud800\"]"), -70},
+    {KEYS, BYTES("{\"cardinal\":{\"en\":1e999}}"), -70}, {KEYS, BYTES("{}"), -75}, {KEYS, BYTES("5"), -75}, {KEYS, BYTES("[[],\"cardinal\"]"), -75},
+    {KEYS, BYTES("{\"cardinal\":[\"en\"],\"ordinal\":{\"en\":{}},\"en\":{}}"), -75}, {KEYS, BYTES("{\"cardinal\":{\"en\":{}},\"cardinal\":{}}"), -75},
+    {KEYS, BYTES("{\"cardinal\":{\"en-US-x\":{},\"us\":{}}}"), -75}, {KEYS, BYTES("{\"cardinal\":{\"de\":{}},\"parents\":{\"en\":\"fr\",\"fr\":\"en\"}}"), -75},
+    {CHAINED, BYTES("\xff"), -2}, {CHAINED, BYTES("en\xc3"), -2}, {CHAINED, BYTES("xx"), -75}, {CHAINED, BYTES("e"), -75}, {CHAINED, BYTES(""), -75},
+    {CHAINED, BYTES("fr-en"), -75}, {LOCALE, BYTES("\xff"), -2}, {LOCALE, BYTES("e"), -75}, {LOCALE, BYTES("EN"), -75}, {LOCALE, BYTES(""), -75},
     {TABLE, BYTES(""), -80}, {TABLE, BYTES("\1"), -80}, {TABLE, BYTES(ONES "\1\1\1\1\1\1\1"), -80},
     {TABLE, BYTES(ONES "\1\1\1\1\1\1\1\1\1"), -80}, {TEXT_OF_ELEMENT, BYTES("\xff"), -2}, {TEXT_OF_ELEMENT, BYTES("x\xe2\x82"), -2},
     {ELEMENTS_JSON, BYTES(""), -70}, {ELEMENTS_JSON, BYTES("{\"other\":[0,\"x\"],}"), -70}, {ELEMENTS_JSON, BYTES("{\"other\":[0.5,\"x\"]}"), -71},
@@ -881,6 +926,36 @@ static void try_faults(void) {
     }
     set_slice(0, slice_of("{")), set_slice(1, slice_of("\xff"));
     run_by_hand(PLURALS_TYPE, NO_BYTES);
+    export = export_of("plurals_find_locale");
+    run_by_hand(PLURALS_TYPE, NO_BYTES);
+    set_good();
+    for (int other = 3; other < 256; other++) {
+        type = (uint8_t)other;
+        run_by_hand(PLURALS_TYPE, NO_BYTES);
+    }
+}
+
+/* Locales of one document, and their keys for cardinal numbers, ordinal ones and ranges; null for none. */
+static const struct {
+    const char *locale, *keys[3];
+} keys[] = {
+    {"ru", {"ru", "root", NULL}}, {"ru_RU", {"ru", "root", NULL}}, {"en-US", {"en", "EN", "en-US"}}, {"EN", {"EN", "EN", NULL}},
+    {"En", {"EN", "EN", NULL}}, {"sr-Latn-RS", {"sr", "root", NULL}}, {"pt_AO", {"pt-PT", "root", "pt"}}, {"pt-ao-x", {"pt-PT", "root", "pt"}},
+    {"pt-BR", {"pt", "root", "pt"}}, {"nb-NO", {"no", "root", NULL}}, {"hi-Latn", {"hi", "root", NULL}}, {"xx", {"root", "root", NULL}},
+    {"ROOT-x", {"root", "root", NULL}}, {"", {"", "root", NULL}}, {"-", {"", "root", NULL}}, {"z", {"root", "root", NULL}},
+};
+
+static void try_keys(void) {
+    export = export_of("plurals_find_locale");
+    set_slice(0, slice_of("{\"cardinal\":{\"ru\":{},\"en\":{},\"EN\":{},\"sr\":{},\"pt\":{},\"pt-PT\":1.5,\"no\":null,\"hi\":[],\"\":0,\"root\":{}},"
+                          "\"ordinal\":{\"EN\":{},\"root\":{}},\"ranges\":{\"pt\":{},\"en-US\":{}},\"parents\":{\"pt-AO\":\"pt-PT\",\"sr-Latn\":\"root\","
+                          "\"nb\":\"no\",\"hi-Latn\":\"en-IN\",\"ru\":5}}"));
+    for (size_t row = 0; row < sizeof keys / sizeof *keys; row++)
+        for (type = 0; type < 3; type++) {
+            const char *key = keys[row].keys[type];
+            set_slice(1, slice_of(keys[row].locale));
+            run_by_hand(key ? (int64_t)strlen(key) : PLURALS_LOCALE, key ? slice_of(key) : NO_BYTES);
+        }
 }
 
 /* A rule for one; a number, as its front, a digit that comes so often, and its end; its category; and whether that is exact. */
@@ -1162,6 +1237,8 @@ static void try_depth(int depth, int fault) {
     run_limit(fault ? fault : PLURALS_LOCALE);
     export = export_of("plurals_ranges_from_document");
     run_limit(fault ? fault : PLURALS_LOCALE);
+    export = export_of("plurals_find_locale");
+    run_limit(fault ? fault : PLURALS_LOCALE);
 }
 
 /* A pattern with the number n, where the front ends in so many of a piece. */
@@ -1190,7 +1267,17 @@ static void try_patterns(void) {
     try_pattern("{n}", "", 0, "", longest, 0);
 }
 
+/* A locale of so many subtags, the last of whose chain is root. */
+static void try_chain(int subtags, int fault) {
+    export = export_of("plurals_find_locale");
+    set_good();
+    set_slice(0, slice_of("{\"cardinal\":{\"root\":{}}}")), set_slice(1, repeated("x", "-x", subtags - 1, ""));
+    run_limit(fault);
+}
+
 static void try_limits(void) {
+    try_chain(31, 0);
+    try_chain(32, PLURALS_LOCALE);
     try_patterns();
     try_rule(8191, " and n = 1", "", 0);
     try_rule(8192, " and n = 1", "", PLURALS_TEXT_START_LIMIT);
@@ -1232,6 +1319,7 @@ int main(int count, char **words) {
     try_numbers();
     try_wholes();
     try_written();
+    try_keys();
     try_arguments();
     try_limits();
     expect_each_fault();

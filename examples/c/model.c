@@ -935,6 +935,68 @@ int64_t model_rules_from_document(struct slice json, struct slice locale, uint8_
     return write_rules(given, out);
 }
 
+/* ---- docs/C.md: the key of a locale */
+
+enum { MOST_LOCALES = 32 };
+
+static bool is_separator(int byte) { return byte == '-' || byte == '_'; }
+
+static int folded(int byte) { return byte == '_' ? '-' : byte >= 'A' && byte <= 'Z' ? byte + 32 : byte; }
+
+static bool is_same(struct slice one, struct slice other) {
+    if (one.length != other.length) return false;
+    for (size_t k = 0; k < one.length; k++)
+        if (folded(one.at[k]) != folded(other.at[k])) return false;
+    return true;
+}
+
+static struct slice language_of(struct slice locale) {
+    size_t length = 0;
+    while (length < locale.length && !is_separator(locale.at[length])) length++;
+    return part(locale, 0, length);
+}
+
+/* The member of a locale: the one with its bytes, else the first, in the order of bytes, that is the same locale; or -1. */
+static int member_of(int object, struct slice locale) {
+    if (object < 0 || nodes[object].kind != OBJECT) return -1;
+    int member = find(object, locale);
+    if (member < 0) member = next_member(object, -1);
+    else return member;
+    while (member >= 0 && !is_same(nodes[member].key, locale)) member = next_member(object, member);
+    return member;
+}
+
+/* Makes a locale the next one of its chain. Returns whether there is one. */
+static bool go_on(struct slice *locale) {
+    static const struct slice root = {(const uint8_t *)"root", 4};
+    int parent = member_of(find_text(0, "parents"), *locale);
+    struct slice named = parent >= 0 && nodes[parent].kind == TEXT ? nodes[parent].text : (struct slice){NULL, 0};
+    size_t front = locale->length;
+    while (front > 0 && !is_separator(locale->at[front - 1])) front--;
+    if (front == 0) {
+        if (!named.at && is_same(*locale, root)) return false;
+        *locale = named.at ? named : root;
+    } else {
+        *locale = named.at && is_same(language_of(named), language_of(*locale)) ? named : part(*locale, 0, front - 1);
+    }
+    return true;
+}
+
+int64_t model_find_locale(struct slice json, struct slice locale, uint8_t type, uint8_t *out) {
+    if (type > 2) return PLURALS_TYPE;
+    if (!model_is_utf8(locale)) return PLURALS_UTF8;
+    if (read_json(json) == PLURALS_JSON) return PLURALS_JSON;
+    for (int k = 0; k < MOST_LOCALES; k++) {
+        int member = member_of(find_text(0, parts[type]), locale);
+        if (member >= 0) {
+            memcpy(out, nodes[member].key.at, nodes[member].key.length);
+            return (int64_t)nodes[member].key.length;
+        }
+        if (!go_on(&locale)) break;
+    }
+    return PLURALS_LOCALE;
+}
+
 /* ---- docs/ELEMENTS.md: ranges */
 
 int64_t model_ranges_from_document(struct slice json, struct slice locale, uint8_t *out) {

@@ -18,6 +18,7 @@ enum { MODEL_BYTES = 600000 };
 
 /* Each writes its result to out, which has MODEL_BYTES, and returns what the export does. */
 int64_t model_rules_from_document(struct slice json, struct slice locale, uint8_t rule_type, uint8_t *out);
+int64_t model_find_locale(struct slice json, struct slice locale, uint8_t type, uint8_t *out);
 int64_t model_rules_from_texts(const struct slice texts[5], uint8_t *out);
 int64_t model_elements_from_json(struct slice json, uint8_t *out);
 int64_t model_element(struct slice rules, struct slice elements, struct slice number, uint8_t *out);

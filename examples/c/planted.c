@@ -21,6 +21,7 @@ int32_t __real_plurals_categories(const uint8_t *, size_t);
 int32_t __real_plurals_category_by_table(const uint8_t *, size_t, uint64_t);
 int64_t __real_plurals_table_of_rules(const uint8_t *, size_t, uint8_t *, size_t);
 int64_t __real_plurals_categories_of_integers(const uint8_t *, size_t, const uint64_t *, size_t, uint8_t *, size_t);
+int64_t __real_plurals_find_locale(const char *, size_t, const char *, size_t, uint8_t, char *, size_t);
 int64_t __real_plurals_ranges_from_document(const char *, size_t, const char *, size_t, uint8_t *, size_t);
 int64_t __real_plurals_elements_from_texts(const char *, size_t, const char *, size_t, const char *, size_t, const char *, size_t,
                                            const char *, size_t, const char *, size_t, const char *, size_t, const char *, size_t,
@@ -150,6 +151,15 @@ int32_t __wrap_plurals_category_of_operands(const uint8_t *rules, size_t rules_l
 int32_t __wrap_plurals_categories(const uint8_t *rules, size_t rules_len) {
     int32_t result = __real_plurals_categories(rules, rules_len);
     return planted() == 26 && result > 0 ? result & ~(1 << PLURALS_OTHER) : result; /* other isn't one of them */
+}
+
+int64_t __wrap_plurals_find_locale(const char *json, size_t json_len, const char *locale, size_t locale_len, uint8_t part, char *out,
+                                   size_t out_len) {
+    int bug = planted();
+    if (bug == 37 && part == 1) part = 0; /* a key of ordinal rules is one of cardinal rules */
+    int64_t result = __real_plurals_find_locale(json, json_len, locale, locale_len, part, out, out_len);
+    if (bug == 38 && result == 4 && locale_len != 4) return PLURALS_LOCALE; /* root isn't looked up */
+    return result;
 }
 
 int64_t __wrap_plurals_ranges_from_document(const char *json, size_t json_len, const char *locale, size_t locale_len, uint8_t *out,

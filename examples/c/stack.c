@@ -26,6 +26,7 @@ static int64_t result;
 /* ---- the calls, with what the variables above hold */
 
 static void from_document(void) { result = plurals_rules_from_document(text, text_len, "en", 2, PLURALS_CARDINAL, out, LONG); }
+static void find_locale(void) { result = plurals_find_locale(text, text_len, "en-US", 5, PLURALS_CARDINAL, (char *)out, LONG); }
 static void from_texts(void) { result = plurals_rules_from_texts("", 0, text, text_len, text, text_len, "", 0, "", 0, out, LONG); }
 static void check_rules(void) { result = plurals_check_rules(rules, rules_len); }
 static void category_of_integer(void) { result = plurals_category_of_integer(rules, rules_len, UINT64_MAX); }
@@ -69,7 +70,8 @@ static const struct export {
     {"plurals_ranges_from_document", ranges, true},       {"plurals_elements_from_texts", elements_from_texts, false},
     {"plurals_sure_category", sure_category, false},      {"plurals_is_read_whole", is_read_whole, false},
     {"plurals_table_of_rules", table_of_rules, false},    {"plurals_category_by_table", category_by_table, false},
-    {"plurals_categories_of_integers", categories_of_integers, false}, {"plurals_pattern_format", pattern_format, true},
+    {"plurals_categories_of_integers", categories_of_integers, false}, {"plurals_find_locale", find_locale, true},
+    {"plurals_pattern_format", pattern_format, true},
 };
 enum { EXPORTS = sizeof exports / sizeof *exports };
 

@@ -140,6 +140,35 @@ static void ranges() {
     CHECK(plurals::Ranges::from_document(json, "ru").fault().number() == PLURALS_LOCALE);
 }
 
+static void locales() {
+    std::string_view json = R"({"cardinal":{"pt":{"one":"i = 0..1"},"pt-PT":{"one":"i = 1 and v = 0"},"ru":{"few":"n = 2"},"sr":{"few":"n = 3"},
+        "en":{"one":"n = 1"},"root":{}},"ordinal":{"en":{"two":"n = 2"},"root":{}},"ranges":{"pt":{"ranges":{"one--other":"one"}}},
+        "parents":{"pt-AO":"pt-PT"}})";
+    auto key = [&](std::string_view locale, plurals::Part part) { return std::string(plurals::find_locale(json, locale, part)->view()); };
+    CHECK(key("ru_RU", plurals::Part::cardinal) == "ru" && key("EN-us", plurals::Part::ordinal) == "en");
+    CHECK(key("pt_AO", plurals::Part::cardinal) == "pt-PT" && key("pt_AO", plurals::Part::ranges) == "pt");
+    CHECK(key("sr-Latn-RS", plurals::Part::ordinal) == "root" && key("xx", plurals::Part::cardinal) == "root");
+    CHECK(plurals::find_locale(json, "xx", plurals::Part::ranges).fault().number() == PLURALS_LOCALE);
+    CHECK(plurals::find_locale("", "xx", plurals::Part::ranges).fault().number() == PLURALS_JSON);
+    auto of = [&](std::string_view locale) { return Rules::of_locale(json, locale, plurals::Type::cardinal); };
+    CHECK(of("ru_RU")->category(2) == Category::few && of("sr-Latn-RS")->category(3) == Category::few);
+    CHECK(of("en-US")->category(1) == Category::one && of("pt_AO")->category(0) == Category::other && of("pt-BR")->category(0) == Category::one);
+    CHECK(of("root")->category(1) == Category::other && of("und-Latn")->category(1) == Category::other);
+    // There are no ordinal rules of Russian, so they are those of root.
+    CHECK(Rules::of_locale(json, "ru-RU", plurals::Type::ordinal)->category(2) == Category::other);
+    CHECK(plurals::Ranges::of_locale(json, "pt_AO")->category(Category::one, Category::other) == Category::one);
+    auto unknown = of("xx");
+    CHECK(!unknown && unknown.fault().number() == PLURALS_LOCALE);
+    CHECK(unknown.fault().text() == "the document has no rules of the type, or no ranges, for the locale \"xx\"");
+    CHECK(of("").fault().text() == "the document has no rules of the type, or no ranges, for the locale \"\"");
+    CHECK(of(std::string(63, 'x') + "ж").fault().text().substr(69) == std::string(63, 'x') + "..\"");
+    CHECK(of(std::string(64, 'x')).fault().text().substr(69) == std::string(64, 'x') + "\"");
+    CHECK(plurals::Ranges::of_locale(json, "xx").fault().text().substr(68) == "\"xx\"");
+    CHECK(Rules::of_locale("[]", "en-US", plurals::Type::cardinal).fault().text() == plurals::Fault(PLURALS_DOCUMENT_SHAPE).text());
+    CHECK(Rules::of_locale("{}", "\xff", plurals::Type::cardinal).fault().number() == PLURALS_UTF8);
+    static_assert(sizeof(plurals::Result<Category>) <= 16);
+}
+
 static void elements() {
     std::string long_text(1000, 'x');
     auto found = Elements::from_json(R"({"other":[0,"{} items"],"explicit_zero":[0,"none"]})");
@@ -195,6 +224,7 @@ int main() {
     tables();
     many_integers();
     ranges();
+    locales();
     elements();
     patterns();
     std::printf("%d failed\n", failed);

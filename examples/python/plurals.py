@@ -5,8 +5,8 @@
     >>> [str(rules.category(number)) for number in (1, 2, 5, 1.5, "1.0", Decimal("21"))]
     ['one', 'few', 'many', 'other', 'other', 'one']
 
-What decides is proved, in the library; this file isn't. The library is the file that PLURALS_LIBRARY names, else the one of the
-folder that this file is installed in, else the system's. Calls may run in any number of threads.
+What decides is proved, in the library; this file isn't. The library is the file that PLURALS_LIBRARY names, else the one beside this
+file, as in a wheel, else the one of the folder that this file is installed in, else the system's. Calls may run in any number of threads.
 """
 
 from __future__ import annotations
@@ -19,7 +19,7 @@ from enum import Enum
 from pathlib import Path
 from typing import Any, Iterable, Optional, Union
 
-__all__ = ["Category", "CategoryTable", "Elements", "Fault", "Number", "Ranges", "Rules", "Written", "format_pattern", "is_read_whole", "text_of", "version"]
+__all__ = ["Category", "CategoryTable", "Elements", "Fault", "Number", "Ranges", "Rules", "Written", "find_locale", "format_pattern", "is_read_whole", "text_of", "version"]
 
 Number = Union[int, float, Decimal, str]
 _HERE = Path(__file__).resolve()
@@ -27,6 +27,9 @@ _HERE = Path(__file__).resolve()
 _MOST_DIGITS = 32767
 # What a table of categories returns of a number that the rules have to be asked for.
 _ASK_RULES = 6
+# The fault of a locale that a document doesn't have, and the parts in which it looks for one.
+_LOCALE = -75
+_PARTS = ("cardinal", "ordinal", "ranges")
 
 
 class Category(str, Enum):
@@ -44,11 +47,12 @@ class Category(str, Enum):
 
 
 class Fault(ValueError):
-    """Why a call has no result: number is one of plurals_fault in plurals.h."""
+    """Why a call has no result: number is one of plurals_fault in plurals.h. The text of -75 names the locale."""
 
-    def __init__(self, number: int) -> None:
+    def __init__(self, number: int, locale: Optional[str] = None) -> None:
         found = _library.plurals_fault_text(number)
-        super().__init__(found.decode() if found else f"unknown fault {number}")
+        text = found.decode() if found else f"unknown fault {number}"
+        super().__init__(text if locale is None else f"{text} {locale!r}")
         self.number = number
 
 
@@ -57,6 +61,9 @@ def _found() -> str:
     given = os.environ.get("PLURALS_LIBRARY")
     if given:
         return given
+    beside = _HERE.parent / "libplurals.so.0"
+    if beside.is_file():
+        return str(beside)
     # This file is share/plurals/examples/python/plurals.py below the folder that the library was installed to.
     if len(_HERE.parents) > 4:
         for path in sorted([*_HERE.parents[4].glob("lib/libplurals.so.0"), *_HERE.parents[4].glob("lib/*/libplurals.so.0")]):
@@ -80,6 +87,7 @@ def _opened() -> ctypes.CDLL:
     forms: dict[str, tuple[Any, list[Any]]] = {
         "plurals_rules_from_document": (ctypes.c_int64, [*given, *given, ctypes.c_uint8, *given]),
         "plurals_rules_from_texts": (ctypes.c_int64, [*given * 5, *given]),
+        "plurals_find_locale": (ctypes.c_int64, [*given, *given, ctypes.c_uint8, *given]),
         "plurals_ranges_from_document": (ctypes.c_int64, [*given, *given, *given]),
         "plurals_categories": (ctypes.c_int32, [*given]),
         "plurals_category_of_integer": (ctypes.c_int32, [*given, ctypes.c_uint64]),
@@ -181,13 +189,63 @@ def _absolute(number: int) -> int:
 def _document(given: Optional[Union[str, bytes]]) -> bytes:
     """Returns the bytes of a document, or of the installed one."""
     if given is None:
-        # It is share/plurals/cldr.json, above this file where it was installed, else below the folder of the library.
-        places = [_HERE.parents[2] / "cldr.json"]
+        # It is beside this file in a wheel, else share/plurals/cldr.json, above this file where it was installed, or below the folder of
+        # the library.
+        places = [_HERE.parent / "cldr.json", _HERE.parents[2] / "cldr.json"]
         library = Path(_found())
         if library.is_absolute():
             places += [folder / "share/plurals/cldr.json" for folder in library.parents]
         return next((place for place in places if place.is_file()), places[0]).read_bytes()
     return given if isinstance(given, bytes) else _bytes(given)
+
+
+def find_locale(locale: str, part: str = "cardinal", document: Optional[Union[str, bytes]] = None) -> str:
+    """Returns the key by which a document has a locale in a part, "cardinal", "ordinal" or "ranges": the first of the locale's chain.
+
+    Of a language that the document doesn't have it is root, if the document has that.
+
+    >>> [find_locale(locale) for locale in ("ru_RU", "sr-Latn-RS", "pt_AO", "xx")]
+    ['ru', 'sr', 'pt-PT', 'root']
+    """
+    return _key(_document(document), locale, part)
+
+
+def _key(document: bytes, locale: str, part: str) -> str:
+    if part not in _PARTS:
+        raise ValueError(f"a part is one of {', '.join(_PARTS)}, not {part}")
+    try:
+        return _written(_library.plurals_find_locale, *_words((document, _bytes(locale))), _PARTS.index(part)).decode()
+    except Fault as fault:
+        if fault.number != _LOCALE:
+            raise
+        raise Fault(_LOCALE, locale) from None
+
+
+def _is_known(document: bytes, locale: str) -> bool:
+    """Returns whether a document has another key than root for a locale, or root was asked for."""
+    if locale.replace("_", "-").split("-")[0].lower() in ("root", "und"):
+        return True
+    for part in ("cardinal", "ordinal"):
+        try:
+            if _key(document, locale, part).lower() != "root":
+                return True
+        except Fault as fault:
+            if fault.number != _LOCALE:
+                raise
+    return False
+
+
+def _read(export: Any, document: bytes, locale: str, part: str, *words: Any) -> bytes:
+    """Returns what an export writes for a locale, else for the key of its chain, of which root is only for a language that is known."""
+    try:
+        return _written(export, *_words((document, _bytes(locale))), *words)
+    except Fault as fault:
+        if fault.number != _LOCALE:
+            raise
+    key = _key(document, locale, part)
+    if key.lower() == "root" and not _is_known(document, locale):
+        raise Fault(_LOCALE, locale)
+    return _written(export, *_words((document, _bytes(key))), *words)
 
 
 class Rules:
@@ -205,11 +263,11 @@ class Rules:
     def of_locale(cls, locale: str, ordinal: bool = False, document: Optional[Union[str, bytes]] = None) -> Rules:
         """Reads a locale's rules of a document (docs/JSON.md), which is the installed one of CLDR 48 unless another is given.
 
-        The locale is compared byte by byte: CLDR has ru and pt-PT, not ru-RU.
+        They are those of the key that find_locale returns: of ru for ru_RU. The rules of root are for a language that the document has
+        for the other type of numbers, and for root; any other language is the fault -75, whose text names the locale.
         """
         rules = cls.__new__(cls)
-        words = [*_words((_document(document), _bytes(locale))), int(ordinal)]
-        rules.block = _written(_library.plurals_rules_from_document, *words)
+        rules.block = _read(_library.plurals_rules_from_document, _document(document), locale, _PARTS[ordinal], int(ordinal))
         return rules
 
     def categories(self) -> list[Category]:
@@ -298,8 +356,8 @@ class Ranges:
     table: bytes
 
     def __init__(self, locale: str, document: Optional[Union[str, bytes]] = None) -> None:
-        """Reads the ranges of a locale, which is compared byte by byte."""
-        self.table = _written(_library.plurals_ranges_from_document, *_words((_document(document), _bytes(locale))))
+        """Reads the ranges of a locale, by its key as Rules.of_locale does."""
+        self.table = _read(_library.plurals_ranges_from_document, _document(document), locale, "ranges")
 
     def category(self, start: Category, end: Category) -> Category:
         """Returns the category of a range, by those of its start and its end."""

@@ -161,6 +161,44 @@ def test_documents():
         assert fault.value.number == number
 
 
+@pytest.mark.parametrize("locale, key", [
+    ("ru_RU", "ru"), ("en-US", "en"), ("EN_us", "en"), ("sr-Latn-RS", "sr"), ("pt_AO", "pt-PT"), ("pt-BR", "pt"), ("nb-NO", "nb"), ("root", "root"),
+    ("und-US", "root"),
+])  # fmt: skip
+def test_a_locale_has_the_rules_of_its_chain(locale, key):
+    assert plurals.find_locale(locale) == key
+    assert Rules.of_locale(locale).block == Rules.of_locale(key).block
+
+
+def test_each_part_has_its_keys():
+    assert [plurals.find_locale("pt_AO", part) for part in ("cardinal", "ordinal", "ranges")] == ["pt-PT", "pt", "pt"]
+    assert Ranges("pt_AO").table == Ranges("pt").table
+    # CLDR has no ordinal rules of Akan, so they are those of root.
+    assert plurals.find_locale("ak-GH", "ordinal") == "root"
+    assert Rules.of_locale("ak-GH", ordinal=True).categories() == ["other"]
+    with pytest.raises(ValueError):
+        plurals.find_locale("en", "range")
+
+
+@pytest.mark.parametrize("locale", ["xx", "xx-YY", "russian", ""])
+def test_an_unknown_language_is_named(locale):
+    assert plurals.find_locale(locale) == "root"
+    for read in (Rules.of_locale, Ranges, lambda it: Rules.of_locale(it, ordinal=True), lambda it: plurals.find_locale(it, "ranges")):
+        with pytest.raises(Fault, match=f"for the locale {locale!r}$") as fault:
+            read(locale)
+        assert fault.value.number == -75
+
+
+def test_keys_of_documents():
+    document = '{"cardinal":{"A-b":{"two":"n = 2"}},"parents":{"c":"a-b"}}'
+    assert plurals.find_locale("c", document=document) == plurals.find_locale("a_B_c", document=document) == "A-b"
+    assert Rules.of_locale("C-d", document=document.encode()).category(2) is Category.TWO
+    for locale, text, number in (("a", document, -75), ("a", "{", -70), ("a", "[]", -75), ("\ud800", "{", -2)):
+        with pytest.raises(Fault) as fault:
+            plurals.find_locale(locale, document=text)
+        assert fault.value.number == number
+
+
 def test_texts_that_are_no_rules():
     with pytest.raises(Fault) as fault:
         Rules(two="n 2")

@@ -97,10 +97,13 @@ def texts_of_plurals(plurals, key):
     for it in plurals.items:
         name = it.quantity
         if it.tag != "item" or name not in CATEGORIES:
-            raise Fault(f"{key}: it has the {it.tag} {name}, which is no form: write one of {', '.join(CATEGORIES)}")
+            raise Fault(f"{key}: it has the {it.tag} {name}, which is no form: write one of {', '.join(CATEGORIES)}", it.line)
         if name in texts:
-            raise Fault(f"{key}: {name} stands twice: remove one of them")
-        texts[name] = android_text("".join(it.parts), f"{key}, {name}")
+            raise Fault(f"{key}: {name} stands twice: remove one of them", it.line)
+        try:
+            texts[name] = android_text("".join(it.parts), f"{key}, {name}")
+        except Fault as fault:
+            raise Fault(str(fault), it.line) from None
     return texts
 
 

@@ -9,12 +9,23 @@ from .lines import Fault, shown
 
 # The charset of a gettext file, as its header names it.
 NAMED = re.compile(rb"(Content-Type:[^\"\n]{0,99}charset=)([^\s\\\"]{1,60})")
+# How many bytes plural_forms reads of a file.
+MOST = 4194304
 WIDE = (codecs.BOM_UTF16_LE, codecs.BOM_UTF16_BE)
 
 
 def notice(line, code, text, severity="error", left_out=0):
     """Returns what is told of a file, or of a message that is left out."""
     return {"line": line, "severity": severity, "code": code, "text": text, **({"left_out": left_out} if left_out else {})}
+
+
+def json_text(told):
+    """Returns a JSON text; if that is too long to be read, one that tells so."""
+    text = json.dumps(told, ensure_ascii=False, separators=(",", ":")).encode("utf-8", "backslashreplace") + b"\n"
+    if len(text) <= MOST:
+        return text
+    long = notice(None, "not-read", f"it makes more than {MOST} bytes of JSON: split it")
+    return json_text({"@@file": told["@@file"], "messages": [], "notices": [long]})
 
 
 def told_plurals(plurals, more):
@@ -41,14 +52,13 @@ def told_android(data, path):
         try:
             message = told_plurals(it, more)
         except Fault as fault:
-            notices.append(notice(it.line, "syntax", str(fault), left_out=1))
+            notices.append(notice(fault.line or it.line, "syntax", str(fault), left_out=1))
             continue
         if message is None:
             notices.append(notice(it.line, "left-out", f"{shown(key_of(it, more))} refers to another resource: left out", "note", 1))
         else:
             messages.append(message)
-    told = {"@@file": path, **({"@@locale": locale} if locale else {}), "messages": messages, "notices": notices}
-    return json.dumps(told, ensure_ascii=False, indent=1).encode("utf-8", "backslashreplace") + b"\n"
+    return json_text({"@@file": path, **({"@@locale": locale} if locale else {}), "messages": messages, "notices": notices})
 
 
 def codec_of(data):
@@ -75,7 +85,7 @@ def in_utf8(data):
 
 def told_catalog(text, path):
     """Returns the JSON text that tells a gettext file in UTF-8, under its name."""
-    return json.dumps({"@@file": path, "catalog": text.decode("utf-8", "replace")}, ensure_ascii=False).encode("utf-8", "backslashreplace") + b"\n"
+    return json_text({"@@file": path, "catalog": text.decode("utf-8", "replace")})
 
 
 def input_of(data, path):

@@ -3,7 +3,11 @@ import os
 
 
 class Fault(Exception):
-    """What is wrong with a file or a message: where, why, and what to do."""
+    """What is wrong with a file or a message: where, why, and what to do; the line, if it is another one than the message's."""
+
+    def __init__(self, text, line=None):
+        super().__init__(text)
+        self.line = line
 
 
 def shown(text):

@@ -81,12 +81,11 @@ def forms_of(count, indices, names, categories, locale, place):
 
 
 def differing_in(groups, found, index_of):
-    """Returns the integers below 10000 that have another index than their category, and the least two of a category that has the index
-    of a larger one."""
+    """Returns the integers below 10000 that have another index than their category, or whose category has the index of a larger one."""
     differing = {it for name, numbers in groups.items() for it in numbers if index_of[it] != found[name] and it < 10000}
     for index in set(found.values()):
         sharing = sorted((it for name, it in groups.items() if found[name] == index and it[0] < 10000), key=len)
-        differing.update(it for numbers in sharing[:-1] for it in numbers[:2])
+        differing.update(it for numbers in sharing[:-1] for it in numbers if it < 10000)
     return differing
 
 

@@ -8,7 +8,7 @@ use Rattle.plural_fallback.specs.Chain.{next_by}
 use Rattle.plural_fallback.specs.FirstKeys.{locale_at}
 use Rattle.plural_fallback.specs.LocaleNames.{before_last}
 use Rattle.plural_fallback.specs.declared.first_key.TheConstants.{MOST_LOCALES}
-use Rattle.plural_documents.specs.Found.{Found, IsFoundInMembers, together}
+use Rattle.document_report.specs.FoundInDocuments.{Found, IsFoundInMembers, together}
 use Rattle.document_report.specs.Names.{is_long_name}
 use Rattle.document_report.specs.ParentFaults.{found_of_chain, found_of_child, found_of_parent, IsFoundInParent, short_next}
 

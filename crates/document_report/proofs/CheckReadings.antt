@@ -6,7 +6,7 @@ use Rattle.serde_json.specs.Data.{Data, Members, no_members, member}
 use Rattle.serde_json.specs.Find.{as_null, as_object, get}
 use Rattle.serde_json.specs.Written.{has_float}
 use Rattle.plural_documents.specs.PrintedKeys.{name_text}
-use Rattle.document_report.specs.CheckAnswer.{Answer, AnswersDocument, AnswersInput, IsCheckAnswered, IsAnswerTo, check_origin}
+use Rattle.document_report.specs.CheckAnswer.{Answer, AnswersDocument, AnswersInputAs, IsCheckAnswered, IsAnswerTo, check_origin}
 use Rattle.document_report.specs.CheckedDocument.{document_formed, document_with, has_part_form, locales_formed, object_formed, part_formed, parts_formed, value_in, document_of_bytes}
 use Rattle.plural_documents.specs.Steps.{or_fault, ◌>>=◌}
 use Rattle.document_report.specs.Inner.CheckCalls.{Gives, GivesAfterReading, GivesFault, answer_view, check_input_fault}
@@ -16,6 +16,7 @@ use Rattle.document_report.specs.declared.error.CheckError.TheVariants.{Usage, R
 use Rattle.plural_fallback.specs.declared.locales.Part.{Part}
 use Rattle.plural_fallback.specs.declared.locales.Part.TheVariants.{Cardinal, Ordinal, Ranges}
 use Rattle.document_report.specs.declared.place.Place.TheVariants as place
+use Rattle.document_report.specs.declared.report.Report.{Report}
 use Rattle.document_report.specs.declared.report.Verdict.{Verdict}
 use Rattle.document_report.specs.declared.run.Answer.{Answer as CodeAnswer}
 use Rattle.document_report.proofs.CheckFaults.{mapped}
@@ -87,35 +88,37 @@ bytes_not_long bytes =
     (λ value. steps_not_long (document_formed value) (λ _. Ok value) (document_not_long value) (λ done h. cc))
 
 -- nor is the answer to them
-pub answer_not_long : (bytes : List ℕ) → AnswersDocument (document_of_bytes bytes) (Err TooLong) → ⊥
-answer_not_long bytes = by_value (document_of_bytes bytes) (bytes_not_long bytes)
+pub answer_not_long : (text_of : Report → List ℕ) (bytes : List ℕ) → AnswersDocument text_of (document_of_bytes bytes) (Err TooLong) → ⊥
+answer_not_long text_of bytes = by_value (document_of_bytes bytes) (bytes_not_long bytes)
   where
-    by_value : (value : Result Data CheckError) → (value ≡ Err TooLong → ⊥) → AnswersDocument value (Err TooLong) → ⊥
+    by_value : (value : Result Data CheckError) → (value ≡ Err TooLong → ⊥) → AnswersDocument text_of value (Err TooLong) → ⊥
     by_value (Ok value) none h = h
     by_value (Err e) none h = let same : TooLong ≡ e = cc in none (ap Err (sym same))
 
 -- ---- The answer to a document
 
 -- a fault of the document is the answer
-pub document_refused : (value : Result Data CheckError) (e : CheckError) (r : Result CodeAnswer CheckError)
-    → r ≡ Err e → GivesFault (λ fault. value ≡ Err fault) e → Gives answer_view (AnswersDocument value) r
-document_refused value e r is h =
-    rw is (mapped (λ fault. value ≡ Err fault) (λ fault. AnswersDocument value (Err fault)) (λ fault there. rw there refl) e h)
+pub document_refused : (text_of : Report → List ℕ) (value : Result Data CheckError) (e : CheckError) (r : Result CodeAnswer CheckError)
+    → r ≡ Err e → GivesFault (λ fault. value ≡ Err fault) e → Gives answer_view (AnswersDocument text_of value) r
+document_refused text_of value e r is h =
+    rw is (mapped (λ fault. value ≡ Err fault) (λ fault. AnswersDocument text_of value (Err fault)) (λ fault there. rw there refl) e h)
 
 -- the answer to a document is the answer to the result that holds it
-pub document_answered : (value : Result Data CheckError) (document : Data) (answer : Answer)
-    → value ≡ Ok document → IsAnswerTo document answer → AnswersDocument value (Ok answer)
-document_answered value document answer there h =
-    subst (λ (v : Result Data CheckError). AnswersDocument v (Ok answer)) (sym there) h
+pub document_answered : (text_of : Report → List ℕ) (value : Result Data CheckError) (document : Data) (answer : Answer)
+    → value ≡ Ok document → IsAnswerTo text_of document answer → AnswersDocument text_of value (Ok answer)
+document_answered text_of value document answer there h =
+    subst (λ (v : Result Data CheckError). AnswersDocument text_of v (Ok answer)) (sym there) h
 
 -- without arguments, only the input matters
-pub without_words : (has_words : Bool) (input : List ℕ) (answer : Result Answer CheckError) → has_words ≡ false
-    → AnswersDocument (value_in input) answer → AnswersInput has_words input answer
-without_words has_words input answer none h = rw none h
+pub without_words : (text_of : Report → List ℕ) (has_words : Bool) (input : List ℕ) (answer : Result Answer CheckError)
+    → has_words ≡ false
+    → AnswersDocument text_of (value_in input) answer → AnswersInputAs text_of has_words input answer
+without_words text_of has_words input answer none h = rw none h
 
 -- arguments are a fault
-pub with_words : (has_words : Bool) (input : List ℕ) → has_words ≡ true → AnswersInput has_words input (Err Usage)
-with_words has_words input some = rw some refl
+pub with_words : (text_of : Report → List ℕ) (has_words : Bool) (input : List ℕ) → has_words ≡ true
+    → AnswersInputAs text_of has_words input (Err Usage)
+with_words text_of has_words input some = rw some refl
 
 -- ---- The answer of a call that may read
 
@@ -133,21 +136,21 @@ without_reading IsAnswer (Err Write) h = h
 without_reading IsAnswer (Err Memory) h = tt
 
 -- if the input is too long or can't be read, that fault is the answer
-of_input : (left : Option (List ℕ)) (e : InputError) → GivesInput left (Err e)
-    → (bytes : List ℕ) × IsInput left bytes × GivesAfterReading (AnswersDocument (value_in bytes)) (Err (check_input_fault e))
-of_input left cause.Read h = let i = some_input left in (i.0, i.1, tt)
-of_input left cause.TooLong h = (
+of_input : (text_of : Report → List ℕ) (left : Option (List ℕ)) (e : InputError) → GivesInput left (Err e)
+    → (bytes : List ℕ) × IsInput left bytes × GivesAfterReading (AnswersDocument text_of (value_in bytes)) (Err (check_input_fault e))
+of_input text_of left cause.Read h = let i = some_input left in (i.0, i.1, tt)
+of_input text_of left cause.TooLong h = (
   h.0,
   h.1,
-  subst (λ (value : Result Data CheckError). AnswersDocument value (Err TooLong)) (sym (beyond TooLong document_of_bytes h.0 h.2)) refl,
+  subst (λ (value : Result Data CheckError). AnswersDocument text_of value (Err TooLong)) (sym (beyond TooLong document_of_bytes h.0 h.2)) refl,
 )
-of_input left cause.Memory h = let i = some_input left in (i.0, i.1, tt)
+of_input text_of left cause.Memory h = let i = some_input left in (i.0, i.1, tt)
 
 -- `?` passes on such a fault
-pub no_input : (left : Option (List ℕ)) (e : InputError) (r : Result CodeAnswer CheckError)
+pub no_input : (text_of : Report → List ℕ) (left : Option (List ℕ)) (e : InputError) (r : Result CodeAnswer CheckError)
     → r ≡ Err (check_input_fault e) → GivesInput left (Err e)
-    → (bytes : List ℕ) × IsInput left bytes × GivesAfterReading (AnswersDocument (value_in bytes)) r
-no_input left e r is h = rw is (of_input left e h)
+    → (bytes : List ℕ) × IsInput left bytes × GivesAfterReading (AnswersDocument text_of (value_in bytes)) r
+no_input text_of left e r is h = rw is (of_input text_of left e h)
 
 -- what was read at an error of the input was read at its fault
 read_at : (old new : Option (List ℕ)) (e : InputError)
@@ -162,12 +165,14 @@ pub read_on : {B : Type 0} (old new : Option (List ℕ)) (e : InputError) (r : R
 read_on old new e r is h = rw is (read_at old new e h)
 
 -- the answer to the bytes is the answer to the input
-pub of_all : (whole bytes : List ℕ) → length whole ≤ most_bytes → bytes ≡ whole → (r : Result CodeAnswer CheckError)
-    → Gives answer_view (AnswersDocument (document_of_bytes bytes)) r → GivesAfterReading (AnswersDocument (value_in whole)) r
-of_all whole bytes short same r h =
-    let all = subst (λ (read : List ℕ). Gives answer_view (AnswersDocument (document_of_bytes read)) r) same h in
-    subst (λ (value : Result Data CheckError). GivesAfterReading (AnswersDocument value) r) (sym (within TooLong document_of_bytes whole short))
-    (without_reading (AnswersDocument (document_of_bytes whole)) r all)
+pub of_all : (text_of : Report → List ℕ) (whole bytes : List ℕ) → length whole ≤ most_bytes → bytes ≡ whole
+    → (r : Result CodeAnswer CheckError) → Gives answer_view (AnswersDocument text_of (document_of_bytes bytes)) r
+    → GivesAfterReading (AnswersDocument text_of (value_in whole)) r
+of_all text_of whole bytes short same r h =
+    let all = subst (λ (read : List ℕ). Gives answer_view (AnswersDocument text_of (document_of_bytes read)) r) same h in
+    subst (λ (value : Result Data CheckError). GivesAfterReading (AnswersDocument text_of value) r)
+    (sym (within TooLong document_of_bytes whole short))
+    (without_reading (AnswersDocument text_of (document_of_bytes whole)) r all)
 
 -- if no answer says that the input is too long, it was read to its end
 pub to_the_end : (IsAnswer : Result Answer CheckError → Type 0) (old new : Option (List ℕ)) → (IsAnswer (Err TooLong) → ⊥)

@@ -37,8 +37,8 @@ use Rattle.document_report.specs.DocumentReport.{IsFoundInDocument, IsFoundInEnt
 use Rattle.document_report.specs.DocumentReport.{faults_of, found_by_check, found_of_count, found_of_key, found_of_other, found_of_rules, found_under}
 use Rattle.document_report.specs.DocumentReport.{found_under_all, has_locale, text_order, texts_at}
 use Rattle.document_report.specs.FaultlessDocuments.{FaultlessDocumentsAreTaken, HasAll}
-use Rattle.plural_documents.specs.Found.{Found, IsFoundInMembers}
-use Rattle.plural_documents.specs.PrintedKeys.{name_text}
+use Rattle.document_report.specs.DocumentPlaces.{LocalePlace}
+use Rattle.document_report.specs.FoundInDocuments.{Found, IsFoundInMembers}
 use Rattle.plural_fallback.specs.LocalesJson.{part_name}
 use Rattle.document_report.specs.declared.error.CheckError.{CheckError}
 use Rattle.plural_fallback.specs.declared.locales.Part.{Part}
@@ -137,23 +137,23 @@ abbrev EachOf : (PluralCategory → Type 0) → List PluralCategory → Type 0
 EachOf Has [] = Unit {0}
 EachOf Has (category ∷ categories) = Has category × EachOf Has categories
 
-module _ (part : Part) (name : List ℕ) (value : Data) (faults : List Fault) where
+module _ (place : LocalePlace) (value : Data) (faults : List Fault) where
   -- the value is absent, null or a text, and the text has no fault
   abbrev IsClear : PluralCategory → Type 0
   IsClear category =
-      ((found_under part name category (get (name_of category) value)).faults ≡ 0) × (length (faults_of category faults) ≡ 0)
+      ((found_under place category (get (name_of category) value)).faults ≡ 0) × (length (faults_of category faults) ≡ 0)
 
-  each_clear : (categories : List PluralCategory) → (found_under_all part name value faults categories).faults ≡ 0
+  each_clear : (categories : List PluralCategory) → (found_under_all place value faults categories).faults ≡ 0
       → EachOf IsClear categories
   each_clear [] h = tt
   each_clear (category ∷ categories) h =
-      let under = (found_under part name category (get (name_of category) value)).faults in
+      let under = (found_under place category (get (name_of category) value)).faults in
       let told = length (faults_of category faults) in
-      let rest = (found_under_all part name value faults categories).faults in
+      let rest = (found_under_all place value faults categories).faults in
       let later : told + rest ≡ 0 = no_second under (told + rest) h in
       ((no_first under (told + rest) h, no_first told rest later), each_clear categories (no_second told rest later))
 
-  all_clear : (found_under_all part name value faults text_order).faults ≡ 0 → (category : PluralCategory) → IsClear category
+  all_clear : (found_under_all place value faults text_order).faults ≡ 0 → (category : PluralCategory) → IsClear category
   all_clear h Zero = (each_clear text_order h).0
   all_clear h One = (each_clear text_order h).1.0
   all_clear h Two = (each_clear text_order h).1.1.0
@@ -179,25 +179,25 @@ module _ (one : TextsGiveOneAnswer) where
       (packed, sym ((one bytes (Ok packed)).0 given))
 
   -- the rule under a category's name is absent or that of its text
-  optional_means : (part : Part) (name : List ℕ) (rules : Option FiveRules) (category : PluralCategory) (value : Option Data)
-      (all : Findings) → (found_under part name category value).faults ≡ 0
+  optional_means : (place : LocalePlace) (rules : Option FiveRules) (category : PluralCategory) (value : Option Data)
+      (all : Findings) → (found_under place category value).faults ≡ 0
       → text.IsFoundIn rules category (option_and_then as_str value) all → all.faults ≡ []
       → Means (optional_meant category value)
-  optional_means part name rules category None all clear is none = (None, refl)
-  optional_means part name rules category (Some null) all clear is none = (None, refl)
-  optional_means part name rules category (Some (boolean b)) all clear is none = absurd (omega arith)
-  optional_means part name rules category (Some (number n)) all clear is none = absurd (omega arith)
-  optional_means part name rules category (Some (string s)) all clear is none =
+  optional_means place rules category None all clear is none = (None, refl)
+  optional_means place rules category (Some null) all clear is none = (None, refl)
+  optional_means place rules category (Some (boolean b)) all clear is none = absurd (omega arith)
+  optional_means place rules category (Some (number n)) all clear is none = absurd (omega arith)
+  optional_means place rules category (Some (string s)) all clear is none =
       let given = text_gives rules category s all is none in
       (Some given.0, ap (λ answer. naming_category (Some category) answer >>= λ rule. Ok (Some rule)) given.1)
-  optional_means part name rules category (Some (array items)) all clear is none = absurd (omega arith)
-  optional_means part name rules category (Some (object fields)) all clear is none = absurd (omega arith)
+  optional_means place rules category (Some (array items)) all clear is none = absurd (omega arith)
+  optional_means place rules category (Some (object fields)) all clear is none = absurd (omega arith)
 
-  member_means : (part : Part) (name : List ℕ) (rules : Option FiveRules) (value : Data) (category : PluralCategory)
-      → (found_under part name category (get (name_of category) value)).faults ≡ 0 → IsFaultless rules value category
+  member_means : (place : LocalePlace) (rules : Option FiveRules) (value : Data) (category : PluralCategory)
+      → (found_under place category (get (name_of category) value)).faults ≡ 0 → IsFaultless rules value category
       → Means (member_meant category value)
-  member_means part name rules value category clear (all, is, none) =
-      optional_means part name rules category (get (name_of category) value) all clear is none
+  member_means place rules value category clear (all, is, none) =
+      optional_means place rules category (get (name_of category) value) all clear is none
 
   -- five that mean something do so together
   five_mean : {A : Type 0} (zero one two few many : Stands A) → Means zero → Means one → Means two → Means few → Means many
@@ -210,22 +210,22 @@ module _ (one : TextsGiveOneAnswer) where
       → all.faults ≡ 0 → is_some (as_object value) ≡ true
       → Means (rules_meant value)
   rules_mean part locale value all (checked, others, (rules, read, (findings, six, (faults_are, count))), members, whole) none formed =
-      let name = name_text locale in
+      let place : LocalePlace = record { part = part; locale = locale } in
       let sum = sym (ap (λ (f : Found). f.faults) whole) ∙ none in
-      let key = (found_of_key part locale).faults in
-      let other = (found_of_other part name value).faults in
-      let by_check = (found_by_check part name value checked).faults in
+      let key = (found_of_key place).faults in
+      let other = (found_of_other place value).faults in
+      let by_check = (found_by_check place value checked).faults in
       let checks : by_check + others.faults ≡ 0 =
       no_second other (by_check + others.faults) (no_second key (other + (by_check + others.faults)) sum) in
-      let under = (found_under_all part name value checked.faults text_order).faults in
-      let clear = all_clear part name value checked.faults (no_first under 0 (no_first by_check others.faults checks)) in
+      let under = (found_under_all place value checked.faults text_order).faults in
+      let clear = all_clear place value checked.faults (no_first under 0 (no_first by_check others.faults checks)) in
       let no_fault : findings.faults ≡ [] = sym faults_are ∙ none_left checked.faults (λ category. (clear category).1) in
       let free = five_faultless rules value findings six no_fault in
-      let zero = member_means part name rules value Zero (clear Zero).0 free.0 in
-      let one' = member_means part name rules value One (clear One).0 free.1 in
-      let two = member_means part name rules value Two (clear Two).0 free.2 in
-      let few = member_means part name rules value Few (clear Few).0 free.3 in
-      let many = member_means part name rules value Many (clear Many).0 free.4 in
+      let zero = member_means place rules value Zero (clear Zero).0 free.0 in
+      let one' = member_means place rules value One (clear One).0 free.1 in
+      let two = member_means place rules value Two (clear Two).0 free.2 in
+      let few = member_means place rules value Few (clear Few).0 free.3 in
+      let many = member_means place rules value Many (clear Many).0 free.4 in
       let all_mean = five_mean _ _ _ _ _ zero one' two few many in
       (all_mean.0, of_object (is_some (as_object value)) _ all_mean.0 formed all_mean.1)
     where
@@ -293,14 +293,14 @@ record IsEntry (key : List ℕ) (value : Data) : Type 0 where
   pub category : RawPluralCategory
   pub value_is : category_meant value ≡ Ok category
 
-entry_means : (texts : SixTexts) (name key : List ℕ) (value : Data) (all : Found) → IsFoundInEntry texts name key value all
+entry_means : (texts : SixTexts) (place : LocalePlace) (key : List ℕ) (value : Data) (all : Found) → IsFoundInEntry texts place key value all
     → all.faults ≡ 0
     → IsEntry key value
-entry_means texts name key value all (Some fault, has, is) none = absurd (let e = ap (λ (f : Found). f.faults) is in cc)
-entry_means texts name key value all (None, inl (no_range, fault), is) none = absurd cc
-entry_means texts name key value all (None, inr (start, end, named, inl (no_rule, fault)), is) none = absurd cc
-entry_means texts name key value all (None, inr (start, end, named, inr (inl (rule, no_rule, fault))), is) none = absurd cc
-entry_means texts name key value all
+entry_means texts place key value all (Some fault, has, is) none = absurd (let e = ap (λ (f : Found). f.faults) is in cc)
+entry_means texts place key value all (None, inl (no_range, fault), is) none = absurd cc
+entry_means texts place key value all (None, inr (start, end, named, inl (no_rule, fault)), is) none = absurd cc
+entry_means texts place key value all (None, inr (start, end, named, inr (inl (rule, no_rule, fault))), is) none = absurd cc
+entry_means texts place key value all
     (None, inr (start, end, (first, last, key_is, starts, ends), inr (inr (rule, other_rule, (category, value_is, has)))), is) none =
     let there = category_named_as category in
     record {
@@ -322,32 +322,32 @@ ranges_mean : (document : Data) (locale : List ℕ) (value : Data) (all : Found)
     → all.faults ≡ 0 → is_some (table_in value) ≡ true
     → Means (ranges_meant value) × IsTrue (has_locale Cardinal document locale)
 ranges_mean document locale value all (entries, is, whole) none formed =
-    let name = name_text locale in
+    let place : LocalePlace = record { part = Ranges; locale = locale } in
     let rules = value_of_locale (part_name Cardinal) locale document in
     let sum = sym (ap (λ (f : Found). f.faults) whole) ∙ none in
-    let key = (found_of_key Ranges locale).faults in
-    let of_rules = (found_of_rules name rules).faults in
+    let key = (found_of_key place).faults in
+    let of_rules = (found_of_rules place rules).faults in
     let later : of_rules + entries.faults ≡ 0 = no_second key (of_rules + entries.faults) sum in
-    let each = each_faultless (IsFoundInEntry (texts_at rules) name) (members_or_none (table_in value)) entries is (no_second of_rules entries.faults later) in (
-      table_means (table_in value) formed (each_of (texts_at rules) name (members_or_none (table_in value)) each),
-      rules_there name rules (no_first of_rules entries.faults later),
+    let each = each_faultless (IsFoundInEntry (texts_at rules) place) (members_or_none (table_in value)) entries is (no_second of_rules entries.faults later) in (
+      table_means (table_in value) formed (each_of (texts_at rules) place (members_or_none (table_in value)) each),
+      rules_there place rules (no_first of_rules entries.faults later),
     )
   where
-    each_of : (texts : SixTexts) (name : List ℕ) (members : Members)
-        → Each (λ key value. (one : Found) × IsFoundInEntry texts name key value one × (one.faults ≡ 0)) members
+    each_of : (texts : SixTexts) (place : LocalePlace) (members : Members)
+        → Each (λ key value. (one : Found) × IsFoundInEntry texts place key value one × (one.faults ≡ 0)) members
         → Each IsEntry members
-    each_of texts name no_members h = tt
-    each_of texts name (member key value members) ((one, is, none), h) =
-        (entry_means texts name key value one is none, each_of texts name members h)
+    each_of texts place no_members h = tt
+    each_of texts place (member key value members) ((one, is, none), h) =
+        (entry_means texts place key value one is none, each_of texts place members h)
 
     table_means : (table : Option Members) → is_some table ≡ true → Each IsEntry (members_or_none table)
         → Means (there_or Shape table >>= members_meant no_ranges)
     table_means None formed h = absurd cc
     table_means (Some members) formed h = members_mean no_ranges members h
 
-    rules_there : (name : List ℕ) (rules : Option Data) → (found_of_rules name rules).faults ≡ 0 → IsTrue (is_some rules)
-    rules_there name None h = absurd (omega arith)
-    rules_there name (Some value) h = refl
+    rules_there : (place : LocalePlace) (rules : Option Data) → (found_of_rules place rules).faults ≡ 0 → IsTrue (is_some rules)
+    rules_there place None h = absurd (omega arith)
+    rules_there place (Some value) h = refl
 
 -- ---- A part of the document
 

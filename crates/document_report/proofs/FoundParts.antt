@@ -9,10 +9,11 @@ use Rattle.serde_json.specs.Find.{as_null, as_str, get}
 use Rattle.icu_plurals.specs.declared.PluralCategory.{PluralCategory}
 use Rattle.icu_plurals.specs.Categories.{name_of}
 use Rattle.plural_checker.specs.declared.Fault.{Fault}
-use Rattle.document_report.specs.DocumentReport.{faults_of, found_told, found_under, found_under_all, no_text_line}
-use Rattle.plural_documents.specs.Found.{Found, nothing_found, one_fault, together}
-use Rattle.plural_documents.proofs.FoundLemmas.{nothing-together, together_assoc, two_added}
-use Rattle.plural_fallback.specs.declared.locales.Part.{Part}
+use Rattle.document_report.specs.DocumentPlaces.{LocalePlace, at_text}
+use Rattle.document_report.specs.DocumentReport.{faults_of, found_told, found_under, found_under_all}
+use Rattle.document_report.specs.FoundInDocuments.{Found, fault_at, nothing_found, together}
+use Rattle.document_report.specs.declared.cause.Cause.TheVariants.{NoText}
+use Rattle.document_report.proofs.FoundTogether.{nothing-together, together_assoc, two_added}
 
 -- three additions to something
 pub three_more : (old a b c one two three : Found) → one ≡ together old a → two ≡ together one b → three ≡ together two c
@@ -42,17 +43,17 @@ five_added a b c d e one two three four five first second third fourth fifth =
 -- ---- One thing after the other
 
 -- what is found under the next category, and in its text, comes after what was found so far
-pub next_under : (part : Part) (name : List ℕ) (value : Data) (faults : List Fault) (categories : List PluralCategory)
+pub next_under : (place : LocalePlace) (value : Data) (faults : List Fault) (categories : List PluralCategory)
     (i : ℕ) (d : PluralCategory) (now under next : Found) → i < length categories
-    → under ≡ together now (found_under part name (get_or categories i d) (get (name_of (get_or categories i d)) value))
-    → next ≡ together under (found_told part name (get_or categories i d) (faults_of (get_or categories i d) faults))
-    → together next (found_under_all part name value faults (drop (i + 1) categories))
-    ≡ together now (found_under_all part name value faults (drop i categories))
-next_under part name value faults categories i d now under next lt step told =
+    → under ≡ together now (found_under place (get_or categories i d) (get (name_of (get_or categories i d)) value))
+    → next ≡ together under (found_told place (get_or categories i d) (faults_of (get_or categories i d) faults))
+    → together next (found_under_all place value faults (drop (i + 1) categories))
+    ≡ together now (found_under_all place value faults (drop i categories))
+next_under place value faults categories i d now under next lt step told =
     let category = get_or categories i d in
-    let rest = found_under_all part name value faults (drop (suc i) categories) in
-    let here = found_under part name category (get (name_of category) value) in
-    let faulty = found_told part name category (faults_of category faults) in
+    let rest = found_under_all place value faults (drop (suc i) categories) in
+    let here = found_under place category (get (name_of category) value) in
+    let faulty = found_told place category (faults_of category faults) in
     rw (add-one, drop-cons categories i d lt)
     (ap (λ (f : Found). together f rest) (told ∙ ap (λ (f : Found). together f faulty) step)
     ∙ together_assoc (together now here) faulty rest
@@ -65,14 +66,8 @@ pub on_ok : {A E P Q : Type 0} (r : Result A E) → (P → Q) → OnOk r P → O
 on_ok (Ok x) f h = f h
 on_ok (Err e) f h = tt
 
--- a text that is changed only by an `Ok`
-pub if_ok : {A E : Type 0} (r : Result A E) (new changed kept : List ℕ) → new ≡ (if is_ok r then changed else kept)
-    → OnOk r (new ≡ changed)
-if_ok (Ok x) new changed kept e = e
-if_ok (Err e) new changed kept h = tt
-
--- a value that is neither null nor a text has a line
-pub no_text : (part : Part) (locale : List ℕ) (category : PluralCategory) (value : Data)
+-- a value that is neither null nor a text is a fault
+pub no_text : (place : LocalePlace) (category : PluralCategory) (value : Data)
     → is_some (as_null value) ≡ false → is_some (as_str value) ≡ false
-    → found_under part locale category (Some value) ≡ one_fault (no_text_line part locale category)
-no_text part locale category value null string = rw (null, string) refl
+    → found_under place category (Some value) ≡ fault_at (at_text place category) NoText
+no_text place category value null string = rw (null, string) refl

@@ -1,6 +1,7 @@
 pub mod CheckFaults
 pub mod Entries
 pub mod FoundParts
+pub mod FoundTogether
 pub mod LineTexts
 pub mod Told
 pub mod RowLookups

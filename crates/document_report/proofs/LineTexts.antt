@@ -2,11 +2,7 @@
 -- written.
 use Rattle.std.proofs.Common.{◌≡◌, ℕ, List, ◌++◌, append_assoc}
 
--- five pieces
-pub five : (a b c d e : List ℕ) → (((a ++ b) ++ c) ++ d) ++ e ≡ a ++ (b ++ (c ++ (d ++ e)))
-five a b c d e = simp append_assoc
-
--- nine
+-- nine pieces
 pub nine : (a b c d e f g h i : List ℕ)
     → (((((((a ++ b) ++ c) ++ d) ++ e) ++ f) ++ g) ++ h) ++ i ≡ a ++ (b ++ (c ++ (d ++ (e ++ (f ++ (g ++ (h ++ i)))))))
 nine a b c d e f g h i = simp append_assoc

@@ -5,17 +5,19 @@ use Rattle.serde_json.specs.Data.{Data, Members}
 use Rattle.serde_json.specs.Find.{as_null, as_object, get}
 use Rattle.plural_fallback.specs.LocalesJson.{parent_in}
 use Rattle.document_report.specs.CheckedDocument.{members_or_none}
-use Rattle.plural_documents.specs.Found.{Found, IsFoundInMembers, nothing_found, one_fault, together}
-use Rattle.plural_documents.specs.Found.{HasGrownBy}
+use Rattle.document_report.specs.FoundInDocuments.{Found, IsFoundInMembers, fault_at, nothing_found, together}
+use Rattle.document_report.specs.FoundInDocuments.{HasGrownBy}
+use Rattle.document_report.specs.DocumentPlaces.{at_parents}
 use Rattle.document_report.specs.Inner.ParentRows.{parent_among}
 use Rattle.document_report.specs.ParentFaults.{found_of_shape, IsFoundInParent, IsFoundInParents}
+use Rattle.document_report.specs.declared.cause.Cause.TheVariants.{NoObject}
 use Rattle.document_report.proofs.ChainLimits.{same_parents}
-use Rattle.plural_documents.proofs.FoundLemmas.{together-nothing, two_added}
+use Rattle.document_report.proofs.FoundTogether.{together-nothing, two_added}
 use Rattle.document_report.proofs.RowLookups.{parents_are}
 
--- a part of another kind has a line
+-- a part of another kind is a fault
 pub no_object : (value : Data) → is_some (as_null value) ≡ false → is_some (as_object value) ≡ false
-    → found_of_shape (Some value) ≡ one_fault (codes "parents: no object")
+    → found_of_shape (Some value) ≡ fault_at at_parents NoObject
 no_object value null object = rw (null, object) refl
 
 -- the part is an object with these members

@@ -11,13 +11,13 @@ use Rattle.icu_plurals.specs.declared.PluralCategory.{PluralCategory}
 use Rattle.icu_plurals.specs.declared.PluralCategory.TheVariants.{Zero, One, Two, Few, Many, Other}
 use Rattle.icu_plurals.specs.Categories.{place_of}
 use Rattle.plural_checker.specs.declared.Fault.{Fault}
-use Rattle.document_report.specs.DocumentReport.{category_place, fault_line, faults_of, found_told}
-use Rattle.plural_documents.specs.FirstLines.{most_told, rest_lines}
-use Rattle.plural_documents.specs.Found.{Found, together}
-use Rattle.plural_documents.specs.Found.{faults_alone, lines_alone}
+use Rattle.document_report.specs.DocumentFindings.{Finding}
+use Rattle.document_report.specs.DocumentPlaces.{LocalePlace, at_text}
+use Rattle.document_report.specs.DocumentReport.{faults_of, found_told, text_finding}
+use Rattle.plural_documents.specs.FirstLines.{most_told}
+use Rattle.document_report.specs.FoundInDocuments.{Found, faults_alone, findings_alone, rest_of, together}
 use Rattle.document_report.specs.Inner.CheckCalls.{told_after}
-use Rattle.plural_fallback.specs.declared.locales.Part.{Part}
-use Rattle.plural_documents.proofs.FoundLemmas.{together_assoc}
+use Rattle.document_report.proofs.FoundTogether.{together_assoc}
 
 -- ---- Which faults are of a text
 
@@ -77,61 +77,61 @@ none_of category faults i fault within is other =
     dropped : (place_of fault.category == place_of category) ≡ false → faults_of category (fault ∷ []) ≡ []
     dropped e = rw e refl
 
--- ---- The lines of the first ones
+-- ---- The findings of the first ones
 
--- the lines of the first faults
-abbrev pub told_lines : Part → List ℕ → List Fault → List (List ℕ)
-told_lines part name faults = map (fault_line part name) (take most_told faults)
+-- the findings of the first faults
+abbrev pub told_findings : LocalePlace → List Fault → List Finding
+told_findings place faults = map (text_finding place) (take most_told faults)
 
--- one fault more has its line, if few enough come before it
-pub told_more : (part : Part) (name : List ℕ) (faults : List Fault) (fault : Fault)
-    → told_lines part name (faults ++ fault ∷ []) ≡ told_lines part name faults ++ told_after part name (length faults) fault
-told_more part name faults fault = by (nat_lt (length faults) most_told) refl
+-- one fault more has its finding, if few enough come before it
+pub told_more : (place : LocalePlace) (faults : List Fault) (fault : Fault)
+    → told_findings place (faults ++ fault ∷ []) ≡ told_findings place faults ++ told_after place (length faults) fault
+told_more place faults fault = by (nat_lt (length faults) most_told) refl
   where
     by : (few : Bool) → nat_lt (length faults) most_told ≡ few
-        → told_lines part name (faults ++ fault ∷ []) ≡ told_lines part name faults ++ told_after part name (length faults) fault
+        → told_findings place (faults ++ fault ∷ []) ≡ told_findings place faults ++ told_after place (length faults) fault
     by true few =
         let short : length faults + 1 ≤ most_told = grind (arith, common_steps, few) in
         let whole : length (faults ++ fault ∷ []) ≤ most_told = omega (arith, length-append faults (fault ∷ [])) in
-        rw few (ap (map (fault_line part name)) (take_all most_told (faults ++ fault ∷ []) whole)
-        ∙ map-append (fault_line part name) faults (fault ∷ [])
-        ∙ ap (λ l. map (fault_line part name) l ++ fault_line part name fault ∷ []) (sym (take_all most_told faults (omega arith))))
+        rw few (ap (map (text_finding place)) (take_all most_told (faults ++ fault ∷ []) whole)
+        ∙ map-append (text_finding place) faults (fault ∷ [])
+        ∙ ap (λ l. map (text_finding place) l ++ text_finding place fault ∷ []) (sym (take_all most_told faults (omega arith))))
     by false few =
-        rw few (ap (map (fault_line part name)) (take-append-le most_told faults (fault ∷ []) (grind (arith, common_steps, few)))
-        ∙ sym (append-nil (told_lines part name faults)))
+        rw few (ap (map (text_finding place)) (take-append-le most_told faults (fault ∷ []) (grind (arith, common_steps, few)))
+        ∙ sym (append-nil (told_findings place faults)))
 
--- the lines so far, and that of the next fault
-pub next_told : (part : Part) (name : List ℕ) (mine more : List Fault) (fault : Fault) (count : ℕ) (first now next : Found)
+-- the findings so far, and that of the next fault
+pub next_told : (place : LocalePlace) (mine more : List Fault) (fault : Fault) (count : ℕ) (first now next : Found)
     → more ≡ mine ++ fault ∷ [] → count ≡ length mine
-    → now ≡ together first (lines_alone (told_lines part name mine))
-    → next ≡ together now (lines_alone (told_after part name count fault))
-    → next ≡ together first (lines_alone (told_lines part name more))
-next_told part name mine more fault count first now next is counted so_far step =
+    → now ≡ together first (findings_alone (told_findings place mine))
+    → next ≡ together now (findings_alone (told_after place count fault))
+    → next ≡ together first (findings_alone (told_findings place more))
+next_told place mine more fault count first now next is counted so_far step =
     step
-    ∙ ap (λ (f : Found). together f (lines_alone (told_after part name count fault))) so_far
-    ∙ together_assoc first (lines_alone (told_lines part name mine)) (lines_alone (told_after part name count fault))
-    ∙ ap (λ (l : List (List ℕ)). together first (lines_alone l))
-    (ap (λ n. told_lines part name mine ++ told_after part name n fault) counted
-    ∙ sym (told_more part name mine fault) ∙ ap (told_lines part name) (sym is))
+    ∙ ap (λ (f : Found). together f (findings_alone (told_after place count fault))) so_far
+    ∙ together_assoc first (findings_alone (told_findings place mine)) (findings_alone (told_after place count fault))
+    ∙ ap (λ (l : List Finding). together first (findings_alone l))
+    (ap (λ n. told_findings place mine ++ told_after place n fault) counted
+    ∙ sym (told_more place mine fault) ∙ ap (told_findings place) (sym is))
 
--- with the line of those that aren't told, and the count of all
-pub all_told : (part : Part) (name : List ℕ) (category : PluralCategory) (mine : List Fault) (count : ℕ) (first now rest next : Found)
+-- with the finding that counts those that aren't told, and the count of all
+pub all_told : (place : LocalePlace) (category : PluralCategory) (mine : List Fault) (count : ℕ) (first now rest next : Found)
     → count ≡ length mine
-    → now ≡ together first (lines_alone (told_lines part name mine))
-    → rest ≡ together now (lines_alone (rest_lines (category_place part name category) count))
+    → now ≡ together first (findings_alone (told_findings place mine))
+    → rest ≡ together now (findings_alone (rest_of (at_text place category) count))
     → next ≡ together rest (faults_alone count)
-    → next ≡ together first (found_told part name category mine)
-all_told part name category mine count first now rest next counted so_far more all =
+    → next ≡ together first (found_told place category mine)
+all_told place category mine count first now rest next counted so_far more all =
     all
     ∙ ap (λ (f : Found). together f (faults_alone count))
-    (more ∙ ap (λ (f : Found). together f (lines_alone (rest_lines (category_place part name category) count))) so_far)
-    ∙ together_assoc (together first (lines_alone (told_lines part name mine))) (lines_alone (rest_lines (category_place part name category) count))
+    (more ∙ ap (λ (f : Found). together f (findings_alone (rest_of (at_text place category) count))) so_far)
+    ∙ together_assoc (together first (findings_alone (told_findings place mine))) (findings_alone (rest_of (at_text place category) count))
     (faults_alone count)
-    ∙ together_assoc first (lines_alone (told_lines part name mine))
-    (together (lines_alone (rest_lines (category_place part name category) count)) (faults_alone count))
+    ∙ together_assoc first (findings_alone (told_findings place mine))
+    (together (findings_alone (rest_of (at_text place category) count)) (faults_alone count))
     ∙ ap (λ (f : Found). together first f) joined
   where
-    joined : together (lines_alone (told_lines part name mine))
-        (together (lines_alone (rest_lines (category_place part name category) count)) (faults_alone count))
-        ≡ found_told part name category mine
-    joined = rw (counted, append-nil (rest_lines (category_place part name category) (length mine)), zero-add (length mine), zero-add (length mine)) refl
+    joined : together (findings_alone (told_findings place mine))
+        (together (findings_alone (rest_of (at_text place category) count)) (faults_alone count))
+        ≡ found_told place category mine
+    joined = rw (counted, append-nil (rest_of (at_text place category) (length mine)), zero-add (length mine), zero-add (length mine)) refl

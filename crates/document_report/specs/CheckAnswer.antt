@@ -1,6 +1,7 @@
 -- The program's answer to its input, and what it reads and writes.
---     AnswersInput has_words input answer      the answer: a report's text with its verdict, or the
---         first fault
+--     AnswersInputAs text_of has_words input answer      the answer: the text of a report, printed
+--         so, with its verdict, or the first fault
+--     AnswersInput has_words input answer      the same, printed as lines
 use Rattle.std.specs.Prelude.{◌≡◌, ℕ, ◌==◌, Bool, List, Option, Result, Ok, Err, if◌then◌else◌}
 use Rattle.std.specs.Io.KnownBytes.{Appends, Keeps}
 use Rattle.serde_json.specs.Data.{Data}
@@ -24,22 +25,26 @@ pub record Answer : Type 0 where
 abbrev pub verdict_of_report : Report → Verdict
 verdict_of_report report = if report.found.faults == 0 then NoFaults else Faults
 
-abbrev pub answer_with : Report → Answer
-answer_with report = record { text = report_text report; verdict = verdict_of_report report }
+abbrev pub answer_with : (Report → List ℕ) → Report → Answer
+answer_with text_of report = record { text = text_of report; verdict = verdict_of_report report }
 
 -- the answer to a document
-abbrev pub IsAnswerTo : Data → Answer → Type 0
-IsAnswerTo document answer = (report : Report) × IsReportOf document report × (answer ≡ answer_with report)
+abbrev pub IsAnswerTo : (Report → List ℕ) → Data → Answer → Type 0
+IsAnswerTo text_of document answer = (report : Report) × IsReportOf document report × (answer ≡ answer_with text_of report)
 
 -- the answer to a document, or why there is none
-abbrev pub AnswersDocument : Result Data CheckError → Result Answer CheckError → Type 0
-AnswersDocument (Ok document) (Ok answer) = IsAnswerTo document answer
-AnswersDocument (Ok document) (Err fault) = ⊥
-AnswersDocument (Err fault) answer = answer ≡ Err fault
+abbrev pub AnswersDocument : (Report → List ℕ) → Result Data CheckError → Result Answer CheckError → Type 0
+AnswersDocument text_of (Ok document) (Ok answer) = IsAnswerTo text_of document answer
+AnswersDocument text_of (Ok document) (Err fault) = ⊥
+AnswersDocument text_of (Err fault) answer = answer ≡ Err fault
 
 -- arguments are a fault, which comes before the faults of the input
+abbrev pub AnswersInputAs : (Report → List ℕ) → Bool → List ℕ → Result Answer CheckError → Type 0
+AnswersInputAs text_of has_words input = AnswersDocument text_of (if has_words then Err Usage else value_in input)
+
+-- printed as lines
 abbrev pub AnswersInput : Bool → List ℕ → Result Answer CheckError → Type 0
-AnswersInput has_words input = AnswersDocument (if has_words then Err Usage else value_in input)
+AnswersInput = AnswersInputAs report_text
 
 -- ---- What is read and written
 

@@ -18,17 +18,19 @@ use Rattle.icu_plurals.specs.Ranges.{range_text}
 use Rattle.icu_plurals.specs.RangesJson.{keys_in}
 use Rattle.icu_plurals.specs.RulesJson.{text_under, texts_in}
 use Rattle.plural_checker.specs.LanguageTexts.{SixTexts, has_rule}
-use Rattle.plural_checker.specs.PluralCheckerErrors.{fault_text}
 use Rattle.plural_checker.specs.TextChecks.{AreFindingsOf}
 use Rattle.plural_checker.specs.declared.Fault.{Fault}
 use Rattle.plural_checker.specs.declared.Report.{Report as Checked}
 use Rattle.document_report.specs.CheckedDocument.{members_at, members_or_none, table_in}
-use Rattle.plural_documents.specs.Found.{Found, cases_alone, checked_alone, nothing_found, one_fault, together, IsFoundInMembers}
-use Rattle.plural_documents.specs.FirstLines.{most_told, rest_lines}
+use Rattle.plural_documents.specs.FirstLines.{most_told}
+use Rattle.document_report.specs.DocumentFindings.{Finding}
+use Rattle.document_report.specs.DocumentPlaces.{LocalePlace, at_document, at_key, at_locale, at_part, at_text}
+use Rattle.document_report.specs.FoundInDocuments.{Found, cases_alone, checked_alone, fault_at, finding_at, nothing_found, rest_of, together}
+use Rattle.document_report.specs.FoundInDocuments.{IsFoundInMembers}
 use Rattle.document_report.specs.ParentFaults.{IsFoundInParents}
-use Rattle.plural_documents.specs.PrintedKeys.{name_text}
 use Rattle.document_report.specs.Names.{has_underscore, is_long_name}
 use Rattle.plural_fallback.specs.LocalesJson.{part_name}
+use Rattle.document_report.specs.declared.cause.Cause.TheVariants as cause
 use Rattle.document_report.specs.declared.entry.EntryFault.{EntryFault}
 use Rattle.document_report.specs.declared.entry.EntryFault.TheVariants.{RangeKey, NoText, RangeValue, NoRule}
 use Rattle.plural_fallback.specs.declared.locales.Part.{Part}
@@ -37,80 +39,61 @@ use Rattle.document_report.specs.declared.report.Report.{Report}
 
 -- ---- The key of a locale
 
--- `cardinal ru`
-abbrev pub locale_place : Part → List ℕ → List ℕ
-locale_place part name = part_name part ++ codes " " ++ name
+-- a long key is a fault
+abbrev pub found_of_length : LocalePlace → Found
+found_of_length place = if is_long_name place.locale then fault_at (at_locale place) cause.LongKey else nothing_found
 
--- a fault that names the locale
-abbrev pub locale_line : Part → List ℕ → List ℕ → List ℕ
-locale_line part name fault = locale_place part name ++ codes ": " ++ fault
+-- and so is one with `_`, which CLDR writes where documents have a hyphen
+abbrev pub found_of_underscore : LocalePlace → Found
+found_of_underscore place = if has_underscore place.locale then fault_at (at_locale place) cause.KeyWithUnderscore else nothing_found
 
--- a long key has a line
-abbrev pub found_of_length : Part → List ℕ → Found
-found_of_length part locale =
-    if is_long_name locale then one_fault (locale_line part (name_text locale) (codes "key too long")) else nothing_found
+abbrev pub found_of_key : LocalePlace → Found
+found_of_key place = together (found_of_length place) (found_of_underscore place)
 
--- and so has one with `_`, which CLDR writes where documents have a hyphen
-abbrev pub found_of_underscore : Part → List ℕ → Found
-found_of_underscore part locale =
-    if has_underscore locale then one_fault (locale_line part (name_text locale) (codes "key with _")) else nothing_found
-
-abbrev pub found_of_key : Part → List ℕ → Found
-found_of_key part locale = together (found_of_length part locale) (found_of_underscore part locale)
-
--- ---- The rules of a locale, whose printed name is given
-
--- `cardinal ru few`
-abbrev pub category_place : Part → List ℕ → PluralCategory → List ℕ
-category_place part name category = locale_place part name ++ codes " " ++ name_of category
-
--- the value of a category is no text
-abbrev pub no_text_line : Part → List ℕ → PluralCategory → List ℕ
-no_text_line part name category = locale_place part name ++ codes " " ++ name_of category ++ codes ": no text"
-
--- a fault of a text, which names its category
-abbrev pub fault_line : Part → List ℕ → Fault → List ℕ
-fault_line part name fault = locale_place part name ++ codes " " ++ fault_text fault
+-- ---- The rules of a locale
 
 -- a rule text is checked
 abbrev pub one_rule : Found
 one_rule = checked_alone 1
 
--- a text is counted; a value that is neither null nor a text has a line
-abbrev pub found_under : Part → List ℕ → PluralCategory → Option Data → Found
-found_under part name category None = nothing_found
-found_under part name category (Some value) =
+-- a text is counted; a value that is neither null nor a text is a fault
+abbrev pub found_under : LocalePlace → PluralCategory → Option Data → Found
+found_under place category None = nothing_found
+found_under place category (Some value) =
     if is_some (as_null value) then nothing_found
-    else (if is_some (as_str value) then one_rule else one_fault (no_text_line part name category))
+    else (if is_some (as_str value) then one_rule else fault_at (at_text place category) cause.NoText)
 
 -- the faults of one category's text
 abbrev pub faults_of : PluralCategory → List Fault → List Fault
 faults_of category faults = filter (λ fault. place_of fault.category == place_of category) faults
 
--- the first faults of a text have a line each, and the others are counted in one
-abbrev pub found_told : Part → List ℕ → PluralCategory → List Fault → Found
-found_told part name category faults = record {
-  lines = map (fault_line part name) (take most_told faults) ++ rest_lines (category_place part name category) (length faults);
+-- a fault of a text, which names its category
+abbrev pub text_finding : LocalePlace → Fault → Finding
+text_finding place fault = finding_at (at_text place fault.category) (cause.Text fault.kind)
+
+-- the first faults of a text have a finding each, and the others are counted in one
+abbrev pub found_told : LocalePlace → PluralCategory → List Fault → Found
+found_told place category faults = record {
+  findings = map (text_finding place) (take most_told faults) ++ rest_of (at_text place category) (length faults);
   faults = length faults;
   checked = 0;
   cases = 0;
 }
 
 -- what is found under each of these categories, and in its text
-abbrev pub found_under_all : Part → List ℕ → Data → List Fault → List PluralCategory → Found
-found_under_all part name value faults [] = nothing_found
-found_under_all part name value faults (category ∷ categories) =
-    together (found_under part name category (get (name_of category) value))
-    (together (found_told part name category (faults_of category faults)) (found_under_all part name value faults categories))
+abbrev pub found_under_all : LocalePlace → Data → List Fault → List PluralCategory → Found
+found_under_all place value faults [] = nothing_found
+found_under_all place value faults (category ∷ categories) =
+    together (found_under place category (get (name_of category) value))
+    (together (found_told place category (faults_of category faults)) (found_under_all place value faults categories))
 
 -- the categories, in the order of the rules
 abbrev pub text_order : List PluralCategory
 text_order = Zero ∷ One ∷ Two ∷ Few ∷ Many ∷ Other ∷ []
 
 -- the faults of the texts, and the count of their numbers
-abbrev pub found_by_check : Part → List ℕ → Data → Checked → Found
-found_by_check part name value checked =
-    together (found_under_all part name value checked.faults text_order) (cases_alone checked.numbers)
+abbrev pub found_by_check : LocalePlace → Data → Checked → Found
+found_by_check place value checked = together (found_under_all place value checked.faults text_order) (cases_alone checked.numbers)
 
 -- the texts of all six categories
 abbrev pub all_texts_in : Data → SixTexts
@@ -125,31 +108,30 @@ is_absent (Some value) = is_some (as_null value)
 abbrev pub lacks_other : Data → Bool
 lacks_other value = is_absent (get (name_of Other) value)
 
-abbrev pub found_of_other : Part → List ℕ → Data → Found
-found_of_other part name value = if lacks_other value then one_fault (locale_line part name (codes "no other")) else nothing_found
+abbrev pub found_of_other : LocalePlace → Data → Found
+found_of_other place value = if lacks_other value then fault_at (at_locale place) cause.NoOther else nothing_found
 
 -- the key names a category
 abbrev pub IsCategoryName : List ℕ → Type 0
 IsCategoryName key = (category : PluralCategory) × (key ≡ name_of category)
 
--- `cardinal ru feew: not a category`
-abbrev pub category_line : Part → List ℕ → List ℕ → List ℕ
-category_line part name key = locale_place part name ++ codes " " ++ name_text key ++ codes ": not a category"
-
--- a key that names no category has a line, and its value isn't looked at
-abbrev pub IsFoundInKey : Part → List ℕ → List ℕ → Data → Found → Type 0
-IsFoundInKey part name key value found =
-    (IsCategoryName key × (found ≡ nothing_found)) ⊎ ((¬ (IsCategoryName key)) × (found ≡ one_fault (category_line part name key)))
+-- a key that names no category is a fault, and its value isn't looked at
+abbrev pub IsFoundInKey : LocalePlace → List ℕ → Data → Found → Type 0
+IsFoundInKey place key value found =
+    (IsCategoryName key × (found ≡ nothing_found))
+    ⊎ ((¬ (IsCategoryName key)) × (found ≡ fault_at (at_key place key) cause.NotACategory))
 
 -- what is found in the rules of a locale: first in its key, then that it has no other; then
 -- category by category that the value is no text, or the faults of the text; then the keys that
 -- name no category
-abbrev pub IsFoundInRules : Part → List ℕ → Data → Found → Type 0
-IsFoundInRules part locale value found =
+abbrev pub IsFoundInLanguage : LocalePlace → Data → Found → Type 0
+IsFoundInLanguage place value found =
     (checked : Checked) × (others : Found) × AreFindingsOf (all_texts_in value) checked
-    × IsFoundInMembers (IsFoundInKey part (name_text locale)) (members_or_none (as_object value)) others
-    × (found ≡ together (found_of_key part locale) (together (found_of_other part (name_text locale) value)
-    (together (found_by_check part (name_text locale) value checked) others)))
+    × IsFoundInMembers (IsFoundInKey place) (members_or_none (as_object value)) others
+    × (found ≡ together (found_of_key place) (together (found_of_other place value) (together (found_by_check place value checked) others)))
+
+abbrev pub IsFoundInRules : Part → List ℕ → Data → Found → Type 0
+IsFoundInRules part locale value found = IsFoundInLanguage (record { part = part; locale = locale }) value found
 
 -- ---- The ranges of a locale
 
@@ -188,37 +170,29 @@ HasEntryFault texts key value fault =
     (((start end : PluralCategory) → ¬ (IsRangeText key start end)) × (fault ≡ Some RangeKey))
     ⊎ ((start end : PluralCategory) × IsRangeText key start end × HasRangeFault texts start end value fault)
 
--- the printed text of the fault
-abbrev pub entry_fault_text : EntryFault → List ℕ
-entry_fault_text RangeKey = codes "range key"
-entry_fault_text NoText = codes "no text"
-entry_fault_text RangeValue = codes "range value"
-entry_fault_text (NoRule category) = name_of category ++ codes " has no rule"
+abbrev pub found_of_entry : LocalePlace → List ℕ → Option EntryFault → Found
+found_of_entry place key None = nothing_found
+found_of_entry place key (Some fault) = fault_at (at_key place key) (cause.Entry fault)
 
--- `ranges ru one--two: range value`
-abbrev pub entry_line : List ℕ → List ℕ → EntryFault → List ℕ
-entry_line name key fault = locale_place Ranges name ++ codes " " ++ name_text key ++ codes ": " ++ entry_fault_text fault
+abbrev pub IsFoundInEntry : SixTexts → LocalePlace → List ℕ → Data → Found → Type 0
+IsFoundInEntry texts place key value found =
+    (fault : Option EntryFault) × HasEntryFault texts key value fault × (found ≡ found_of_entry place key fault)
 
-abbrev pub found_of_entry : List ℕ → List ℕ → Option EntryFault → Found
-found_of_entry name key None = nothing_found
-found_of_entry name key (Some fault) = one_fault (entry_line name key fault)
-
-abbrev pub IsFoundInEntry : SixTexts → List ℕ → List ℕ → Data → Found → Type 0
-IsFoundInEntry texts name key value found =
-    (fault : Option EntryFault) × HasEntryFault texts key value fault × (found ≡ found_of_entry name key fault)
-
--- a locale without cardinal rules has a line
-abbrev pub found_of_rules : List ℕ → Option Data → Found
-found_of_rules name None = one_fault (locale_line Ranges name (codes "no cardinal rules"))
-found_of_rules name (Some rules) = nothing_found
+-- a locale without cardinal rules is a fault
+abbrev pub found_of_rules : LocalePlace → Option Data → Found
+found_of_rules place None = fault_at (at_locale place) cause.NoCardinalRules
+found_of_rules place (Some rules) = nothing_found
 
 -- what is found in the ranges of a locale: first in its key, then that it has no cardinal rules,
 -- then the faults of its entries
+abbrev pub IsFoundInTable : LocalePlace → Option Data → Data → Found → Type 0
+IsFoundInTable place rules value found =
+    (entries : Found) × IsFoundInMembers (IsFoundInEntry (texts_at rules) place) (members_or_none (table_in value)) entries
+    × (found ≡ together (found_of_key place) (together (found_of_rules place rules) entries))
+
 abbrev pub IsFoundInRanges : Data → List ℕ → Data → Found → Type 0
 IsFoundInRanges document locale value found =
-    let rules = value_of_locale (part_name Cardinal) locale document in
-    (entries : Found) × IsFoundInMembers (IsFoundInEntry (texts_at rules) (name_text locale)) (members_or_none (table_in value)) entries
-    × (found ≡ together (found_of_key Ranges locale) (together (found_of_rules (name_text locale) rules) entries))
+    IsFoundInTable (record { part = Ranges; locale = locale }) (value_of_locale (part_name Cardinal) locale document) value found
 
 -- ---- The document
 
@@ -246,16 +220,16 @@ is_part_name key =
     bytes_eq key (part_name Cardinal) || bytes_eq key (part_name Ordinal) || bytes_eq key (part_name Ranges)
     || bytes_eq key (codes "elements") || bytes_eq key (codes "parents")
 
--- any other has a line, and its value isn't looked at: `cardinals: not a part`
+-- any other is a fault, and its value isn't looked at
 abbrev pub found_of_part : List ℕ → Found
-found_of_part key = if is_part_name key then nothing_found else one_fault (name_text key ++ codes ": not a part")
+found_of_part key = if is_part_name key then nothing_found else fault_at (at_part key) cause.NotAPart
 
 abbrev pub IsFoundInPartKey : List ℕ → Data → Found → Type 0
 IsFoundInPartKey key value found = found ≡ found_of_part key
 
--- a document without locales has a line
+-- a document without locales is a fault
 abbrev pub found_of_count : ℕ → Found
-found_of_count locales = if locales == 0 then one_fault (codes "document: no locale") else nothing_found
+found_of_count locales = if locales == 0 then fault_at at_document cause.NoLocale else nothing_found
 
 -- what is found in the keys of the parts, in all three parts, and in the parents
 abbrev pub IsFoundInDocument : Data → Found → Type 0

@@ -1,5 +1,11 @@
 pub mod Names
 pub mod CheckedDocument
+-- findings
+pub mod DocumentPlaces
+pub mod DocumentCauses
+pub mod DocumentFindings
+pub mod FoundInDocuments
+-- the report
 pub mod ParentFaults
 pub mod DocumentReport
 pub mod ReportText

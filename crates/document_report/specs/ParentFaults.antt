@@ -2,7 +2,7 @@
 -- locale the text of its parent.
 --     IsFoundInParents document found      what is found there, in the order of the bytes of the
 --         locales' keys
-use Rattle.std.specs.Prelude.{◌≡◌, ℕ, ◌||◌, List, ◌++◌, codes, Option, Some, None, is_some, if◌then◌else◌}
+use Rattle.std.specs.Prelude.{◌≡◌, ℕ, ◌||◌, List, codes, Option, Some, None, is_some, if◌then◌else◌}
 use Rattle.std.specs.Option.{option_and_then}
 use Rattle.serde_json.specs.Data.{Data}
 use Rattle.serde_json.specs.Find.{get, as_null, as_object, as_str}
@@ -11,39 +11,34 @@ use Rattle.plural_fallback.specs.FirstKeys.{locale_at}
 use Rattle.plural_fallback.specs.LocalesJson.{parent_in}
 use Rattle.plural_fallback.specs.declared.first_key.TheConstants.{MOST_LOCALES}
 use Rattle.document_report.specs.CheckedDocument.{members_or_none}
-use Rattle.plural_documents.specs.Found.{Found, IsFoundInMembers, nothing_found, one_fault, together}
-use Rattle.plural_documents.specs.PrintedKeys.{name_text}
+use Rattle.document_report.specs.DocumentPlaces.{at_parent, at_parents}
+use Rattle.document_report.specs.FoundInDocuments.{Found, IsFoundInMembers, fault_at, nothing_found, together}
 use Rattle.document_report.specs.Names.{is_long_name}
+use Rattle.document_report.specs.declared.cause.Cause.TheVariants.{EndlessChain, LongKey, LongParent, NoObject, NoText}
 
--- a part that is neither absent, null nor an object has a line
+-- a part that is neither absent, null nor an object is a fault
 abbrev pub found_of_shape : Option Data → Found
 found_of_shape None = nothing_found
 found_of_shape (Some value) =
-    if is_some (as_null value) || is_some (as_object value) then nothing_found else one_fault (codes "parents: no object")
+    if is_some (as_null value) || is_some (as_object value) then nothing_found else fault_at at_parents NoObject
 
--- `parents pt-AO: no text`
-abbrev pub parent_line : List ℕ → List ℕ → List ℕ
-parent_line locale fault = codes "parents " ++ name_text locale ++ codes ": " ++ fault
-
--- a long key has a line
+-- a long key is a fault
 abbrev pub found_of_child : List ℕ → Found
-found_of_child locale = if is_long_name locale then one_fault (parent_line locale (codes "key too long")) else nothing_found
+found_of_child locale = if is_long_name locale then fault_at (at_parent locale) LongKey else nothing_found
 
--- and so has a parent that is no text, or a long one
+-- and so is a parent that is no text, or a long one
 abbrev pub found_of_parent : List ℕ → Option (List ℕ) → Found
-found_of_parent locale None = one_fault (parent_line locale (codes "no text"))
-found_of_parent locale (Some parent) =
-    if is_long_name parent then one_fault (parent_line locale (codes "parent too long")) else nothing_found
+found_of_parent locale None = fault_at (at_parent locale) NoText
+found_of_parent locale (Some parent) = if is_long_name parent then fault_at (at_parent locale) LongParent else nothing_found
 
 -- the next locale of a chain, where `parent` names the parents; a long one is the last
 abbrev pub short_next : (List ℕ → Option (List ℕ)) → List ℕ → Option (List ℕ)
 short_next parent locale = if is_long_name locale then None else next_of parent locale
 
--- a chain that goes on after all the locales that are looked up has a line
+-- a chain that goes on after all the locales that are looked up is a fault
 abbrev pub found_of_chain : (List ℕ → Option (List ℕ)) → List ℕ → Found
 found_of_chain parent locale =
-    if is_some (locale_at (short_next parent) locale MOST_LOCALES)
-    then one_fault (parent_line locale (codes "the chain of parents doesn't end")) else nothing_found
+    if is_some (locale_at (short_next parent) locale MOST_LOCALES) then fault_at (at_parent locale) EndlessChain else nothing_found
 
 abbrev pub IsFoundInParent : (List ℕ → Option (List ℕ)) → List ℕ → Data → Found → Type 0
 IsFoundInParent parent locale value found =

@@ -5,7 +5,7 @@ ghost use Rattle.std.specs.Option.{option_and_then};
 ghost use Rattle.serde_json.specs.Find.{as_object, get};
 ghost use Rattle.serde_json.specs.View.{members_view, view};
 ghost use Rattle.document_report.specs.CheckedDocument.{members_or_none, document_of_bytes};
-ghost use Rattle.plural_documents.specs.Found.{HasGrownBy, IsFoundInMembers};
+ghost use Rattle.document_report.specs.FoundInDocuments.{HasGrownBy, IsFoundInMembers};
 ghost use Rattle.plural_documents.specs.Steps.{or_fault};
 ghost use Rattle.document_report.specs.Inner.CheckCalls.{GivesOnly};
 ghost use Rattle.plural_fallback.specs.LocalesJson.{part_name};
@@ -14,7 +14,8 @@ ghost use Rattle.plural_documents.specs.Inputs.{json_of};
 
 use crate::error::CheckError;
 use crate::form::check_document;
-use plural_documents::{Found, JsonTextError, MemberCheck, add_members, json_value};
+use crate::found::{Found, MemberCheck, add_members};
+use plural_documents::{JsonTextError, json_value};
 use plural_fallback::Part;
 use serde_json::{Map, Value};
 use std::alloc::{AllocError, Global};
@@ -55,11 +56,11 @@ pub(crate) fn value_at<'a>(document: &'a Value, part: Part, locale: &str) -> Opt
 }
 
 // Adds what is found in each member, if there are any.
-pub(crate) fn add_members_of<C: MemberCheck>(
+pub(crate) fn add_members_of<'a, C: MemberCheck<'a>>(
     alloc: Global,
     check: &C,
-    members: Option<&Map<String, Value>>,
-    found: &mut Found,
+    members: Option<&'a Map<String, Value>>,
+    found: &mut Found<'a>,
 ) -> Result<(), AllocError>
     ensures { OnOk result (HasGrownBy
         (IsFoundInMembers (C.finds check.now) (members_or_none (option_map (λ m. members_view m.now.entries) members.entry)))

@@ -2,7 +2,8 @@
 
 ghost use Rattle.std.specs.Prelude.{◌≡◌, ◌/◌, ◌%◌, Some};
 ghost use Rattle.plural_checker.specs.LanguageTexts.{six_texts};
-ghost use Rattle.document_report.specs.DocumentReport.{entry_fault_text, HasEntryFault, HasRangeFault, HasValueFault};
+ghost use Rattle.document_report.specs.DocumentCauses.{entry_fault_text};
+ghost use Rattle.document_report.specs.DocumentReport.{HasEntryFault, HasRangeFault, HasValueFault};
 ghost use Rattle.document_report.specs.Inner.CheckCalls.{category_numbered};
 ghost use Rattle.serde_json.specs.View.{view};
 

@@ -8,12 +8,12 @@ use crate::place::Place;
 use plural_documents::InputError;
 use thiserror::Error;
 
-const USAGE: &str = "usage: plurals_check < DOCUMENT";
+const USAGE: &str = "usage: plurals_check [--format text|json|sarif|github] < DOCUMENT";
 
 /// Why there is no report. The program checks for these in this order.
 #[derive(Debug, Drop, Error)]
 pub enum CheckError {
-    /// There are command-line arguments; the program takes none.
+    /// There are command-line arguments that the program doesn't take.
     #[error("{}", USAGE)]
     Usage,
     /// The reader failed.

@@ -1,143 +1,112 @@
 //! The keys of a document: of its parts, of locales, and of texts.
 
-ghost use Rattle.std.specs.Prelude.{◌≡◌, IfOk, OnOk, string_bytes};
-ghost use Rattle.document_report.specs.DocumentReport.{category_line, found_of_key, found_of_length, found_of_underscore};
-ghost use Rattle.document_report.specs.DocumentReport.{found_of_part, is_part_name, IsFoundInKey, IsFoundInPartKey, locale_line};
-ghost use Rattle.plural_documents.specs.Found.{together};
-ghost use Rattle.plural_documents.specs.PrintedKeys.{name_text};
+ghost use Rattle.std.specs.Prelude.{◌≡◌, OnOk, option_map};
+ghost use Rattle.document_report.specs.CheckedDocument.{members_or_none};
+ghost use Rattle.document_report.specs.DocumentPlaces.{locale_place_view};
+ghost use Rattle.document_report.specs.DocumentReport.{found_of_key, found_of_length, found_of_underscore};
+ghost use Rattle.document_report.specs.DocumentReport.{found_of_part, is_part_name, IsFoundInKey, IsFoundInPartKey};
+ghost use Rattle.document_report.specs.FoundInDocuments.{together, HasGrownBy, IsFoundInMembers};
+ghost use Rattle.serde_json.specs.View.{members_view};
 
-use crate::names::{FAULT_ROOM, has_underscore, is_long_name, new_line};
+use crate::cause::Cause;
+use crate::document::add_members_of;
+use crate::finding_place::{FindingPlace, LocalePlace};
+use crate::found::{Found, MemberCheck};
+use crate::names::{has_underscore, is_long_name};
 use icu_plurals::PluralCategory;
-use plural_documents::{Found, MemberCheck, name_text};
-use plural_fallback::Part;
-use serde_json::Value;
+use serde_json::{Map, Value};
 use std::alloc::{AllocError, Global};
 
 // Adds what is found in a locale's key.
-pub(crate) fn add_key(
-    alloc: Global,
-    part: Part,
-    locale: &str,
-    found: &mut Found,
-) -> Result<(), AllocError>
-    ensures { OnOk result (found.new ≡ together found.old (found_of_key part locale.now)) }
+pub(crate) fn add_key<'a>(place: LocalePlace<'a>, found: &mut Found<'a>) -> Result<(), AllocError>
+    ensures { OnOk result (found.new ≡ together found.old (found_of_key (locale_place_view place.entry))) }
 {
-    add_length(alloc, part, locale, found)?;
-    add_underscore(alloc, part, locale, found)
+    add_length(place, found)?;
+    add_underscore(place, found)
 }
 
-// Adds a line if a locale's key is long.
-fn add_length(alloc: Global, part: Part, locale: &str, found: &mut Found) -> Result<(), AllocError>
-    ensures { OnOk result (found.new ≡ together found.old (found_of_length part locale.now)) }
+// Adds a fault if a locale's key is long.
+fn add_length<'a>(place: LocalePlace<'a>, found: &mut Found<'a>) -> Result<(), AllocError>
+    ensures { OnOk result (found.new ≡ together found.old (found_of_length (locale_place_view place.entry))) }
 {
-    if !is_long_name(locale) {
+    if !is_long_name(place.locale) {
         return Ok(());
     }
-    let line = key_line(alloc, part, locale, "key too long")?;
-    found.add_fault(line)
+    found.add_fault(FindingPlace::Locale(place), Cause::LongKey)
 }
 
-// Adds a line if a locale's key has `_`.
-fn add_underscore(
-    alloc: Global,
-    part: Part,
-    locale: &str,
-    found: &mut Found,
-) -> Result<(), AllocError>
-    ensures { OnOk result (found.new ≡ together found.old (found_of_underscore part locale.now)) }
+// Adds a fault if a locale's key has `_`.
+fn add_underscore<'a>(place: LocalePlace<'a>, found: &mut Found<'a>) -> Result<(), AllocError>
+    ensures { OnOk result (found.new ≡ together found.old (found_of_underscore (locale_place_view place.entry))) }
 {
-    if !has_underscore(locale) {
+    if !has_underscore(place.locale) {
         return Ok(());
     }
-    let line = key_line(alloc, part, locale, "key with _")?;
-    found.add_fault(line)
+    found.add_fault(FindingPlace::Locale(place), Cause::KeyWithUnderscore)
 }
 
-// Returns the line for a fault of a locale, given its key.
-fn key_line(alloc: Global, part: Part, locale: &str, fault: &str) -> Result<String, AllocError>
-    ensures { IfOk result (λ line. string_bytes line ≡ locale_line part (name_text locale.now) fault.now) }
-{
-    let name = name_text(alloc, locale)?;
-    locale_line(alloc, part, name.as_str(), fault)
-}
-
-// Returns the line for a fault of a locale, given its printed name.
-pub(crate) fn locale_line(
+// Adds what is found in the keys of a locale's value, if it is an object.
+pub(crate) fn add_categories<'a>(
     alloc: Global,
-    part: Part,
-    name: &str,
-    fault: &str,
-) -> Result<String, AllocError>
-    ensures { IfOk result (λ line. string_bytes line ≡ locale_line part name.now fault.now) }
+    place: LocalePlace<'a>,
+    members: Option<&'a Map<String, Value>>,
+    found: &mut Found<'a>,
+) -> Result<(), AllocError>
+    ensures { OnOk result (HasGrownBy (IsFoundInMembers (IsFoundInKey (locale_place_view place.entry))
+        (members_or_none (option_map (λ m. members_view m.now.entries) members.entry))) found.old found.new) }
 {
-    let mut line = new_line(alloc, name, fault.len())?;
-    write!(line, "{} {}: {}", part.as_str(), name, fault)?;
-    Ok(line)
+    add_members_of(alloc, &CategoryCheck { place }, members, found)
 }
 
-// Checks the keys of a locale's value, whose printed name is given.
+// Checks the keys of a locale's value.
 #[derive(Clone, Copy)]
-pub(crate) struct CategoryCheck<'a> {
-    pub(crate) part: Part,
-    pub(crate) name: &'a str,
+struct CategoryCheck<'a> {
+    place: LocalePlace<'a>,
 }
 
-impl<'a> MemberCheck for CategoryCheck<'a> {
-    ghost finds = { λ check. IsFoundInKey check.part check.name.now };
+impl<'a> MemberCheck<'a> for CategoryCheck<'a> {
+    ghost finds = { λ check. IsFoundInKey (locale_place_view check.place) };
 
     fn add(
         &self,
-        alloc: Global,
-        key: &str,
-        _value: &Value,
-        found: &mut Found,
+        _alloc: Global,
+        key: &'a str,
+        _value: &'a Value,
+        found: &mut Found<'a>,
     ) -> Result<(), AllocError> {
         match PluralCategory::get_for_cldr_string(key) {
             Some(_) => Ok(()),
-            None => found.add_fault(category_line(alloc, self.part, self.name, key)?),
+            None => found.add_fault(FindingPlace::Key(self.place, key), Cause::NotACategory),
         }
     }
-}
-
-// Returns the line for a key that names no category.
-fn category_line(alloc: Global, part: Part, name: &str, key: &str) -> Result<String, AllocError>
-    ensures { IfOk result (λ line. string_bytes line ≡ category_line part name.now key.now) }
-{
-    let key = name_text(alloc, key)?;
-    let key = key.as_str();
-    let mut line = new_line(alloc, name, FAULT_ROOM)?;
-    write!(line, "{} {} {}: not a category", part.as_str(), name, key)?;
-    Ok(line)
 }
 
 // Checks the keys of a document.
 #[derive(Clone, Copy)]
 pub(crate) struct PartCheck;
 
-impl MemberCheck for PartCheck {
+impl<'a> MemberCheck<'a> for PartCheck {
     ghost finds = { λ check. IsFoundInPartKey };
 
     fn add(
         &self,
-        alloc: Global,
-        key: &str,
-        _value: &Value,
-        found: &mut Found,
+        _alloc: Global,
+        key: &'a str,
+        _value: &'a Value,
+        found: &mut Found<'a>,
     ) -> Result<(), AllocError> {
-        add_part(alloc, key, found)
+        add_part(key, found)
     }
 }
 
-// Adds a line if a key of a document is no part.
-fn add_part(alloc: Global, key: &str, found: &mut Found) -> Result<(), AllocError>
+// Adds a fault if a key of a document is no part.
+fn add_part<'a>(key: &'a str, found: &mut Found<'a>) -> Result<(), AllocError>
     ensures { OnOk result (found.new ≡ together found.old (found_of_part key.now)) }
 {
     if is_part_name(key) {
         return Ok(());
     }
-    let name = name_text(alloc, key)?;
-    let line = format!(in alloc; "{}: not a part", name.as_str())?;
-    found.add_fault(line)
+    found.add_fault(FindingPlace::Part(key), Cause::NotAPart)
 }
 
 // Returns whether a key names a part that programs know.

@@ -1,26 +1,26 @@
 //! What is found in the rules of a part.
 
-ghost use Rattle.std.specs.Prelude.{◌≡◌, Some, IfOk, OnOk, option_map, string_bytes};
+ghost use Rattle.std.specs.Prelude.{◌≡◌, Some, OnOk, option_map};
 ghost use Rattle.std.specs.Option.{option_copied};
 ghost use Rattle.icu_plurals.specs.RulesJson.{text_under};
 ghost use Rattle.icu_plurals.specs.Categories.{name_of};
 ghost use Rattle.plural_checker.specs.LanguageTexts.{six_texts};
-ghost use Rattle.document_report.specs.DocumentReport.{all_texts_in, category_place, fault_line, faults_of, found_of_other, found_told};
-ghost use Rattle.document_report.specs.DocumentReport.{found_under, found_under_all, lacks_other, no_text_line};
-ghost use Rattle.plural_documents.specs.FirstLines.{rest_lines};
-ghost use Rattle.document_report.specs.DocumentReport.{text_order, IsFoundInRules};
-ghost use Rattle.plural_documents.specs.Found.{together};
-ghost use Rattle.plural_documents.specs.Found.{lines_alone};
+ghost use Rattle.document_report.specs.DocumentPlaces.{locale_place_view};
+ghost use Rattle.document_report.specs.DocumentReport.{all_texts_in, faults_of, found_of_other, found_told};
+ghost use Rattle.document_report.specs.DocumentReport.{found_under, found_under_all, lacks_other, text_order, IsFoundInLanguage, IsFoundInRules};
+ghost use Rattle.document_report.specs.FoundInDocuments.{findings_alone, together, HasGrownBy};
 ghost use Rattle.document_report.specs.Inner.CheckCalls.{told_after};
 ghost use Rattle.serde_json.specs.View.{view};
 
-use crate::document::add_members_of;
-use crate::keys::{CategoryCheck, add_key, locale_line};
-use crate::names::{FAULT_ROOM, new_line};
+use crate::cause::Cause;
+use crate::fault_copy::fault_copy;
+use crate::finding_place::{FindingPlace, LocalePlace};
+use crate::found::{Found, MemberCheck};
+use crate::keys::{add_categories, add_key};
 use icu_plurals::PluralCategory;
 use icu_plurals::provider::RawPluralCategory;
 use plural_checker::{Fault, LanguageTexts, check_texts};
-use plural_documents::{Found, MOST_TOLD, MemberCheck, add_rest, name_text, sum};
+use plural_documents::{MOST_TOLD, sum};
 use plural_fallback::Part;
 use serde_json::Value;
 use std::alloc::{AllocError, Global};
@@ -41,30 +41,39 @@ pub(crate) struct LanguageCheck {
     pub(crate) part: Part,
 }
 
-impl MemberCheck for LanguageCheck {
+impl<'a> MemberCheck<'a> for LanguageCheck {
     ghost finds = { λ check. IsFoundInRules check.part };
 
     fn add(
         &self,
         alloc: Global,
-        locale: &str,
-        value: &Value,
-        found: &mut Found,
+        locale: &'a str,
+        value: &'a Value,
+        found: &mut Found<'a>,
     ) -> Result<(), AllocError> {
-        let checked = check_texts(alloc, &texts_of(value))?;
-        add_key(alloc, self.part, locale, found)?;
-        let name = name_text(alloc, locale)?;
-        let name = name.as_str();
-        add_other(alloc, self.part, name, value, found)?;
-        let faults = checked.faults.as_slice();
-        add_texts(alloc, self.part, name, value, faults, found)?;
-        found.add_cases(checked.numbers)?;
-        let keys = CategoryCheck {
+        let place = LocalePlace {
             part: self.part,
-            name,
+            locale,
         };
-        add_members_of(alloc, &keys, value.as_object(), found)
+        add_language(alloc, place, value, found)
     }
+}
+
+// Adds what is found in the rules of a locale.
+fn add_language<'a>(
+    alloc: Global,
+    place: LocalePlace<'a>,
+    value: &'a Value,
+    found: &mut Found<'a>,
+) -> Result<(), AllocError>
+    ensures { OnOk result (HasGrownBy (IsFoundInLanguage (locale_place_view place.entry) (view value.now)) found.old found.new) }
+{
+    let checked = check_texts(alloc, &texts_of(value))?;
+    add_key(place, found)?;
+    add_other(place, value, found)?;
+    add_texts(alloc, place, value, checked.faults.as_slice(), found)?;
+    found.add_cases(checked.numbers)?;
+    add_categories(alloc, place, value.as_object(), found)
 }
 
 // Returns the texts of a language's rules.
@@ -95,21 +104,18 @@ pub(crate) fn name_of(category: PluralCategory) -> &'static str
     RawPluralCategory::from(category).as_str()
 }
 
-// Adds a line if a language has no value of other.
-fn add_other(
-    alloc: Global,
-    part: Part,
-    name: &str,
+// Adds a fault if a language has no value of other.
+fn add_other<'a>(
+    place: LocalePlace<'a>,
     value: &Value,
-    found: &mut Found,
+    found: &mut Found<'a>,
 ) -> Result<(), AllocError>
-    ensures { OnOk result (found.new ≡ together found.old (found_of_other part name.now (view value.now))) }
+    ensures { OnOk result (found.new ≡ together found.old (found_of_other (locale_place_view place.entry) (view value.now))) }
 {
     if !lacks_other(value) {
         return Ok(());
     }
-    let line = locale_line(alloc, part, name, "no other")?;
-    found.add_fault(line)
+    found.add_fault(FindingPlace::Locale(place), Cause::NoOther)
 }
 
 // Returns whether the value of other is absent or null.
@@ -122,54 +128,51 @@ fn lacks_other(value: &Value) -> bool
     }
 }
 
-// Adds, category by category, a line if the value is no text, and the faults of the text; counts
+// Adds, category by category, a fault if the value is no text, and the faults of the text; counts
 // the texts.
-fn add_texts(
+fn add_texts<'a>(
     alloc: Global,
-    part: Part,
-    name: &str,
+    place: LocalePlace<'a>,
     value: &Value,
     faults: &[Fault],
-    found: &mut Found,
+    found: &mut Found<'a>,
 ) -> Result<(), AllocError>
-    ensures { OnOk result (found.new ≡ together found.old (found_under_all part name.now (view value.now) faults.now text_order)) }
+    ensures { OnOk result (found.new
+        ≡ together found.old (found_under_all (locale_place_view place.entry) (view value.now) faults.now text_order)) }
 {
     for category in &TEXT_ORDER {
         let under = value.get(name_of(*category));
-        add_text(alloc, part, name, *category, under, found)?;
-        add_faults(alloc, part, name, *category, faults, found)?;
+        add_text(place, *category, under, found)?;
+        add_faults(alloc, place, *category, faults, found)?;
     }
     Ok(())
 }
 
 // Checks the value of one category, which may be absent.
-fn add_text(
-    alloc: Global,
-    part: Part,
-    name: &str,
+fn add_text<'a>(
+    place: LocalePlace<'a>,
     category: PluralCategory,
     value: Option<&Value>,
-    found: &mut Found,
+    found: &mut Found<'a>,
 ) -> Result<(), AllocError>
     ensures { OnOk result (found.new
-        ≡ together found.old (found_under part name.now category (option_map (λ v. view v.now) value.entry))) }
+        ≡ together found.old (found_under (locale_place_view place.entry) category (option_map (λ v. view v.now) value.entry))) }
 {
     match value {
-        Some(value) => add_value(alloc, part, name, category, value, found),
+        Some(value) => add_value(place, category, value, found),
         None => Ok(()),
     }
 }
 
 // Checks the value of one category.
-fn add_value(
-    alloc: Global,
-    part: Part,
-    name: &str,
+fn add_value<'a>(
+    place: LocalePlace<'a>,
     category: PluralCategory,
     value: &Value,
-    found: &mut Found,
+    found: &mut Found<'a>,
 ) -> Result<(), AllocError>
-    ensures { OnOk result (found.new ≡ together found.old (found_under part name.now category (Some (view value.now)))) }
+    ensures { OnOk result (found.new
+        ≡ together found.old (found_under (locale_place_view place.entry) category (Some (view value.now)))) }
 {
     if value.is_null() {
         return Ok(());
@@ -177,101 +180,45 @@ fn add_value(
     if value.is_string() {
         return found.add_checked(1);
     }
-    let line = no_text_line(alloc, part, name, category)?;
-    found.add_fault(line)
-}
-
-// Returns the line for a category whose value is no text.
-fn no_text_line(
-    alloc: Global,
-    part: Part,
-    name: &str,
-    category: PluralCategory,
-) -> Result<String, AllocError>
-    ensures { IfOk result (λ line. string_bytes line ≡ no_text_line part name.now category) }
-{
-    let category = name_of(category);
-    let mut line = new_line(alloc, name, "other: no text".len())?;
-    write!(line, "{} {} {}: no text", part.as_str(), name, category)?;
-    Ok(line)
+    found.add_fault(FindingPlace::Text(place, category), Cause::NoText)
 }
 
 // Adds the faults of one category's text.
-fn add_faults(
+fn add_faults<'a>(
     alloc: Global,
-    part: Part,
-    name: &str,
+    place: LocalePlace<'a>,
     category: PluralCategory,
     faults: &[Fault],
-    found: &mut Found,
+    found: &mut Found<'a>,
 ) -> Result<(), AllocError>
-    ensures { OnOk result (found.new ≡ together found.old (found_told part name.now category (faults_of category faults.now))) }
+    ensures { OnOk result (found.new
+        ≡ together found.old (found_told (locale_place_view place.entry) category (faults_of category faults.now))) }
 {
     let mut count = 0;
     for fault in faults {
         if fault.category == category {
-            tell(alloc, part, name, fault, count, found)?;
+            tell(alloc, place, fault, count, found)?;
             count = sum(count, 1)?;
         }
     }
-    tell_rest(alloc, part, name, category, count, found)?;
+    found.add_rest(FindingPlace::Text(place, category), count)?;
     found.add_faults(count)
 }
 
-// Adds the line of a fault if at most nine of the same text come before it.
-fn tell(
+// Adds the finding of a fault if at most nine of the same text come before it.
+fn tell<'a>(
     alloc: Global,
-    part: Part,
-    name: &str,
+    place: LocalePlace<'a>,
     fault: &Fault,
     before: u64,
-    found: &mut Found,
+    found: &mut Found<'a>,
 ) -> Result<(), AllocError>
-    ensures { OnOk result (found.new ≡ together found.old (lines_alone (told_after part name.now before fault.now))) }
+    ensures { OnOk result (found.new
+        ≡ together found.old (findings_alone (told_after (locale_place_view place.entry) before fault.now))) }
 {
     if before >= MOST_TOLD {
         return Ok(());
     }
-    let line = fault_line(alloc, part, name, fault)?;
-    found.add_line(line)
-}
-
-// Adds a line for the faults of a text that aren't told, if there are any.
-fn tell_rest(
-    alloc: Global,
-    part: Part,
-    name: &str,
-    category: PluralCategory,
-    count: u64,
-    found: &mut Found,
-) -> Result<(), AllocError>
-    ensures { OnOk result (found.new ≡ together found.old (lines_alone (rest_lines (category_place part name.now category) count))) }
-{
-    if count <= MOST_TOLD {
-        return Ok(());
-    }
-    let place = category_place(alloc, part, name, category)?;
-    add_rest(alloc, place.as_str(), count, found)
-}
-
-// Returns the place of a category's text.
-fn category_place(
-    alloc: Global,
-    part: Part,
-    name: &str,
-    category: PluralCategory,
-) -> Result<String, AllocError>
-    ensures { IfOk result (λ place. string_bytes place ≡ category_place part name.now category) }
-{
-    let category = name_of(category);
-    format!(in alloc; "{} {} {}", part.as_str(), name, category)
-}
-
-// Returns the line for a fault of a text.
-fn fault_line(alloc: Global, part: Part, name: &str, fault: &Fault) -> Result<String, AllocError>
-    ensures { IfOk result (λ line. string_bytes line ≡ fault_line part name.now fault.now) }
-{
-    let mut line = new_line(alloc, name, FAULT_ROOM)?;
-    write!(line, "{} {} {}", part.as_str(), name, fault)?;
-    Ok(line)
+    let kind = fault_copy(alloc, &fault.kind)?;
+    found.add_finding(FindingPlace::Text(place, fault.category), Cause::Text(kind))
 }

@@ -2,11 +2,17 @@
 #![tactic(auto)]
 
 pub mod arguments;
+mod cause;
 mod chains;
+mod counts;
 mod document;
 mod entry;
 mod error;
+mod fault_copy;
+mod finding;
+mod finding_place;
 mod form;
+mod found;
 mod keys;
 mod languages;
 pub mod laws;
@@ -16,10 +22,17 @@ mod parent_rows;
 mod parents;
 mod place;
 mod report;
+mod report_printer;
 pub mod run;
 mod tables;
 
+pub use cause::Cause;
+pub use counts::Counts;
+pub use entry::EntryFault;
 pub use error::CheckError;
+pub use finding::Finding;
+pub use finding_place::{FindingPlace, LocalePlace};
 pub use place::{Locale, Place};
 pub use plural_fallback::Part;
-pub use report::Verdict;
+pub use report::{Report, Verdict, report_of};
+pub use report_printer::{ReportLines, ReportPrinter};

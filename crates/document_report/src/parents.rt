@@ -1,32 +1,33 @@
 //! What is found in the parents of a document.
 
-ghost use Rattle.std.specs.Prelude.{◌≡◌, codes, IfOk, OnOk, option_map, string_bytes};
+ghost use Rattle.std.specs.Prelude.{◌≡◌, codes, Some, OnOk, option_map};
 ghost use Rattle.std.specs.Option.{option_and_then, option_copied};
-ghost use Rattle.plural_documents.specs.Found.{together, IsFoundInMembers};
-ghost use Rattle.plural_documents.specs.Found.{HasGrownBy};
+ghost use Rattle.document_report.specs.FoundInDocuments.{together, HasGrownBy, IsFoundInMembers};
 ghost use Rattle.document_report.specs.Inner.ChainSteps.{AreKnown};
 ghost use Rattle.document_report.specs.Inner.ParentRows.{named_parent, parent_among};
 ghost use Rattle.document_report.specs.ParentFaults.{found_of_chain, found_of_child, found_of_parent, found_of_shape};
-ghost use Rattle.document_report.specs.ParentFaults.{IsFoundInParent, IsFoundInParents, parent_line, short_next};
+ghost use Rattle.document_report.specs.ParentFaults.{IsFoundInParent, IsFoundInParents, short_next};
 ghost use Rattle.serde_json.specs.Find.{as_object, get};
 ghost use Rattle.serde_json.specs.View.{members_view, view};
 
+use crate::cause::Cause;
 use crate::chains::{KnownChains, goes_on};
-use crate::names::{is_long_name, new_line};
+use crate::finding_place::FindingPlace;
+use crate::found::Found;
+use crate::names::is_long_name;
 use crate::parent_rows::Parents;
-use plural_documents::{Found, name_text};
 use serde_json::{Map, Value};
 use std::alloc::{AllocError, Global};
 
 // Adds what is found in the parents of a document.
-pub(crate) fn add_parents(
+pub(crate) fn add_parents<'a>(
     alloc: Global,
-    document: &Value,
-    found: &mut Found,
+    document: &'a Value,
+    found: &mut Found<'a>,
 ) -> Result<(), AllocError>
     ensures { OnOk result (HasGrownBy (IsFoundInParents (view document.now)) found.old found.new) }
 {
-    add_shape(alloc, document.get("parents"), found)?;
+    add_shape(document.get("parents"), found)?;
     match parents_of(document) {
         Some(members) => add_named(alloc, members, found),
         None => Ok(()),
@@ -41,31 +42,31 @@ fn parents_of(document: &Value) -> Option<&Map<String, Value>>
     document.get("parents")?.as_object()
 }
 
-// Adds a line if the part is there, and neither null nor an object.
-fn add_shape(alloc: Global, value: Option<&Value>, found: &mut Found) -> Result<(), AllocError>
+// Adds a fault if the part is there, and neither null nor an object.
+fn add_shape(value: Option<&Value>, found: &mut Found<'_>) -> Result<(), AllocError>
     ensures { OnOk result (found.new ≡ together found.old (found_of_shape (option_map (λ v. view v.now) value.entry))) }
 {
     match value {
-        Some(value) => add_value(alloc, value, found),
+        Some(value) => add_value(value, found),
         None => Ok(()),
     }
 }
 
-// Adds a line if the part is neither null nor an object.
-fn add_value(alloc: Global, value: &Value, found: &mut Found) -> Result<(), AllocError>
+// Adds a fault if the part is neither null nor an object.
+fn add_value(value: &Value, found: &mut Found<'_>) -> Result<(), AllocError>
     ensures { OnOk result (found.new ≡ together found.old (found_of_shape (Some (view value.now)))) }
 {
     if value.is_null() || value.is_object() {
         return Ok(());
     }
-    found.add_fault(String::from_str(alloc, "parents: no object")?)
+    found.add_fault(FindingPlace::Parents, Cause::NoObject)
 }
 
 // Adds what is found in each member.
-fn add_named(
+fn add_named<'a>(
     alloc: Global,
-    members: &Map<String, Value>,
-    found: &mut Found,
+    members: &'a Map<String, Value>,
+    found: &mut Found<'a>,
 ) -> Result<(), AllocError>
     ensures { OnOk result (HasGrownBy (IsFoundInMembers (IsFoundInParent (parent_among (members_view members.now.entries)))
         (members_view members.now.entries)) found.old found.new) }
@@ -75,11 +76,11 @@ fn add_named(
 }
 
 // Adds what is found in each member, beside all parents.
-fn add_all<'p>(
+fn add_all<'p, 'a: 'p>(
     alloc: Global,
     parents: &'p Parents<'_>,
-    members: &'p Map<String, Value>,
-    found: &mut Found,
+    members: &'a Map<String, Value>,
+    found: &mut Found<'a>,
 ) -> Result<(), AllocError>
     ensures { OnOk result (HasGrownBy (IsFoundInMembers (IsFoundInParent (named_parent parents.now))
         (members_view members.now.entries)) found.old found.new) }
@@ -92,66 +93,65 @@ fn add_all<'p>(
 }
 
 // Adds what is found in a member, beside all parents and what is known of their chains.
-fn add_member<'p>(
+fn add_member<'p, 'a: 'p>(
     alloc: Global,
     parents: &'p Parents<'_>,
     chains: &mut KnownChains<'p>,
-    key: &'p str,
+    key: &'a str,
     value: &Value,
-    found: &mut Found,
+    found: &mut Found<'a>,
 ) -> Result<(), AllocError>
     requires { AreKnown (short_next (named_parent parents.now)) chains.old }
     ensures found { OnOk result (HasGrownBy (IsFoundInParent (named_parent parents.now) key.now (view value.now))
         found.old found.new) }
     ensures known { OnOk result (AreKnown (short_next (named_parent parents.now)) chains.new) }
 {
-    add_child(alloc, key, found)?;
-    add_parent(alloc, key, value.as_str(), found)?;
+    add_child(key, found)?;
+    add_parent(key, value.as_str(), found)?;
     add_chain(alloc, parents, chains, key, found)
 }
 
-// Adds a line if the key is long.
-fn add_child(alloc: Global, locale: &str, found: &mut Found) -> Result<(), AllocError>
+// Adds a fault if the key is long.
+fn add_child<'a>(locale: &'a str, found: &mut Found<'a>) -> Result<(), AllocError>
     ensures { OnOk result (found.new ≡ together found.old (found_of_child locale.now)) }
 {
     if !is_long_name(locale) {
         return Ok(());
     }
-    found.add_fault(parent_line(alloc, locale, "key too long")?)
+    found.add_fault(FindingPlace::Parent(locale), Cause::LongKey)
 }
 
-// Adds a line if the parent is no text, or a long one.
-fn add_parent(
-    alloc: Global,
-    locale: &str,
+// Adds a fault if the parent is no text, or a long one.
+fn add_parent<'a>(
+    locale: &'a str,
     parent: Option<&str>,
-    found: &mut Found,
+    found: &mut Found<'a>,
 ) -> Result<(), AllocError>
     ensures { OnOk result (found.new ≡ together found.old (found_of_parent locale.now (option_copied parent.entry))) }
 {
     match parent {
-        Some(parent) => add_text(alloc, locale, parent, found),
-        None => found.add_fault(parent_line(alloc, locale, "no text")?),
+        Some(parent) => add_text(locale, parent, found),
+        None => found.add_fault(FindingPlace::Parent(locale), Cause::NoText),
     }
 }
 
-// Adds a line if the parent is long.
-fn add_text(alloc: Global, locale: &str, parent: &str, found: &mut Found) -> Result<(), AllocError>
+// Adds a fault if the parent is long.
+fn add_text<'a>(locale: &'a str, parent: &str, found: &mut Found<'a>) -> Result<(), AllocError>
     ensures { OnOk result (found.new ≡ together found.old (found_of_parent locale.now (Some parent.now))) }
 {
     if !is_long_name(parent) {
         return Ok(());
     }
-    found.add_fault(parent_line(alloc, locale, "parent too long")?)
+    found.add_fault(FindingPlace::Parent(locale), Cause::LongParent)
 }
 
-// Adds a line if the chain of a locale doesn't end.
-fn add_chain<'p>(
+// Adds a fault if the chain of a locale doesn't end.
+fn add_chain<'p, 'a: 'p>(
     alloc: Global,
     parents: &'p Parents<'_>,
     chains: &mut KnownChains<'p>,
-    locale: &'p str,
-    found: &mut Found,
+    locale: &'a str,
+    found: &mut Found<'a>,
 ) -> Result<(), AllocError>
     requires { AreKnown (short_next (named_parent parents.now)) chains.old }
     ensures found { OnOk result (found.new ≡ together found.old (found_of_chain (named_parent parents.now) locale.now)) }
@@ -160,15 +160,5 @@ fn add_chain<'p>(
     if !goes_on(alloc, parents, chains, locale.as_bytes())? {
         return Ok(());
     }
-    found.add_fault(parent_line(alloc, locale, "the chain of parents doesn't end")?)
-}
-
-// Returns the line for a fault of a locale.
-fn parent_line(alloc: Global, locale: &str, fault: &str) -> Result<String, AllocError>
-    ensures { IfOk result (λ line. string_bytes line ≡ parent_line locale.now fault.now) }
-{
-    let name = name_text(alloc, locale)?;
-    let mut line = new_line(alloc, name.as_str(), fault.len())?;
-    write!(line, "parents {}: {}", name.as_str(), fault)?;
-    Ok(line)
+    found.add_fault(FindingPlace::Parent(locale), Cause::EndlessChain)
 }

@@ -1,30 +1,39 @@
 //! The report of a document.
 
-ghost use Rattle.std.specs.Prelude.{◌≡◌, IfOk, OnOk, string_bytes};
+ghost use Rattle.std.specs.Prelude.{◌≡◌, ◌++◌, IfOk, OnOk, map, string_bytes};
+ghost use Rattle.std.specs.List.{flat_map};
 ghost use Rattle.document_report.specs.CheckAnswer.{verdict_of_report, report_status};
-ghost use Rattle.document_report.specs.DocumentReport.{found_of_count, IsFoundInDocument, IsFoundInRules, IsReportOf};
 ghost use Rattle.document_report.specs.CheckedDocument.{members_at};
-ghost use Rattle.plural_documents.specs.Found.{together, IsFoundInMembers};
-ghost use Rattle.plural_documents.specs.Found.{HasGrownBy};
-ghost use Rattle.document_report.specs.ReportText.{counts_line, counts_of, report_text};
+ghost use Rattle.document_report.specs.DocumentFindings.{finding_view};
+ghost use Rattle.document_report.specs.DocumentReport.{found_of_count, IsFoundInDocument, IsFoundInRanges, IsFoundInRules, IsReportOf};
+ghost use Rattle.document_report.specs.FoundInDocuments.{together, HasGrownBy, IsFoundInMembers};
+ghost use Rattle.document_report.specs.ReportText.{counts_in, counts_line, counts_of, findings_in, printed_finding, report_text};
+ghost use Rattle.plural_fallback.specs.declared.locales.Part.TheVariants.{Ranges};
 ghost use Rattle.serde_json.specs.View.{view};
 
+use crate::cause::Cause;
+use crate::counts::Counts;
 use crate::document::{add_members_of, members_of};
+use crate::finding::Finding;
+use crate::finding_place::FindingPlace;
+use crate::found::Found;
 use crate::keys::PartCheck;
 use crate::languages::LanguageCheck;
 use crate::locales::locale_count;
 use crate::parents::add_parents;
 use crate::tables::TableCheck;
-use plural_documents::{Found, push_lines};
 use plural_fallback::Part;
 use serde_json::Value;
 use std::alloc::{AllocError, Global};
 
 /// The report of a document: how many locales it has, and what was found.
+///
+/// A fault has a finding, unless ten of its text come before it; one more finding then counts the
+/// others ([`Cause::More`]).
 #[derive(Debug, Drop)]
-pub struct Report {
+pub struct Report<'a> {
     pub(crate) locales: u64,
-    pub(crate) found: Found,
+    pub(crate) found: Found<'a>,
 }
 
 /// Whether a document has a fault.
@@ -48,46 +57,50 @@ impl Verdict {
     }
 }
 
-// Returns the report of a document.
-pub(crate) fn report_of(alloc: Global, document: &Value) -> Result<Report, AllocError>
+/// Returns the report of a document: what is found in the keys of its parts, in the rules for
+/// cardinal and for ordinal numbers, in the ranges, and in the parents, each in the order of the
+/// locales' bytes; and then that it has no locale. It allocates.
+///
+/// The only error is out of memory. The form of the document isn't looked at, as
+/// [`run`](crate::run::run) does first.
+pub fn report_of<'a>(alloc: Global, document: &'a Value) -> Result<Report<'a>, AllocError>
     ensures { IfOk result (λ report. IsReportOf (view document.now) report) }
 {
     let locales = locale_count(document)?;
     let mut found = found_in(alloc, document)?;
-    add_count(alloc, locales, &mut found)?;
+    add_count(locales, &mut found)?;
     Ok(Report { locales, found })
 }
 
-// Adds a line if there is no locale.
-fn add_count(alloc: Global, locales: u64, found: &mut Found) -> Result<(), AllocError>
+// Adds a fault if there is no locale.
+fn add_count(locales: u64, found: &mut Found<'_>) -> Result<(), AllocError>
     ensures { OnOk result (found.new ≡ together found.old (found_of_count locales)) }
 {
     if locales != 0 {
         return Ok(());
     }
-    found.add_fault(String::from_str(alloc, "document: no locale")?)
+    found.add_fault(FindingPlace::Document, Cause::NoLocale)
 }
 
 // Returns what is found in the keys of the parts, in the three parts, and in the parents.
-fn found_in(alloc: Global, document: &Value) -> Result<Found, AllocError>
+fn found_in<'a>(alloc: Global, document: &'a Value) -> Result<Found<'a>, AllocError>
     ensures { IfOk result (λ found. IsFoundInDocument (view document.now) found) }
 {
     let mut found = Found::new(alloc);
     add_members_of(alloc, &PartCheck, document.as_object(), &mut found)?;
     add_rules(alloc, document, Part::Cardinal, &mut found)?;
     add_rules(alloc, document, Part::Ordinal, &mut found)?;
-    let ranges = members_of(document, Part::Ranges);
-    add_members_of(alloc, &TableCheck { document }, ranges, &mut found)?;
+    add_ranges(alloc, document, &mut found)?;
     add_parents(alloc, document, &mut found)?;
     Ok(found)
 }
 
 // Adds what is found in the rules of a part.
-fn add_rules(
+fn add_rules<'a>(
     alloc: Global,
-    document: &Value,
+    document: &'a Value,
     part: Part,
-    found: &mut Found,
+    found: &mut Found<'a>,
 ) -> Result<(), AllocError>
     ensures { OnOk result (HasGrownBy (IsFoundInMembers (IsFoundInRules part) (members_at part (view document.now))) found.old found.new) }
 {
@@ -95,9 +108,40 @@ fn add_rules(
     add_members_of(alloc, &LanguageCheck { part }, members, found)
 }
 
-impl Report {
-    // Returns whether the document has a fault.
-    pub(crate) fn verdict(&self) -> Verdict
+// Adds what is found in the ranges.
+fn add_ranges<'a>(
+    alloc: Global,
+    document: &'a Value,
+    found: &mut Found<'a>,
+) -> Result<(), AllocError>
+    ensures { OnOk result (HasGrownBy (IsFoundInMembers (IsFoundInRanges (view document.now)) (members_at Ranges (view document.now))) found.old found.new) }
+{
+    let members = members_of(document, Part::Ranges);
+    add_members_of(alloc, &TableCheck { document }, members, found)
+}
+
+impl<'a> Report<'a> {
+    /// Returns the findings, in their order.
+    pub fn findings(&self) -> &[Finding<'a>]
+        ensures { map finding_view result.now ≡ findings_in self.now }
+    {
+        self.found.findings()
+    }
+
+    /// Returns the counts.
+    pub fn counts(&self) -> Counts
+        ensures { result ≡ counts_in self.now }
+    {
+        Counts {
+            locales: self.locales,
+            rules: self.found.checked(),
+            numbers: self.found.cases(),
+            faults: self.found.faults(),
+        }
+    }
+
+    /// Returns whether the document has a fault.
+    pub fn verdict(&self) -> Verdict
         ensures { result ≡ verdict_of_report self.now }
     {
         if self.found.faults() == 0 {
@@ -107,18 +151,19 @@ impl Report {
         }
     }
 
-    // Returns the text of the report: its lines, and a line with the counts.
-    pub(crate) fn text(&self, alloc: Global) -> Result<String, AllocError>
+    /// Returns the text of the report: a line for each finding, and one with the counts. It
+    /// allocates; the only error is out of memory.
+    pub fn text(&self, alloc: Global) -> Result<String, AllocError>
         ensures { IfOk result (λ text. string_bytes text ≡ report_text self.now) }
     {
         let mut text = String::new(alloc);
-        push_lines(&mut text, self.found.lines())?;
-        text.push_str(self.counts(alloc)?.as_str())?;
+        push_lines(alloc, &mut text, self.findings())?;
+        text.push_str(self.last_line(alloc)?.as_str())?;
         Ok(text)
     }
 
     // Returns the line with the counts of the report.
-    fn counts(&self, alloc: Global) -> Result<String, AllocError>
+    fn last_line(&self, alloc: Global) -> Result<String, AllocError>
         ensures { IfOk result (λ line. string_bytes line ≡ counts_of self.now) }
     {
         let found = &self.found;
@@ -130,6 +175,24 @@ impl Report {
             found.faults(),
         )
     }
+}
+
+// Appends the line of each finding.
+fn push_lines(alloc: Global, text: &mut String, findings: &[Finding<'_>]) -> Result<(), AllocError>
+    ensures { OnOk result (string_bytes text.new ≡ string_bytes text.old ++ flat_map printed_finding (map finding_view findings.now)) }
+{
+    for finding in findings {
+        push_line(alloc, text, finding)?;
+    }
+    Ok(())
+}
+
+// Appends the line of a finding, and a newline.
+fn push_line(alloc: Global, text: &mut String, finding: &Finding<'_>) -> Result<(), AllocError>
+    ensures { OnOk result (string_bytes text.new ≡ string_bytes text.old ++ printed_finding (finding_view finding.now)) }
+{
+    text.push_str(finding.line(alloc)?.as_str())?;
+    text.push_str("\n")
 }
 
 // Returns the line with these counts.

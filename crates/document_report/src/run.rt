@@ -1,7 +1,7 @@
 //! Reads an input and writes the answer to it.
 
 ghost use Rattle.std.specs.Prelude.{◌≡◌, ◌≢◌, Err, IfErr, IfOk, List, ℕ, IsFalse, IsTrue};
-ghost use Rattle.document_report.specs.CheckAnswer.{AnswersDocument, AnswersInput, IsCheckAnswered, IsAnswerTo, check_origin};
+ghost use Rattle.document_report.specs.CheckAnswer.{AnswersDocument, AnswersInput, AnswersInputAs, IsCheckAnswered, IsAnswerTo, check_origin};
 ghost use Rattle.document_report.specs.CheckedDocument.{value_in, document_of_bytes};
 ghost use Rattle.document_report.specs.Inner.CheckCalls.{Gives, GivesAfterReading, answer_view};
 ghost use Rattle.document_report.specs.declared.error.CheckError.TheVariants.{Usage};
@@ -11,6 +11,7 @@ ghost use Rattle.serde_json.specs.View.{view};
 use crate::document::value_of;
 use crate::error::CheckError;
 use crate::report::{Verdict, report_of};
+use crate::report_printer::{ReportLines, ReportPrinter};
 use plural_documents::{read_input, write_output};
 use serde_json::Value;
 use std::alloc::{AllocError, Global};
@@ -51,10 +52,27 @@ pub fn run<R: Read, W: Write>(
     ensures reads_nothing { IsTrue has_words → (reader.new ≡ reader.old) × (result ≡ Err Usage) }
     ensures writes_nothing { IfErr result (λ e. e ≢ CheckError.Write → writer.new ≡ writer.old) }
 {
+    run_as(alloc, has_words, &ReportLines, reader, writer)
+}
+
+/// The same with the report as a printer prints it.
+pub fn run_as<P: ReportPrinter, R: Read, W: Write>(
+    alloc: Global,
+    has_words: bool,
+    printer: &P,
+    reader: &mut R,
+    writer: &mut W,
+) -> Result<Verdict, CheckError>
+    ensures answers { (input : List ℕ) × IsInput (R.remaining reader.old) input
+        × IsCheckAnswered (AnswersInputAs (P.text_of printer.now) has_words input) (W.contents writer.old) (W.contents writer.new) result }
+    ensures reads { IsFalse has_words → IsRead check_origin (R.remaining reader.old) (R.remaining reader.new) result }
+    ensures reads_nothing { IsTrue has_words → (reader.new ≡ reader.old) × (result ≡ Err Usage) }
+    ensures writes_nothing { IfErr result (λ e. e ≢ CheckError.Write → writer.new ≡ writer.old) }
+{
     if has_words {
         return Err(CheckError::Usage);
     }
-    let answer = answer_to_reader(alloc, reader)?;
+    let answer = answer_to_reader(alloc, printer, reader)?;
     match write_output(writer, answer.text.as_str().as_bytes()) {
         Ok(()) => Ok(answer.verdict),
         Err(_) => Err(CheckError::Write),
@@ -62,32 +80,44 @@ pub fn run<R: Read, W: Write>(
 }
 
 // Returns the answer to the input of a reader.
-fn answer_to_reader<R: Read>(alloc: Global, reader: &mut R) -> Result<Answer, CheckError>
+fn answer_to_reader<P: ReportPrinter, R: Read>(
+    alloc: Global,
+    printer: &P,
+    reader: &mut R,
+) -> Result<Answer, CheckError>
     ensures answers { (input : List ℕ) × IsInput (R.remaining reader.old) input
-        × GivesAfterReading (AnswersDocument (value_in input)) result }
+        × GivesAfterReading (AnswersDocument (P.text_of printer.now) (value_in input)) result }
     ensures reads { IsRead check_origin (R.remaining reader.old) (R.remaining reader.new) result }
 {
     let input = read_input(alloc, reader)?;
-    answer_to(alloc, input.as_slice())
+    answer_to(alloc, printer, input.as_slice())
 }
 
 // Returns the answer to the bytes of an input.
-pub(crate) fn answer_to(alloc: Global, bytes: &[u8]) -> Result<Answer, CheckError>
-    ensures { Gives answer_view (AnswersDocument (document_of_bytes bytes.now)) result }
+fn answer_to<P: ReportPrinter>(
+    alloc: Global,
+    printer: &P,
+    bytes: &[u8],
+) -> Result<Answer, CheckError>
+    ensures { Gives answer_view (AnswersDocument (P.text_of printer.now) (document_of_bytes bytes.now)) result }
 {
     let document = value_of(alloc, bytes)?;
-    match answer_of(alloc, &document) {
+    match answer_of(alloc, printer, &document) {
         Ok(answer) => Ok(answer),
         Err(_) => Err(CheckError::Memory),
     }
 }
 
 // Returns the answer to a document.
-fn answer_of(alloc: Global, document: &Value) -> Result<Answer, AllocError>
-    ensures { IfOk result (λ answer. IsAnswerTo (view document.now) (answer_view answer)) }
+fn answer_of<P: ReportPrinter>(
+    alloc: Global,
+    printer: &P,
+    document: &Value,
+) -> Result<Answer, AllocError>
+    ensures { IfOk result (λ answer. IsAnswerTo (P.text_of printer.now) (view document.now) (answer_view answer)) }
 {
     let report = report_of(alloc, document)?;
-    let text = report.text(alloc)?;
+    let text = printer.print(alloc, &report)?;
     Ok(Answer {
         text,
         verdict: report.verdict(),

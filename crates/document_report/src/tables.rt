@@ -1,21 +1,24 @@
 //! What is found in the ranges of a document.
 
-ghost use Rattle.std.specs.Prelude.{◌≡◌, IfOk, OnOk, option_map, string_bytes};
+ghost use Rattle.std.specs.Prelude.{◌≡◌, OnOk, option_map};
 ghost use Rattle.plural_checker.specs.LanguageTexts.{six_texts};
-ghost use Rattle.document_report.specs.DocumentReport.{entry_line, found_of_rules, texts_at, IsFoundInEntry, IsFoundInRanges};
-ghost use Rattle.plural_documents.specs.Found.{together};
-ghost use Rattle.serde_json.specs.View.{view};
+ghost use Rattle.document_report.specs.CheckedDocument.{members_or_none};
+ghost use Rattle.document_report.specs.DocumentPlaces.{locale_place_view};
+ghost use Rattle.document_report.specs.DocumentReport.{found_of_rules, texts_at, IsFoundInEntry, IsFoundInRanges, IsFoundInTable};
+ghost use Rattle.document_report.specs.FoundInDocuments.{together, HasGrownBy, IsFoundInMembers};
+ghost use Rattle.serde_json.specs.View.{members_view, view};
 
+use crate::cause::Cause;
 use crate::document::{add_members_of, value_at};
-use crate::entry::{EntryFault, entry_fault};
+use crate::entry::entry_fault;
+use crate::finding_place::{FindingPlace, LocalePlace};
 use crate::form::table_in;
-use crate::keys::{add_key, locale_line};
+use crate::found::{Found, MemberCheck};
+use crate::keys::add_key;
 use crate::languages::texts_of;
-use crate::names::{FAULT_ROOM, new_line};
 use plural_checker::LanguageTexts;
-use plural_documents::{Found, MemberCheck, name_text};
 use plural_fallback::Part;
-use serde_json::Value;
+use serde_json::{Map, Value};
 use std::alloc::{AllocError, Global};
 
 // Checks a locale's ranges, in a document.
@@ -24,62 +27,79 @@ pub(crate) struct TableCheck<'a> {
     pub(crate) document: &'a Value,
 }
 
-impl<'a> MemberCheck for TableCheck<'a> {
+impl<'a> MemberCheck<'a> for TableCheck<'a> {
     ghost finds = { λ check. IsFoundInRanges (view check.document.now) };
 
     fn add(
         &self,
         alloc: Global,
-        locale: &str,
-        value: &Value,
-        found: &mut Found,
+        locale: &'a str,
+        value: &'a Value,
+        found: &mut Found<'a>,
     ) -> Result<(), AllocError> {
-        add_key(alloc, Part::Ranges, locale, found)?;
         let rules = value_at(self.document, Part::Cardinal, locale);
-        let name = name_text(alloc, locale)?;
-        add_rules(alloc, name.as_str(), rules, found)?;
-        let entries = EntryCheck {
-            texts: texts_at(rules),
-            name: name.as_str(),
+        let place = LocalePlace {
+            part: Part::Ranges,
+            locale,
         };
-        add_members_of(alloc, &entries, table_in(value), found)?;
-        Ok(())
+        add_table(alloc, place, rules, value, found)
     }
+}
+
+// Adds what is found in the ranges of a locale, given its cardinal rules, if there are any.
+fn add_table<'a>(
+    alloc: Global,
+    place: LocalePlace<'a>,
+    rules: Option<&'a Value>,
+    value: &'a Value,
+    found: &mut Found<'a>,
+) -> Result<(), AllocError>
+    ensures { OnOk result (HasGrownBy (IsFoundInTable (locale_place_view place.entry) (option_map (λ v. view v.now) rules.entry)
+        (view value.now)) found.old found.new) }
+{
+    add_key(place, found)?;
+    add_rules(place, rules, found)?;
+    add_entries(alloc, place, rules, table_in(value), found)
+}
+
+// Adds what is found in the entries of a locale's ranges.
+fn add_entries<'a>(
+    alloc: Global,
+    place: LocalePlace<'a>,
+    rules: Option<&'a Value>,
+    members: Option<&'a Map<String, Value>>,
+    found: &mut Found<'a>,
+) -> Result<(), AllocError>
+    ensures { OnOk result (HasGrownBy
+        (IsFoundInMembers (IsFoundInEntry (texts_at (option_map (λ v. view v.now) rules.entry)) (locale_place_view place.entry))
+        (members_or_none (option_map (λ m. members_view m.now.entries) members.entry))) found.old found.new) }
+{
+    let texts = texts_at(rules);
+    add_members_of(alloc, &EntryCheck { texts, place }, members, found)
 }
 
 // Checks an entry of a locale's ranges, under the texts of its cardinal rules.
 #[derive(Clone, Copy)]
 struct EntryCheck<'a> {
     texts: LanguageTexts<'a>,
-    name: &'a str,
+    place: LocalePlace<'a>,
 }
 
-impl<'a> MemberCheck for EntryCheck<'a> {
-    ghost finds = { λ check. IsFoundInEntry (six_texts check.texts) check.name.now };
+impl<'a> MemberCheck<'a> for EntryCheck<'a> {
+    ghost finds = { λ check. IsFoundInEntry (six_texts check.texts) (locale_place_view check.place) };
 
     fn add(
         &self,
-        alloc: Global,
-        key: &str,
-        value: &Value,
-        found: &mut Found,
+        _alloc: Global,
+        key: &'a str,
+        value: &'a Value,
+        found: &mut Found<'a>,
     ) -> Result<(), AllocError> {
         match entry_fault(&self.texts, key, value) {
-            Some(fault) => found.add_fault(entry_line(alloc, self.name, key, fault)?),
+            Some(fault) => found.add_fault(FindingPlace::Key(self.place, key), Cause::Entry(fault)),
             None => Ok(()),
         }
     }
-}
-
-// Returns the line for a fault of an entry.
-fn entry_line(alloc: Global, name: &str, key: &str, fault: EntryFault) -> Result<String, AllocError>
-    ensures { IfOk result (λ line. string_bytes line ≡ entry_line name.now key.now fault) }
-{
-    let part = Part::Ranges.as_str();
-    let key = name_text(alloc, key)?;
-    let mut line = new_line(alloc, name, FAULT_ROOM)?;
-    write!(line, "{} {} {}: {}", part, name, key.as_str(), fault)?;
-    Ok(line)
 }
 
 // Returns the texts of cardinal rules, if there are any.
@@ -99,18 +119,17 @@ fn texts_at(rules: Option<&Value>) -> LanguageTexts<'_>
     }
 }
 
-// Adds a line if a locale has no cardinal rules.
-fn add_rules(
-    alloc: Global,
-    name: &str,
+// Adds a fault if a locale has no cardinal rules.
+fn add_rules<'a>(
+    place: LocalePlace<'a>,
     rules: Option<&Value>,
-    found: &mut Found,
+    found: &mut Found<'a>,
 ) -> Result<(), AllocError>
     ensures { OnOk result (found.new
-        ≡ together found.old (found_of_rules name.now (option_map (λ v. view v.now) rules.entry))) }
+        ≡ together found.old (found_of_rules (locale_place_view place.entry) (option_map (λ v. view v.now) rules.entry))) }
 {
     if rules.is_some() {
         return Ok(());
     }
-    found.add_fault(locale_line(alloc, Part::Ranges, name, "no cardinal rules")?)
+    found.add_fault(FindingPlace::Locale(place), Cause::NoCardinalRules)
 }

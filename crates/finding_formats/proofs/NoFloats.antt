@@ -41,10 +41,12 @@ form_without : (fault : FormFault) → has_float (cause_data (cause.Form fault))
 form_without form.NoText = refl
 form_without (form.Unused category) = refl
 form_without (form.NoNumber category first second) = refl
-form_without (form.Missing category None None) = refl
-form_without (form.Missing category None (Some second)) = refl
-form_without (form.Missing category (Some first) None) = refl
-form_without (form.Missing category (Some first) (Some second)) = refl
+form_without (form.Missing category first None) = refl
+form_without (form.Missing category first (Some second)) = refl
+form_without (form.MissingRare category None None) = refl
+form_without (form.MissingRare category None (Some second)) = refl
+form_without (form.MissingRare category (Some first) None) = refl
+form_without (form.MissingRare category (Some first) (Some second)) = refl
 
 branch_without : (fault : BranchFault) → has_float (cause_data (cause.Branch fault)) ≡ false
 branch_without branch.NoCategory = refl
@@ -53,6 +55,10 @@ branch_without (branch.Unused category) = refl
 branch_without (branch.NoHash category first second) = refl
 branch_without (branch.Missing category first None) = refl
 branch_without (branch.Missing category first (Some second)) = refl
+branch_without (branch.MissingRare category None None) = refl
+branch_without (branch.MissingRare category None (Some second)) = refl
+branch_without (branch.MissingRare category (Some first) None) = refl
+branch_without (branch.MissingRare category (Some first) (Some second)) = refl
 
 cause_without : (c : Cause) → has_float (cause_data c) ≡ false
 cause_without cause.NoObject = refl

@@ -53,10 +53,12 @@ form_part : (f : FormFault) → FormFits f → IsPart (cause_data (cause.Form f)
 form_part fault.NoText h = record { plain = (tt, (tt, tt)); shallow = lit≤ tt }
 form_part (fault.Unused category) h = record { plain = (tt, (tt, (tt, tt))); shallow = lit≤ tt }
 form_part (fault.NoNumber category first second) h = record { plain = (tt, (tt, ((h.0, (h.1, tt)), (tt, tt)))); shallow = lit≤ tt }
-form_part (fault.Missing category None None) h = record { plain = (tt, (tt, (tt, (tt, tt)))); shallow = lit≤ tt }
-form_part (fault.Missing category None (Some second)) h = record { plain = (tt, (tt, ((tt, (h.1, tt)), (tt, tt)))); shallow = lit≤ tt }
-form_part (fault.Missing category (Some first) None) h = record { plain = (tt, (tt, ((h.0, tt), (tt, tt)))); shallow = lit≤ tt }
-form_part (fault.Missing category (Some first) (Some second)) h = record { plain = (tt, (tt, ((h.0, (h.1, tt)), (tt, tt)))); shallow = lit≤ tt }
+form_part (fault.Missing category first None) h = record { plain = (tt, (tt, ((h.0, tt), (tt, tt)))); shallow = lit≤ tt }
+form_part (fault.Missing category first (Some second)) h = record { plain = (tt, (tt, ((h.0, (h.1, tt)), (tt, tt)))); shallow = lit≤ tt }
+form_part (fault.MissingRare category None None) h = record { plain = (tt, (tt, (tt, (tt, tt)))); shallow = lit≤ tt }
+form_part (fault.MissingRare category None (Some second)) h = record { plain = (tt, (tt, (tt, ((tt, (tt, tt)), tt)))); shallow = lit≤ tt }
+form_part (fault.MissingRare category (Some first) None) h = record { plain = (tt, (tt, (tt, ((tt, tt), tt)))); shallow = lit≤ tt }
+form_part (fault.MissingRare category (Some first) (Some second)) h = record { plain = (tt, (tt, (tt, ((tt, (tt, tt)), tt)))); shallow = lit≤ tt }
 
 branch_part : (f : BranchFault) → BranchFits f → IsPart (cause_data (cause.Branch f))
 branch_part branch.NoCategory h = record { plain = (tt, (tt, tt)); shallow = lit≤ tt }
@@ -65,6 +67,10 @@ branch_part (branch.Unused category) h = record { plain = (tt, (tt, (tt, tt))); 
 branch_part (branch.NoHash category first second) h = record { plain = (tt, (tt, ((h.0, (h.1, tt)), (tt, tt)))); shallow = lit≤ tt }
 branch_part (branch.Missing category first None) h = record { plain = (tt, (tt, ((h.0, tt), (tt, tt)))); shallow = lit≤ tt }
 branch_part (branch.Missing category first (Some second)) h = record { plain = (tt, (tt, ((h.0, (h.1, tt)), (tt, tt)))); shallow = lit≤ tt }
+branch_part (branch.MissingRare category None None) h = record { plain = (tt, (tt, (tt, (tt, tt)))); shallow = lit≤ tt }
+branch_part (branch.MissingRare category None (Some second)) h = record { plain = (tt, (tt, (tt, ((tt, (tt, tt)), tt)))); shallow = lit≤ tt }
+branch_part (branch.MissingRare category (Some first) None) h = record { plain = (tt, (tt, (tt, ((tt, tt), tt)))); shallow = lit≤ tt }
+branch_part (branch.MissingRare category (Some first) (Some second)) h = record { plain = (tt, (tt, (tt, ((tt, (tt, tt)), tt)))); shallow = lit≤ tt }
 
 pub cause_part : (c : Cause) → CauseFits c → IsPart (cause_data c)
 cause_part cause.NoObject h = record { plain = (tt, tt); shallow = lit≤ tt }
@@ -93,14 +99,14 @@ findings_line_values (f ∷ fs) h =
     All-cons IsLineValue (finding_data f) (map finding_data fs) (finding_line_value f (All-head HasTexts f fs h))
     (findings_line_values fs (All-tail HasTexts f fs h))
 
-counts_line_value : (counts : Counts) → counts.faults < 2 ^ 64 → counts.forms < 2 ^ 64 → counts.messages < 2 ^ 64
+counts_line_value : (counts : Counts) → counts.faults < 2 ^ 64 → counts.forms < 2 ^ 64 → counts.messages < 2 ^ 64 → counts.notes < 2 ^ 64
     → IsLineValue (counts_data counts)
-counts_line_value counts h k l = record { plain = ((h, (k, (l, tt))), tt); shallow = lit≤ tt }
+counts_line_value counts h k l m = record { plain = ((h, (k, (l, (m, tt)))), tt); shallow = lit≤ tt }
 
 found_line_values : (found : Found) → AllHaveTexts found → All IsLineValue (found_data found)
 found_line_values found h =
     All-append IsLineValue (map finding_data found.findings) (counts_data (counts_found found) ∷ []) (findings_line_values found.findings h.findings)
-    (All-cons IsLineValue (counts_data (counts_found found)) [] (counts_line_value (counts_found found) h.faults h.forms h.messages) (All-nil IsLineValue))
+    (All-cons IsLineValue (counts_data (counts_found found)) [] (counts_line_value (counts_found found) h.faults h.forms h.messages h.notes) (All-nil IsLineValue))
 
 -- ---- The objects tell what is found
 
@@ -116,16 +122,17 @@ record SameFound (fs gs : List Finding) (c d : Counts) : Type 0 where
   findings : fs ≡ gs
   counts : c ≡ d
 
-abbrev counts_of : ℕ → ℕ → ℕ → Counts
-counts_of messages forms faults = record { messages = messages; forms = forms; faults = faults }
+abbrev counts_of : ℕ → ℕ → ℕ → ℕ → Counts
+counts_of messages forms faults notes = record { messages = messages; forms = forms; faults = faults; notes = notes }
 
 counts_tell : (c d : Counts) → counts_data c ≡ counts_data d → c ≡ d
 counts_tell c d same =
     let faults : c.faults ≡ d.faults = cc in
     let forms : c.forms ≡ d.forms = cc in
     let messages : c.messages ≡ d.messages = cc in
-    ap (λ (n : ℕ). counts_of n c.forms c.faults) messages ∙ ap (λ (n : ℕ). counts_of d.messages n c.faults) forms
-    ∙ ap (λ (n : ℕ). counts_of d.messages d.forms n) faults
+    let notes : c.notes ≡ d.notes = cc in
+    ap (λ (n : ℕ). counts_of n c.forms c.faults c.notes) messages ∙ ap (λ (n : ℕ). counts_of d.messages n c.faults c.notes) forms
+    ∙ ap (λ (n : ℕ). counts_of d.messages d.forms n c.notes) faults ∙ ap (λ (n : ℕ). counts_of d.messages d.forms d.faults n) notes
 
 objects_tell : (fs gs : List Finding) (c d : Counts) → All HasTexts fs → All HasTexts gs
     → map finding_data fs ++ (counts_data c ∷ []) ≡ map finding_data gs ++ (counts_data d ∷ []) → SameFound fs gs c d
@@ -144,6 +151,7 @@ abbrev found_of : List Finding → Counts → Found
 found_of findings counts = record {
   findings = findings;
   faults = counts.faults;
+  notes = counts.notes;
   messages = counts.messages;
   forms = counts.forms;
 }

@@ -11,6 +11,8 @@ use Rattle.icu_plurals.specs.declared.PluralRuleType.TheVariants.{Cardinal, Ordi
 use Rattle.message_pattern.specs.PatternParts.{Selector, Exactly, Keyword}
 use Rattle.message_pattern.specs.declared.error.FaultKind.{FaultKind}
 use Rattle.message_pattern.specs.declared.error.FaultKind.TheVariants as kind
+use Rattle.plural_checker.specs.FirstSamples.{kept_sample, sample_text}
+use Rattle.plural_checker.specs.declared.Sample.{Sample}
 use Rattle.message_report.specs.MessageFindings.{Finding}
 use Rattle.message_report.specs.MessageForms.{form_name}
 use Rattle.message_report.specs.MessagePlaces.{ArgumentPlace, LocalePlace, MessagePlace, PatternPlace, Place, file_of, type_name}
@@ -27,7 +29,7 @@ use Rattle.message_report.specs.declared.form.Form.TheVariants as form
 use Rattle.serde_json.specs.Data.{Num, unsigned, Data, null, number, string, array, Items, no_items, item}
 use Rattle.serde_json.specs.Find.{get}
 use Rattle.finding_formats.specs.FindingObjects.{cause_data, fault_kind_name, finding_data, place_data, shown_bytes}
-use Rattle.finding_formats.specs.JsonLineLaws.{PlaceHasTexts, HasTexts}
+use Rattle.finding_formats.specs.JsonLineLaws.{BranchFits, CauseFits, FormFits, PlaceHasTexts, HasTexts}
 
 -- ---- What stands under a key
 
@@ -252,6 +254,32 @@ first_at d = first_in (value_at (codes "numbers") d)
 abbrev second_at : Data → Option ℕ
 second_at d = second_in (value_at (codes "numbers") d)
 
+abbrev sample_if : Data → Option Sample
+sample_if (string s) = Some (kept_sample s)
+sample_if _ = None
+
+abbrev first_kept : Items → Option Sample
+first_kept no_items = None
+first_kept (item d ds) = sample_if d
+
+abbrev second_kept : Items → Option Sample
+second_kept no_items = None
+second_kept (item d ds) = first_kept ds
+
+abbrev first_kept_in : Data → Option Sample
+first_kept_in (array ds) = first_kept ds
+first_kept_in _ = None
+
+abbrev second_kept_in : Data → Option Sample
+second_kept_in (array ds) = second_kept ds
+second_kept_in _ = None
+
+abbrev first_sample_at : Data → Option Sample
+first_sample_at d = first_kept_in (value_at (codes "samples") d)
+
+abbrev second_sample_at : Data → Option Sample
+second_sample_at d = second_kept_in (value_at (codes "samples") d)
+
 abbrev cause_of_code : List ℕ → Data → Cause
 cause_of_code word d =
     if bytes_eq word (codes "no-object") then cause.NoObject
@@ -259,8 +287,12 @@ cause_of_code word d =
     else if bytes_eq word (codes "no-text-list") then cause.NoTextList
     else if bytes_eq word (codes "no-rules") then cause.NoRules (type_in (text_at (codes "type") d))
     else if bytes_eq word (codes "missing") then (
-    if is_of_form d then cause.Form (fault.Missing (category_at d) (first_at d) (second_at d))
+    if is_of_form d then cause.Form (fault.Missing (category_at d) (unwrap_or (first_at d) 0) (second_at d))
     else cause.Branch (branch.Missing (category_at d) (unwrap_or (first_at d) 0) (second_at d))
+    )
+    else if bytes_eq word (codes "missing-rare") then (
+    if is_of_form d then cause.Form (fault.MissingRare (category_at d) (first_sample_at d) (second_sample_at d))
+    else cause.Branch (branch.MissingRare (category_at d) (first_sample_at d) (second_sample_at d))
     )
     else if bytes_eq word (codes "unused") then (
     if is_of_form d then cause.Form (fault.Unused (category_at d)) else cause.Branch (branch.Unused (category_at d))
@@ -279,45 +311,65 @@ cause_of_code word d =
 pub cause_in : Data → Cause
 cause_in d = cause_of_code (text_at (codes "code") d) d
 
-form_fault_again : (f : FormFault) → cause_in (cause_data (cause.Form f)) ≡ cause.Form f
+form_fault_again : (f : FormFault) → FormFits f → cause_in (cause_data (cause.Form f)) ≡ cause.Form f
 unfolding cause_in
-form_fault_again fault.NoText = refl
-form_fault_again (fault.Unused category) = ap (λ (c : PluralCategory). cause.Form (fault.Unused c)) (category_again category)
-form_fault_again (fault.NoNumber category first second) =
+form_fault_again fault.NoText h = refl
+form_fault_again (fault.Unused category) h = ap (λ (c : PluralCategory). cause.Form (fault.Unused c)) (category_again category)
+form_fault_again (fault.NoNumber category first second) h =
     ap (λ (c : PluralCategory). cause.Form (fault.NoNumber c first second)) (category_again category)
-form_fault_again (fault.Missing category None None) =
-    ap (λ (c : PluralCategory). cause.Form (fault.Missing c None None)) (category_again category)
-form_fault_again (fault.Missing category None (Some second)) =
-    ap (λ (c : PluralCategory). cause.Form (fault.Missing c None (Some second))) (category_again category)
-form_fault_again (fault.Missing category (Some first) None) =
-    ap (λ (c : PluralCategory). cause.Form (fault.Missing c (Some first) None)) (category_again category)
-form_fault_again (fault.Missing category (Some first) (Some second)) =
-    ap (λ (c : PluralCategory). cause.Form (fault.Missing c (Some first) (Some second))) (category_again category)
+form_fault_again (fault.Missing category first None) h =
+    ap (λ (c : PluralCategory). cause.Form (fault.Missing c first None)) (category_again category)
+form_fault_again (fault.Missing category first (Some second)) h =
+    ap (λ (c : PluralCategory). cause.Form (fault.Missing c first (Some second))) (category_again category)
+form_fault_again (fault.MissingRare category None None) h =
+    ap (λ (c : PluralCategory). cause.Form (fault.MissingRare c None None)) (category_again category)
+form_fault_again (fault.MissingRare category None (Some second)) h =
+    ap (λ (c : PluralCategory). cause.Form (fault.MissingRare c None (Some (kept_sample (sample_text second))))) (category_again category)
+    ∙ ap (λ (s : Sample). cause.Form (fault.MissingRare category None (Some s))) h.1
+form_fault_again (fault.MissingRare category (Some first) None) h =
+    ap (λ (c : PluralCategory). cause.Form (fault.MissingRare c (Some (kept_sample (sample_text first))) None)) (category_again category)
+    ∙ ap (λ (s : Sample). cause.Form (fault.MissingRare category (Some s) None)) h.0
+form_fault_again (fault.MissingRare category (Some first) (Some second)) h =
+    ap (λ (c : PluralCategory). cause.Form (fault.MissingRare c (Some (kept_sample (sample_text first))) (Some (kept_sample (sample_text second))))) (category_again category)
+    ∙ ap (λ (s : Sample). cause.Form (fault.MissingRare category (Some s) (Some (kept_sample (sample_text second))))) h.0
+    ∙ ap (λ (s : Sample). cause.Form (fault.MissingRare category (Some first) (Some s))) h.1
 
-branch_fault_again : (f : BranchFault) → cause_in (cause_data (cause.Branch f)) ≡ cause.Branch f
+branch_fault_again : (f : BranchFault) → BranchFits f → cause_in (cause_data (cause.Branch f)) ≡ cause.Branch f
 unfolding cause_in
-branch_fault_again branch.NoCategory = refl
-branch_fault_again branch.Twice = refl
-branch_fault_again (branch.Unused category) = ap (λ (c : PluralCategory). cause.Branch (branch.Unused c)) (category_again category)
-branch_fault_again (branch.NoHash category first second) =
+branch_fault_again branch.NoCategory h = refl
+branch_fault_again branch.Twice h = refl
+branch_fault_again (branch.Unused category) h = ap (λ (c : PluralCategory). cause.Branch (branch.Unused c)) (category_again category)
+branch_fault_again (branch.NoHash category first second) h =
     ap (λ (c : PluralCategory). cause.Branch (branch.NoHash c first second)) (category_again category)
-branch_fault_again (branch.Missing category first None) =
+branch_fault_again (branch.Missing category first None) h =
     ap (λ (c : PluralCategory). cause.Branch (branch.Missing c first None)) (category_again category)
-branch_fault_again (branch.Missing category first (Some second)) =
+branch_fault_again (branch.Missing category first (Some second)) h =
     ap (λ (c : PluralCategory). cause.Branch (branch.Missing c first (Some second))) (category_again category)
+branch_fault_again (branch.MissingRare category None None) h =
+    ap (λ (c : PluralCategory). cause.Branch (branch.MissingRare c None None)) (category_again category)
+branch_fault_again (branch.MissingRare category None (Some second)) h =
+    ap (λ (c : PluralCategory). cause.Branch (branch.MissingRare c None (Some (kept_sample (sample_text second))))) (category_again category)
+    ∙ ap (λ (s : Sample). cause.Branch (branch.MissingRare category None (Some s))) h.1
+branch_fault_again (branch.MissingRare category (Some first) None) h =
+    ap (λ (c : PluralCategory). cause.Branch (branch.MissingRare c (Some (kept_sample (sample_text first))) None)) (category_again category)
+    ∙ ap (λ (s : Sample). cause.Branch (branch.MissingRare category (Some s) None)) h.0
+branch_fault_again (branch.MissingRare category (Some first) (Some second)) h =
+    ap (λ (c : PluralCategory). cause.Branch (branch.MissingRare c (Some (kept_sample (sample_text first))) (Some (kept_sample (sample_text second))))) (category_again category)
+    ∙ ap (λ (s : Sample). cause.Branch (branch.MissingRare category (Some s) (Some (kept_sample (sample_text second))))) h.0
+    ∙ ap (λ (s : Sample). cause.Branch (branch.MissingRare category (Some first) (Some s))) h.1
 
-cause_again : (c : Cause) → cause_in (cause_data c) ≡ c
+cause_again : (c : Cause) → CauseFits c → cause_in (cause_data c) ≡ c
 unfolding cause_in
-cause_again cause.NoObject = refl
-cause_again cause.NotAPart = refl
-cause_again cause.NoTextList = refl
-cause_again (cause.NoRules type) = ap (λ (type : PluralRuleType). cause.NoRules type) (type_again type)
-cause_again (cause.Form f) = form_fault_again f
-cause_again cause.NotAForm = refl
-cause_again cause.NoText = refl
-cause_again (cause.NoPattern k byte) = ap (λ (k : FaultKind). cause.NoPattern k byte) (kind_again k)
-cause_again (cause.Branch f) = branch_fault_again f
-cause_again (cause.More count) = refl
+cause_again cause.NoObject h = refl
+cause_again cause.NotAPart h = refl
+cause_again cause.NoTextList h = refl
+cause_again (cause.NoRules type) h = ap (λ (type : PluralRuleType). cause.NoRules type) (type_again type)
+cause_again (cause.Form f) h = form_fault_again f h
+cause_again cause.NotAForm h = refl
+cause_again cause.NoText h = refl
+cause_again (cause.NoPattern k byte) h = ap (λ (k : FaultKind). cause.NoPattern k byte) (kind_again k)
+cause_again (cause.Branch f) h = branch_fault_again f h
+cause_again (cause.More count) h = refl
 
 -- ---- Findings
 
@@ -330,7 +382,7 @@ finding_in d = record {
 pub finding_again : (f : Finding) → HasTexts f → finding_in (finding_data f) ≡ f
 finding_again f h =
     ap (λ (place : Place). let found : Finding = record { place = place; cause = cause_in (cause_data f.cause) } in found) (place_again f.place h.place)
-    ∙ ap (λ (c : Cause). let found : Finding = record { place = f.place; cause = c } in found) (cause_again f.cause)
+    ∙ ap (λ (c : Cause). let found : Finding = record { place = f.place; cause = c } in found) (cause_again f.cause h.cause)
 
 -- so the object tells the finding
 pub object_tells : (f g : Finding) → HasTexts f → HasTexts g → finding_data f ≡ finding_data g → f ≡ g

@@ -12,13 +12,14 @@ use Rattle.message_report.specs.declared.severity.Severity.{Severity}
 use Rattle.message_report.specs.declared.severity.Severity.TheVariants.{Error, Note}
 use Rattle.finding_formats.specs.declared.code.Code.{Code}
 use Rattle.finding_formats.specs.declared.code.Code.TheVariants.{NoObject, NotAPart, NoTextList, NoRules, Missing, Unused, NoNumber}
-use Rattle.finding_formats.specs.declared.code.Code.TheVariants.{NoText, NotAForm, NoPattern, NotACategory, StandsTwice, More}
+use Rattle.finding_formats.specs.declared.code.Code.TheVariants.{NoText, NotAForm, NoPattern, NotACategory, StandsTwice, More, MissingRare}
 
 abbrev pub code_of_form : FormFault → Code
 code_of_form form.NoText = NoText
 code_of_form (form.Unused category) = Unused
 code_of_form (form.NoNumber category first second) = NoNumber
 code_of_form (form.Missing category first second) = Missing
+code_of_form (form.MissingRare category first second) = MissingRare
 
 abbrev pub code_of_branch : BranchFault → Code
 code_of_branch branch.NoCategory = NotACategory
@@ -26,6 +27,7 @@ code_of_branch branch.Twice = StandsTwice
 code_of_branch (branch.Unused category) = Unused
 code_of_branch (branch.NoHash category first second) = NoNumber
 code_of_branch (branch.Missing category first second) = Missing
+code_of_branch (branch.MissingRare category first second) = MissingRare
 
 -- a form and a branch share those of the same fault
 abbrev pub code_of : Cause → Code
@@ -54,6 +56,7 @@ code_name NoPattern = codes "no-pattern"
 code_name NotACategory = codes "not-a-category"
 code_name StandsTwice = codes "stands-twice"
 code_name More = codes "more"
+code_name MissingRare = codes "missing-rare"
 
 -- what a code means, in a sentence
 abbrev pub code_meaning : Code → List ℕ
@@ -70,12 +73,13 @@ code_meaning NoPattern = codes "A text isn't a pattern."
 code_meaning NotACategory = codes "The keyword of a branch names no plural category."
 code_meaning StandsTwice = codes "The selector of a branch stands before it."
 code_meaning More = codes "Further faults of a message or a pattern are only counted."
+code_meaning MissingRare = codes "The language has a category without a form or a branch, but no whole number below 10000 would choose it."
 
 -- all codes, in the order of the list of rules
 abbrev pub all_codes : List Code
 all_codes =
     NoObject ∷ NotAPart ∷ NoTextList ∷ NoRules ∷ Missing ∷ Unused ∷ NoNumber ∷ NoText ∷ NotAForm ∷ NoPattern ∷ NotACategory
-    ∷ StandsTwice ∷ More ∷ []
+    ∷ StandsTwice ∷ More ∷ MissingRare ∷ []
 
 -- how many names stand before one
 abbrev pub place_among : List ℕ → List (List ℕ) → ℕ

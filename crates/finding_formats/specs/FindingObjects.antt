@@ -16,6 +16,8 @@ use Rattle.message_report.specs.MessageForms.{form_name}
 use Rattle.message_report.specs.MessagePlaces.{ArgumentPlace, LocalePlace, MessagePlace, PatternPlace, Place, file_of, place_text, type_name}
 use Rattle.message_report.specs.MessagePlaces.{at_document, at_locale, at_key, at_sources, at_source, at_messages, at_message, at_form}
 use Rattle.message_report.specs.MessagePlaces.{at_other_key, at_patterns, at_pattern, at_argument, at_branch}
+use Rattle.plural_checker.specs.FirstSamples.{sample_text}
+use Rattle.plural_checker.specs.declared.Sample.{Sample}
 use Rattle.message_report.specs.declared.branch_fault.BranchFault.{BranchFault}
 use Rattle.message_report.specs.declared.branch_fault.BranchFault.TheVariants as branch
 use Rattle.message_report.specs.declared.cause.Cause.{Cause}
@@ -118,16 +120,32 @@ known_numbers None (Some second) = item null (items_with second no_items)
 known_numbers (Some first) None = items_with first no_items
 known_numbers (Some first) (Some second) = items_with first (items_with second no_items)
 
+abbrev pub samples_with : Sample → Items → Items
+samples_with sample items = item (string (sample_text sample)) items
+
+-- the samples that are known, in order
+abbrev pub known_samples : Option Sample → Option Sample → Items
+known_samples None None = no_items
+known_samples None (Some second) = item null (samples_with second no_items)
+known_samples (Some first) None = samples_with first no_items
+known_samples (Some first) (Some second) = samples_with first (samples_with second no_items)
+
 -- a category, and numbers of it
 abbrev pub with_numbers : PluralCategory → Option ℕ → Option ℕ → Members → Members
 with_numbers category first second members =
     put (codes "numbers") (array (known_numbers first second)) (with_text (codes "category") (name_of category) members)
 
+-- a category, and samples of it
+abbrev pub with_samples : PluralCategory → Option Sample → Option Sample → Members → Members
+with_samples category first second members =
+    put (codes "samples") (array (known_samples first second)) (with_text (codes "category") (name_of category) members)
+
 abbrev pub with_form_fault : FormFault → Members → Members
 with_form_fault form.NoText members = members
 with_form_fault (form.Unused category) members = with_text (codes "category") (name_of category) members
 with_form_fault (form.NoNumber category first second) members = with_numbers category (Some first) (Some second) members
-with_form_fault (form.Missing category first second) members = with_numbers category first second members
+with_form_fault (form.Missing category first second) members = with_numbers category (Some first) second members
+with_form_fault (form.MissingRare category first second) members = with_samples category first second members
 
 abbrev pub with_branch_fault : BranchFault → Members → Members
 with_branch_fault branch.NoCategory members = members
@@ -135,6 +153,7 @@ with_branch_fault branch.Twice members = members
 with_branch_fault (branch.Unused category) members = with_text (codes "category") (name_of category) members
 with_branch_fault (branch.NoHash category first second) members = with_numbers category (Some first) (Some second) members
 with_branch_fault (branch.Missing category first second) members = with_numbers category (Some first) second members
+with_branch_fault (branch.MissingRare category first second) members = with_samples category first second members
 
 -- what a cause has: of what it is, where others have the same code, and its values
 abbrev pub with_cause : Cause → Members → Members
@@ -171,9 +190,10 @@ finding_members f text =
 abbrev pub finding_data : Finding → Data
 finding_data f = object (finding_members f (finding_text f))
 
--- `{"counts":{"faults":3,"forms":40,"messages":12}}`
+-- `{"counts":{"faults":3,"forms":40,"messages":12,"notes":1}}`
 abbrev pub counts_data : Counts → Data
 counts_data counts =
     object (member (codes "counts") (object (member (codes "faults") (number (unsigned counts.faults))
-    (member (codes "forms") (number (unsigned counts.forms)) (member (codes "messages") (number (unsigned counts.messages)) no_members))))
+    (member (codes "forms") (number (unsigned counts.forms)) (member (codes "messages") (number (unsigned counts.messages))
+    (member (codes "notes") (number (unsigned counts.notes)) no_members)))))
     no_members)

@@ -1,9 +1,12 @@
 -- What lines of JSON tell of what is found.
---     HasTexts finding      the bytes of patterns in its place are texts, and its numbers fit 64 bits
+--     HasTexts finding      the bytes of patterns in its place are texts, its numbers fit 64 bits, and
+--         its samples are kept as `first_samples` keeps them
 --     LinesTellFindings      the lines of what is found tell the findings and the counts
 use Rattle.std.specs.Prelude.{◌≡◌, ℕ, ◌<◌, ◌^◌, All, Option, Some, None}
 use Rattle.std.specs.Str.{IsUtf8}
 use Rattle.message_pattern.specs.PatternParts.{Selector, Exactly, Keyword}
+use Rattle.plural_checker.specs.FirstSamples.{kept_sample, sample_text}
+use Rattle.plural_checker.specs.declared.Sample.{Sample}
 use Rattle.message_report.specs.FoundInMessages.{Found}
 use Rattle.message_report.specs.MessageFindings.{Finding}
 use Rattle.message_report.specs.MessagePlaces.{Place}
@@ -44,11 +47,17 @@ PlaceHasTexts (at_pattern p) = Unit {0}
 PlaceHasTexts (at_argument a) = IsUtf8 a.name
 PlaceHasTexts (at_branch a selector) = IsUtf8 a.name × SelectorIsText selector
 
+-- a sample as it is kept of its text: the bytes behind that are zeros
+abbrev pub IsKeptIf : Option Sample → Type 0
+IsKeptIf None = Unit {0}
+IsKeptIf (Some sample) = kept_sample (sample_text sample) ≡ sample
+
 abbrev pub FormFits : FormFault → Type 0
 FormFits form.NoText = Unit {0}
 FormFits (form.Unused category) = Unit {0}
 FormFits (form.NoNumber category first second) = Fits64 first × Fits64 second
-FormFits (form.Missing category first second) = Fits64If first × Fits64If second
+FormFits (form.Missing category first second) = Fits64 first × Fits64If second
+FormFits (form.MissingRare category first second) = IsKeptIf first × IsKeptIf second
 
 abbrev pub BranchFits : BranchFault → Type 0
 BranchFits branch.NoCategory = Unit {0}
@@ -56,8 +65,9 @@ BranchFits branch.Twice = Unit {0}
 BranchFits (branch.Unused category) = Unit {0}
 BranchFits (branch.NoHash category first second) = Fits64 first × Fits64 second
 BranchFits (branch.Missing category first second) = Fits64 first × Fits64If second
+BranchFits (branch.MissingRare category first second) = IsKeptIf first × IsKeptIf second
 
--- its numbers, as the code's types hold them
+-- its numbers and samples, as the code's types hold them
 abbrev pub CauseFits : Cause → Type 0
 CauseFits cause.NoObject = Unit {0}
 CauseFits cause.NotAPart = Unit {0}
@@ -77,6 +87,7 @@ pub record HasTexts (f : Finding) : Type 0 where
 pub record AllHaveTexts (found : Found) : Type 0 where
   pub findings : All HasTexts found.findings
   pub faults : Fits64 found.faults
+  pub notes : Fits64 found.notes
   pub messages : Fits64 found.messages
   pub forms : Fits64 found.forms
 

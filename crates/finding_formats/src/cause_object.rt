@@ -1,8 +1,8 @@
 //! Causes as JSON objects.
 
 ghost use Rattle.std.specs.Prelude.{◌≡◌, codes, IfOk, OnOk};
-ghost use Rattle.finding_formats.specs.FindingObjects.{cause_data, fault_kind_name, known_numbers, with_branch_fault, with_cause};
-ghost use Rattle.finding_formats.specs.FindingObjects.{with_form_fault, with_number, with_numbers, with_text};
+ghost use Rattle.finding_formats.specs.FindingObjects.{cause_data, fault_kind_name, known_numbers, known_samples, with_branch_fault, with_cause};
+ghost use Rattle.finding_formats.specs.FindingObjects.{with_form_fault, with_number, with_numbers, with_samples, with_text};
 ghost use Rattle.icu_plurals.specs.Categories.{name_of};
 ghost use Rattle.serde_json.specs.Data.{array};
 ghost use Rattle.serde_json.specs.View.{members_view, view};
@@ -13,6 +13,7 @@ use crate::place_object::type_name;
 use icu_plurals::PluralCategory;
 use message_pattern::FaultKind;
 use message_report::{BranchFault, Cause, Form, FormFault};
+use plural_checker::Sample;
 use serde_json::{Map, Value, json, put};
 use std::alloc::{AllocError, Global};
 
@@ -100,7 +101,10 @@ fn put_form_fault(
             put_numbers(alloc, members, category, Some(first), Some(second))
         }
         FormFault::Missing(category, first, second) => {
-            put_numbers(alloc, members, category, first, second)
+            put_numbers(alloc, members, category, Some(first), second)
+        }
+        FormFault::MissingRare(category, first, second) => {
+            put_samples(alloc, members, category, first, second)
         }
     }
 }
@@ -124,6 +128,9 @@ fn put_branch_fault(
         }
         BranchFault::Missing(category, first, second) => {
             put_numbers(alloc, members, category, Some(first), second)
+        }
+        BranchFault::MissingRare(category, first, second) => {
+            put_samples(alloc, members, category, first, second)
         }
     }
 }
@@ -157,6 +164,41 @@ fn put_numbers(
     put_category(alloc, members, category)?;
     let numbers = numbers_value(alloc, first, second)?;
     put(members, alloc, "numbers", numbers)
+}
+
+// Puts a category, and samples of it.
+fn put_samples(
+    alloc: Global,
+    members: &mut Map<String, Value>,
+    category: PluralCategory,
+    first: Option<Sample>,
+    second: Option<Sample>,
+) -> Result<(), AllocError>
+    ensures { OnOk result (members_view members.new.entries ≡ with_samples category first second (members_view members.old.entries)) }
+{
+    put_category(alloc, members, category)?;
+    let samples = samples_value(alloc, first, second)?;
+    put(members, alloc, "samples", samples)
+}
+
+// Returns the list of the samples that are known.
+fn samples_value(
+    alloc: Global,
+    first: Option<Sample>,
+    second: Option<Sample>,
+) -> Result<Value, AllocError>
+    ensures { IfOk result (λ value. view value ≡ array (known_samples first second)) }
+{
+    match first {
+        Some(first) => match second {
+            Some(second) => json!(in alloc; [first.as_str(), second.as_str()]),
+            None => json!(in alloc; [first.as_str()]),
+        },
+        None => match second {
+            Some(second) => json!(in alloc; [null, second.as_str()]),
+            None => json!(in alloc; []),
+        },
+    }
 }
 
 // Returns the list of the numbers that are known.

@@ -34,6 +34,9 @@ pub enum Code {
     StandsTwice,
     /// `more`: further faults are only counted.
     More,
+    /// `missing-rare`: the same as `missing`, but no whole number below 10000 would choose the form or
+    /// the branch.
+    MissingRare,
 }
 
 // All codes, in the order of the list of rules.
@@ -51,6 +54,7 @@ pub(crate) const ALL_CODES: &[Code] = &[
     Code::NotACategory,
     Code::StandsTwice,
     Code::More,
+    Code::MissingRare,
 ];
 
 impl Code {
@@ -90,6 +94,7 @@ impl Code {
             Code::NotACategory => "not-a-category",
             Code::StandsTwice => "stands-twice",
             Code::More => "more",
+            Code::MissingRare => "missing-rare",
         }
     }
 
@@ -111,6 +116,8 @@ impl Code {
             Code::NotACategory => "The keyword of a branch names no plural category.",
             Code::StandsTwice => "The selector of a branch stands before it.",
             Code::More => "Further faults of a message or a pattern are only counted.",
+            Code::MissingRare =>
+                "The language has a category without a form or a branch, but no whole number below 10000 would choose it.",
         }
     }
 
@@ -132,6 +139,7 @@ impl Code {
             Code::NotACategory => 10,
             Code::StandsTwice => 11,
             Code::More => 12,
+            Code::MissingRare => 13,
         }
     }
 }
@@ -145,6 +153,7 @@ fn of_form(fault: FormFault) -> Code
         FormFault::Unused(_) => Code::Unused,
         FormFault::NoNumber(..) => Code::NoNumber,
         FormFault::Missing(..) => Code::Missing,
+        FormFault::MissingRare(..) => Code::MissingRare,
     }
 }
 
@@ -158,5 +167,6 @@ fn of_branch(fault: BranchFault) -> Code
         BranchFault::Unused(_) => Code::Unused,
         BranchFault::NoHash(..) => Code::NoNumber,
         BranchFault::Missing(..) => Code::Missing,
+        BranchFault::MissingRare(..) => Code::MissingRare,
     }
 }

@@ -62,5 +62,10 @@ pub(crate) fn text_of(alloc: Global, place: &str, cause: Cause) -> Result<String
 pub(crate) fn counts_value(alloc: Global, counts: Counts) -> Result<Value, AllocError>
     ensures { IfOk result (λ value. view value ≡ counts_data counts) }
 {
-    json!(in alloc; {"counts": {"faults": counts.faults, "forms": counts.forms, "messages": counts.messages}})
+    json!(in alloc; {"counts": {
+        "faults": counts.faults,
+        "forms": counts.forms,
+        "messages": counts.messages,
+        "notes": counts.notes
+    }})
 }

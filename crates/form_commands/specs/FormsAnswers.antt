@@ -15,7 +15,7 @@ use Rattle.icu_plurals.specs.FiveRules.{FiveRules}
 use Rattle.message_report.specs.FoundInMessages.{Found}
 use Rattle.message_report.specs.MessagesReportText.{messages_report_text}
 use Rattle.message_report.specs.MessagesRun.{IsReportedAs}
-use Rattle.message_report.specs.RulesSource.{RulesSource, source_of}
+use Rattle.message_report.specs.RulesSource.{RulesSource, source_of, text_in}
 use Rattle.message_report.specs.declared.counts.Counts.{Counts}
 use Rattle.message_report.specs.declared.error.ReportError.{ReportError}
 use Rattle.message_report.specs.declared.error.ReportError.TheVariants as report
@@ -35,7 +35,7 @@ use Rattle.form_commands.specs.declared.error.FormsError.{FormsError}
 use Rattle.form_commands.specs.declared.error.FormsError.TheVariants.{Rules, TooLong, Json, Refused, Language, Numbers, Write, Memory}
 use Rattle.form_commands.specs.declared.error.LanguageError.{LanguageError}
 use Rattle.form_commands.specs.declared.error.Verdict.{Verdict}
-use Rattle.form_commands.specs.declared.error.Verdict.TheVariants.{Complete, Faults}
+use Rattle.form_commands.specs.declared.error.Verdict.TheVariants.{Complete, Noted, Faults}
 use Rattle.form_commands.specs.declared.language.Language as code
 
 -- ---- Answers
@@ -142,11 +142,11 @@ IsAnsweredLines part locale input before left old new (Err Memory) =
 
 -- ---- Files of messages
 
--- the rules of a document, by its keys and parents
+-- the rules of a document, by its keys, texts and parents
 abbrev pub rules_source : Data → Document → RulesSource
 rules_source value document =
-    source_of (λ locale. found locale document.cardinal) (λ locale. found locale document.ordinal) (λ part. keys_under (part_name part) value)
-    (parent_in value)
+    source_of (λ locale. found locale document.cardinal) (λ locale. found locale document.ordinal) (text_in value)
+    (λ part. keys_under (part_name part) value) (parent_in value)
 
 -- the report under the rules that an input writes
 abbrev pub IsReportedBy : (Found → List ℕ) → List MessageFile → List ℕ → Option (List ℕ) → Option (List ℕ) → Result Counts ReportError → Type 0
@@ -155,7 +155,7 @@ IsReportedBy text_of files input old new result =
     × IsReportedAs text_of (rules_source value document) files old new result
 
 abbrev pub verdict_of_counts : Counts → Verdict
-verdict_of_counts counts = if counts.faults == 0 then Complete else Faults
+verdict_of_counts counts = if counts.faults == 0 then (if counts.notes == 0 then Complete else Noted) else Faults
 
 -- the report, or a beginning of it; or a fault, and nothing at all
 unfoldable pub IsCheckedAs : (Found → List ℕ) → List MessageFile → List ℕ → Option (List ℕ) → Option (List ℕ)

@@ -10,7 +10,7 @@ use Rattle.form_commands.specs.declared.error.LanguageError.{LanguageError}
 use Rattle.form_commands.specs.SimilarKeys.{similar_text}
 use Rattle.form_commands.specs.declared.error.LanguageError.TheVariants.{NotFound, Refused, Unknown}
 use Rattle.form_commands.specs.declared.error.Verdict.{Verdict}
-use Rattle.form_commands.specs.declared.error.Verdict.TheVariants.{Complete, Faults}
+use Rattle.form_commands.specs.declared.error.Verdict.TheVariants.{Complete, Noted, Faults}
 
 -- the part, the locale or the key, and the reason: `cardinal russian: no rules but those of root;
 -- similar: ru`
@@ -43,4 +43,11 @@ is_of_rules forms.Memory = false
 
 abbrev pub verdict_status : Verdict → ℕ
 verdict_status Complete = 0
+verdict_status Noted = 0
 verdict_status Faults = 1
+
+-- where notes count as faults
+abbrev pub strict_verdict : Verdict → Verdict
+strict_verdict Complete = Complete
+strict_verdict Noted = Faults
+strict_verdict Faults = Faults

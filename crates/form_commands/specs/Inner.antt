@@ -10,3 +10,4 @@ pub mod StreamSteps
 pub mod NoteSteps
 pub mod ConditionSteps
 pub mod ChooserRules
+pub mod TranslationSteps

@@ -16,5 +16,7 @@ pub mod FormsErrors
 -- answers, and what is read and written
 pub mod FormsAnswers
 pub mod KeyNotes
+-- the report of translators' files
+pub mod TranslationReports
 -- not definitions of the subject
 pub mod Inner

@@ -1,7 +1,7 @@
 //! Why a question has no answer, and the exit status of the program.
 
 ghost use Rattle.std.specs.Prelude.{◌≡◌, Some};
-ghost use Rattle.form_commands.specs.FormsErrors.{forms_status, is_of_rules, language_error_text, language_status, verdict_status};
+ghost use Rattle.form_commands.specs.FormsErrors.{forms_status, is_of_rules, language_error_text, language_status, strict_verdict, verdict_status};
 
 use crate::name::Name;
 use crate::similar_keys::SimilarKeys;
@@ -15,20 +15,34 @@ use thiserror::Error;
 /// Whether nothing is missing.
 #[derive(Clone, Copy, Debug, PartialEq, Eq)]
 pub enum Verdict {
-    /// Each number has a category, and no message has a fault.
+    /// Each number has a category, and no message has a fault or a note.
     Complete,
+    /// No message has a fault, but there are notes.
+    Noted,
     /// A number has none: its text is out of form, or over a limit; or a message has a fault.
     Faults,
 }
 
 impl Verdict {
-    /// Returns the exit status of the program: 0 if nothing is missing, otherwise 1.
+    /// Returns the exit status of the program: 1 if there are faults, otherwise 0.
     pub fn status(self) -> u8
         ensures { result ≡ verdict_status self }
     {
         match self {
             Verdict::Complete => 0,
+            Verdict::Noted => 0,
             Verdict::Faults => 1,
+        }
+    }
+
+    /// Returns the verdict where notes count as faults.
+    pub fn strict(self) -> Verdict
+        ensures { result ≡ strict_verdict self }
+    {
+        match self {
+            Verdict::Complete => Verdict::Complete,
+            Verdict::Noted => Verdict::Faults,
+            Verdict::Faults => Verdict::Faults,
         }
     }
 }

@@ -9,6 +9,7 @@ mod joined;
 mod language;
 pub mod laws;
 mod list;
+mod misspelt;
 mod name;
 mod note;
 mod number;

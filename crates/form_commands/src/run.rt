@@ -337,10 +337,12 @@ fn report_by<P: ReportPrinter, W: Write>(
 fn verdict_of(counts: Counts) -> Verdict
     ensures { result ≡ verdict_of_counts counts }
 {
-    if counts.faults == 0 {
-        Verdict::Complete
-    } else {
+    if counts.faults > 0 {
         Verdict::Faults
+    } else if counts.notes > 0 {
+        Verdict::Noted
+    } else {
+        Verdict::Complete
     }
 }
 

@@ -161,7 +161,7 @@ fn first_two(name: &[u8]) -> &[u8]
 
 // Returns whether one edit makes two names the same. Past their common front it is a byte less here,
 // one less there, or another one.
-fn is_one_edit(one: &[u8], other: &[u8]) -> bool
+pub(crate) fn is_one_edit(one: &[u8], other: &[u8]) -> bool
     ensures { result ≡ is_one_edit one.now other.now }
 {
     let mut ones = one;

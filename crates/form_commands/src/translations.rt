@@ -1,6 +1,12 @@
 //! The check of translators' files.
 
+ghost use Rattle.std.specs.Prelude.{◌≡◌, ◌≢◌, IfErr, IfOk, string_bytes};
+ghost use Rattle.std.specs.Io.KnownBytes.{Appends};
+ghost use Rattle.form_commands.specs.TranslationReports.{IsToldReport, told_verdict, verdict_told};
+ghost use Rattle.form_commands.specs.Inner.TranslationSteps.{IsReport};
+
 use crate::error::{FormsError, Verdict};
+use crate::misspelt::is_misspelt;
 use crate::note::{notes_of, write_notes};
 use crate::run::{document_of, refused};
 use finding_formats::{Format, Located, Notice, Told, Totals, print_located};
@@ -85,12 +91,15 @@ fn write_report<W: Write, E: Write>(
     report: &Report,
     writer: &mut W,
     notes: &mut E,
-) -> Result<Verdict, FormsError> {
-    let answer = match write_output(writer, report.text.as_str().as_bytes()) {
-        Ok(()) => Ok(report.verdict),
+) -> Result<Verdict, FormsError>
+    ensures ok { IfOk result (λ verdict. (verdict ≡ report.now.verdict)
+        × Appends (W.contents writer.old) (W.contents writer.new) (string_bytes report.now.text)) }
+    ensures err { IfErr result (λ e. e ≡ FormsError.Write) }
+{
+    match write_output(writer, report.text.as_str().as_bytes()) {
+        Ok(()) => write_notes(Ok(report.verdict), report.notes.as_str(), notes),
         Err(_) => Err(FormsError::Write),
-    };
-    write_notes(answer, report.notes.as_str(), notes)
+    }
 }
 
 // What is found in files.
@@ -100,7 +109,9 @@ fn report_of<S: RulesOfLocales>(
     source: &S,
     files: &[TranslationFile<'_>],
     checking: Checking<'_>,
-) -> Result<Report, AllocError> {
+) -> Result<Report, AllocError>
+    ensures { IfOk result (IsReport checking.entry.format checking.entry.is_strict) }
+{
     let read = read_all(alloc, source, files, checking.locale)?;
     let messages = messages_of(alloc, files, read.as_slice())?;
     let mut found = Vec::new(alloc);
@@ -122,12 +133,24 @@ fn report_of<S: RulesOfLocales>(
     })
 }
 
-// Whether there is a fault; a note is one, if that is asked for.
-fn verdict_of(totals: Totals, is_strict: bool) -> Verdict {
-    if totals.faults == 0 && !(is_strict && totals.notes > 0) {
-        Verdict::Complete
-    } else {
+// The verdict of totals; a note is a fault, if that is asked for.
+fn verdict_of(totals: Totals, is_strict: bool) -> Verdict
+    ensures { result ≡ told_verdict is_strict totals }
+{
+    let verdict = verdict_told(totals);
+    if is_strict { verdict.strict() } else { verdict }
+}
+
+// The verdict of totals, whatever is asked for.
+fn verdict_told(totals: Totals) -> Verdict
+    ensures { result ≡ verdict_told totals }
+{
+    if totals.faults > 0 {
         Verdict::Faults
+    } else if totals.notes > 0 {
+        Verdict::Noted
+    } else {
+        Verdict::Complete
     }
 }
 
@@ -178,7 +201,7 @@ fn locate_all<'a>(
     for ((file, it), found) in messages.iter().zip(read.iter()).zip(found.iter()) {
         let mut located = Vec::new(alloc);
         push_notices(&mut located, file.name, it, ignored)?;
-        push_findings(&mut located, it, found, ignored)?;
+        push_findings(alloc, &mut located, it, found, ignored)?;
         located.sort_by_key(|it| it.line)?;
         all.extend_from_slice(located.as_slice())?;
     }
@@ -204,14 +227,21 @@ fn push_notices<'a>(
     Ok(())
 }
 
-// Appends what is found in the messages of a file.
+// Appends what is found in the messages of a file. Of a misspelt keyword it is told that it is no
+// category, and not that the category is missing.
 fn push_findings<'a>(
+    alloc: Global,
     located: &mut Vec<Located<'a>>,
     read: &'a FileMessages,
     found: &Found<'a>,
     ignored: &[&str],
 ) -> Result<(), AllocError> {
-    for it in found.findings() {
+    let all = found.findings();
+    for (index, it) in all.iter().enumerate() {
+        let behind = all.get(index.saturating_add(1)..).unwrap_or(&[]);
+        if is_misspelt(alloc, it, behind)? {
+            continue;
+        }
         let line = read.line_at(&it.place);
         let placeholder = read.placeholder_at(&it.place);
         push_told(located, line, placeholder, Told::Finding(*it), ignored)?;

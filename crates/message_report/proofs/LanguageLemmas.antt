@@ -1,5 +1,5 @@
 -- A language of the code is that of its rules.
-use Rattle.std.proofs.Common.{◌≡◌, ◌↔◌, Bool, true, refl, sym, ap, subst, ◌∙◌}
+use Rattle.std.proofs.Common.{◌≡◌, ◌↔◌, ℕ, Bool, true, false, List, Option, refl, sym, ap, subst, ◌∙◌}
 use Rattle.std.specs.Prelude.{IsTrue}
 use Rattle.icu_plurals.specs.declared.PluralCategory.{PluralCategory}
 use Rattle.icu_plurals.specs.declared.PluralCategory.TheVariants.{Zero, One, Two, Few, Many, Other}
@@ -10,13 +10,15 @@ use Rattle.plural_checker.specs.LanguageTexts.{categories_with_rule}
 use Rattle.plural_checker.specs.declared.coverage.CategorySet.{CategorySet}
 use Rattle.plural_checker.specs.WholeNumbers.{AreTwoLeastOf}
 use Rattle.message_report.specs.MessageForms.{Chooses}
-use Rattle.message_report.specs.FormFaults.{has_category_rule, IsLanguageOf}
+use Rattle.message_report.specs.FormFaults.{has_category_rule, AreRareSamples, HasNumbersOf, IsLanguageOf}
 use Rattle.message_report.specs.Inner.KnownNumbers.{AreNumbersOf, AreTwoFrom, chosen_of}
-use Rattle.message_report.specs.Inner.LanguageViews.{is_in_set, language_view, numbers_at}
+use Rattle.message_report.specs.Inner.LanguageViews.{is_in_set, language_view, numbers_at, numbers_view, samples_at}
 use Rattle.message_report.specs.Inner.SeenNumbers.{AreFound, seen_at}
 use Rattle.message_report.specs.declared.category_numbers.CategoryNumbers.{CategoryNumbers}
 use Rattle.message_report.specs.declared.category_numbers.TwoNumbers.{TwoNumbers}
 use Rattle.message_report.specs.declared.language.Language.{Language}
+use Rattle.message_report.specs.declared.language_numbers.LanguageNumbers.{LanguageNumbers}
+use Rattle.message_report.specs.declared.rare_samples.TwoSamples.{TwoSamples}
 use Rattle.message_report.specs.declared.seen_numbers.SeenNumbers.{SeenNumbers}
 use Rattle.message_report.proofs.ChosenLemmas.{are_two_least}
 
@@ -34,15 +36,15 @@ numbers_are rules category first next set seen numbers zero one found is_zero is
 }
 
 -- its categories are those of the rules, and its numbers are known by the rules
-pub language_is : (rules : FiveRules) (language : Language) → language.categories ≡ categories_with_rule rules
+pub numbers_known : (rules : FiveRules) (language : LanguageNumbers) → language.categories ≡ categories_with_rule rules
     → (IsTrue language.categories.zero → AreNumbersOf rules Zero language.numbers.zero)
     → (IsTrue language.categories.one → AreNumbersOf rules One language.numbers.one)
     → (IsTrue language.categories.two → AreNumbersOf rules Two language.numbers.two)
     → (IsTrue language.categories.few → AreNumbersOf rules Few language.numbers.few)
     → (IsTrue language.categories.many → AreNumbersOf rules Many language.numbers.many)
     → (IsTrue true → AreNumbersOf rules Other language.other)
-    → IsLanguageOf rules (language_view language)
-language_is rules language categories zero one two few many other = record {
+    → HasNumbersOf rules (numbers_view language)
+numbers_known rules language categories zero one two few many other = record {
   has = λ category. ap (λ (set : CategorySet). is_in_set set category) categories ∙ ruled category;
   numbers = at;
 }
@@ -69,3 +71,27 @@ language_is rules language categories zero one two few many other = record {
         (chosen_of (numbers_at language category) own_zero own_one).second
     at category has own_zero own_one =
         are_two_least rules category own_zero own_one (numbers_at language category) (known category has)
+
+-- and its samples are those of the categories that no whole number has
+module _ (rules : FiveRules) (IsText : PluralCategory → Option (List ℕ) → Type 0) (language : Language) where
+  abbrev pub HasSamples : PluralCategory → TwoSamples → Type 0
+  HasSamples category samples =
+      IsTrue ((numbers_view language.numbers).has category)
+      → AreRareSamples rules IsText category ((numbers_view language.numbers).numbers category false false).first samples
+
+  pub language_is : HasNumbersOf rules (numbers_view language.numbers) → HasSamples Zero language.samples.zero
+      → HasSamples One language.samples.one → HasSamples Two language.samples.two → HasSamples Few language.samples.few
+      → HasSamples Many language.samples.many → HasSamples Other language.samples_of_other
+      → IsLanguageOf rules IsText (language_view language)
+  language_is known zero one two few many other = record {
+    numbers = record { has = known.has; numbers = known.numbers };
+    samples = at;
+  }
+    where
+      at : (category : PluralCategory) → HasSamples category (samples_at language category)
+      at Zero = zero
+      at One = one
+      at Two = two
+      at Few = few
+      at Many = many
+      at Other = other

@@ -8,17 +8,18 @@ use Rattle.message_report.specs.FoundInMessages.{Found, HasGrownBy, nothing_foun
 
 -- adding nothing at the end changes nothing
 pub together-nothing : (a : Found) → together a nothing_found ≡ a
-together-nothing a = rw (append-nil a.findings, add-zero a.faults, add-zero a.messages, add-zero a.forms) refl
+together-nothing a = rw (append-nil a.findings, add-zero a.faults, add-zero a.notes, add-zero a.messages, add-zero a.forms) refl
 
 -- adding nothing at the beginning changes nothing
 pub nothing-together : (a : Found) → together nothing_found a ≡ a
-nothing-together a = rw (zero-add a.faults, zero-add a.messages, zero-add a.forms) refl
+nothing-together a = rw (zero-add a.faults, zero-add a.notes, zero-add a.messages, zero-add a.forms) refl
 
 pub together_assoc : (a b c : Found) → together (together a b) c ≡ together a (together b c)
 together_assoc a b c =
     rw (
       append_assoc a.findings b.findings c.findings,
       add_assoc a.faults b.faults c.faults,
+      add_assoc a.notes b.notes c.notes,
       add_assoc a.messages b.messages c.messages,
       add_assoc a.forms b.forms c.forms,
     ) refl

@@ -2,18 +2,20 @@
 use Rattle.std.proofs.Common.{◌≡◌, ℕ, zero, suc, ◌+◌, ◌-◌, ◌<◌, ◌≤◌, Bool, true, false, List, [], ◌∷◌, ◌++◌, length, take, drop, get_or}
 use Rattle.std.proofs.Common.{refl, sym, ap, subst, ◌∙◌, arith, append_assoc}
 use Rattle.std.specs.Prelude.{nat_lt, Result, Ok, Err, IfOk}
-use Rattle.std.proofs.Math.Nat.{add-zero}
+use Rattle.std.proofs.Math.Nat.{add-zero, zero-add}
 use Rattle.std.proofs.Math.Seq.{take-nil}
 use Rattle.std.proofs.lemmas.Bool.{ltb-true, ltb-false}
+use Rattle.std.proofs.lemmas.Bool.Decides.{nat_tests}
 use Rattle.std.proofs.lemmas.List.{append-nil, length-append, length-take-le, take_all, take-append-le}
 use Rattle.message_pattern.specs.PatternParts.{Selector}
-use Rattle.message_report.specs.FoundInMessages.{Found, faults_alone, findings_alone, one_fault, rest_of, together}
-use Rattle.message_report.specs.Inner.ToldFindings.{Tells, remembered, told_findings}
+use Rattle.message_report.specs.FindingCauses.{severity_of}
+use Rattle.message_report.specs.FoundInMessages.{Found, count_faults, count_notes, counted_alone, faults_of, findings_alone, one_finding, rest_of, together}
+use Rattle.message_report.specs.Inner.ToldFindings.{Tells, count_findings, count_next, remembered, told_findings, told_next}
 use Rattle.message_report.specs.MessageFindings.{Finding}
 use Rattle.message_report.specs.MessagePlaces.{PatternPlace, at_pattern}
-use Rattle.message_report.specs.MessagesReport.{found_of_findings, most_compared}
+use Rattle.message_report.specs.MessagesReport.{count_told, found_of_findings, most_compared}
 use Rattle.plural_documents.specs.FirstLines.{most_told}
-use Rattle.message_report.proofs.MessagesFound.{none_added, together_assoc}
+use Rattle.message_report.proofs.MessagesFound.{none_added, nothing-together, together-nothing, together_assoc}
 
 -- the first part and the rest
 pub headed : {A : Type 0} (ps : List A) (d : A) (n : ℕ) → 1 ≤ length ps → n ≡ length ps → ps ≡ get_or ps 0 d ∷ take (n - 1) (drop 1 ps)
@@ -25,27 +27,22 @@ pub none_left : {A : Type 0} (ps : List A) → length ps < 1 → ps ≡ []
 none_left {A} [] h = refl
 none_left {A} (p ∷ ps) h = absurd (omega arith)
 
--- the first n of two lists
-take_both : (n : ℕ) (xs ys : List Finding) → take n (xs ++ ys) ≡ take n xs ++ take (n - length xs) ys
-take_both n [] ys = rw (take-nil {A = Finding} n) (let same : n - 0 ≡ n = omega arith in rw same refl)
-take_both zero (x ∷ xs) ys = let none : 0 - suc (length xs) ≡ 0 = omega arith in rw none refl
-take_both (suc n) (x ∷ xs) ys =
-    let same : suc n - suc (length xs) ≡ n - length xs = omega arith in
-    rw same (ap (λ (l : List Finding). x ∷ l) (take_both n xs ys))
-
 -- nothing is told
 pub tells_none : (before : ℕ) (old : Found) → Tells before old before old []
-tells_none before old = record {
-  found = rw (take-nil {A = Finding} (most_told - before)) (none_added old);
-  counted = sym (add-zero before);
-}
+tells_none before old = record { found = none_added old; counted = refl }
 
 -- what is told first, and what is told then
-told_both : (before middle : ℕ) (xs ys : List Finding) → middle ≡ before + length xs
-    → together (told_findings before xs) (told_findings middle ys) ≡ told_findings before (xs ++ ys)
-told_both before middle xs ys counted =
-    let left : most_told - middle ≡ most_told - before - length xs = omega (arith, counted) in
-    rw (left, take_both (most_told - before) xs ys, length-append xs ys) refl
+told_both : (before : ℕ) (xs ys : List Finding)
+    → together (told_findings before xs) (told_findings (count_findings before xs) ys) ≡ told_findings before (xs ++ ys)
+told_both before [] ys = nothing-together (told_findings before ys)
+told_both before (x ∷ xs) ys =
+    let middle = count_next before x in
+    together_assoc (told_next before x) (told_findings middle xs) (told_findings (count_findings middle xs) ys)
+    ∙ ap (λ (f : Found). together (told_next before x) f) (told_both middle xs ys)
+
+counted_both : (before : ℕ) (xs ys : List Finding) → count_findings (count_findings before xs) ys ≡ count_findings before (xs ++ ys)
+counted_both before [] ys = refl
+counted_both before (x ∷ xs) ys = counted_both (count_next before x) xs ys
 
 pub tells_both : (before : ℕ) (old : Found) (middle : ℕ) (now : Found) (count : ℕ) (new : Found) (xs ys : List Finding)
     → Tells before old middle now xs → Tells middle now count new ys → Tells before old count new (xs ++ ys)
@@ -54,31 +51,92 @@ tells_both before old middle now count new xs ys first then_ = record {
       then_.found
       ∙ ap (λ (f : Found). together f (told_findings middle ys)) first.found
       ∙ together_assoc old (told_findings before xs) (told_findings middle ys)
-      ∙ ap (λ (f : Found). together old f) (told_both before middle xs ys first.counted);
-  counted = omega (arith, first.counted, then_.counted, length-append xs ys);
+      ∙ ap (λ (n : ℕ). together old (together (told_findings before xs) (told_findings n ys))) first.counted
+      ∙ ap (λ (f : Found). together old f) (told_both before xs ys);
+  counted = then_.counted ∙ ap (λ (n : ℕ). count_findings n ys) first.counted ∙ counted_both before xs ys;
 }
 
 -- one is told
 pub tells_finding : (before : ℕ) (old : Found) (count : ℕ) (new : Found) (finding : Finding) → before < most_told
-    → new ≡ together old (one_fault finding) → count ≡ before + 1 → Tells before old count new (finding ∷ [])
+    → new ≡ together old (one_finding finding) → count ≡ before + 1 → Tells before old count new (finding ∷ [])
 tells_finding before old count new finding few told counted = record {
-  found = told ∙ ap (λ (f : Found). together old f) (by (most_told - before) (omega arith));
-  counted = counted;
+  found = told ∙ ap (λ (f : Found). together old f) (rw test (sym (together-nothing (one_finding finding))));
+  counted = counted ∙ rw test refl;
 }
   where
-    by : (n : ℕ) → 0 < n → one_fault finding ≡ record { findings = take n (finding ∷ []); faults = 1; messages = 0; forms = 0 }
-    by zero some = absurd (omega arith)
-    by (suc n) some = rw (take-nil {A = Finding} n) refl
+    test : nat_lt before most_told ≡ true
+    test = grind (arith, nat_tests)
 
 -- or only counted
 pub tells_count : (before : ℕ) (old : Found) (count : ℕ) (new : Found) (finding : Finding) → most_told ≤ before
-    → new ≡ together old (faults_alone 1) → count ≡ before + 1 → Tells before old count new (finding ∷ [])
+    → new ≡ together old (counted_alone (severity_of finding.cause)) → count ≡ before + faults_of (severity_of finding.cause)
+    → Tells before old count new (finding ∷ [])
 tells_count before old count new finding many told counted = record {
-  found =
-      let none : most_told - before ≡ 0 = omega arith in
-      told ∙ ap (λ (f : Found). together old f) (rw none refl);
-  counted = counted;
+  found = told ∙ ap (λ (f : Found). together old f) (rw test (sym (together-nothing (counted_alone (severity_of finding.cause)))));
+  counted = counted ∙ rw test refl;
 }
+  where
+    test : nat_lt before most_told ≡ false
+    test = grind (arith, nat_tests)
+
+-- ---- All at once
+
+drop_nil : (n : ℕ) → drop {A = Finding} n [] ≡ []
+drop_nil zero = refl
+drop_nil (suc n) = refl
+
+-- so many come before these
+abbrev closed : ℕ → List Finding → Found
+closed before findings = record {
+  findings = take (most_told - before) findings;
+  faults = count_faults findings;
+  notes = count_notes findings;
+  messages = 0;
+  forms = 0;
+}
+
+told_is : (before : ℕ) (findings : List Finding) → told_findings before findings ≡ closed before findings
+told_is before [] = rw (take-nil {A = Finding} (most_told - before)) refl
+told_is before (f ∷ fs) = by (nat_lt before most_told) refl (λ (n : ℕ). told_is n fs)
+  where
+    by : (few : Bool) → nat_lt before most_told ≡ few → ((n : ℕ) → told_findings n fs ≡ closed n fs)
+        → told_findings before (f ∷ fs) ≡ closed before (f ∷ fs)
+    by true few rest =
+        let low : before < most_told = ltb-true before most_told few in
+        let left : most_told - before ≡ suc (most_told - (before + 1)) = omega arith in
+        rw few (ap (λ (g : Found). together (one_finding f) g) (rest (before + 1)) ∙ rw left refl)
+    by false many rest =
+        let high : most_told ≤ before = ltb-false before most_told many in
+        let after = before + faults_of (severity_of f.cause) in
+        let none : most_told - before ≡ 0 = omega arith in
+        let none_after : most_told - (before + faults_of (severity_of f.cause)) ≡ 0 = omega arith in
+        rw many
+        (ap (λ (g : Found). together (counted_alone (severity_of f.cause)) g) (rest after) ∙ rw (none, none_after) refl)
+
+counted_is : (before : ℕ) (findings : List Finding)
+    → count_findings before findings
+    ≡ before + (length (take (most_told - before) findings) + count_faults (drop (most_told - before) findings))
+counted_is before [] = rw (take-nil {A = Finding} (most_told - before), drop_nil (most_told - before)) (sym (add-zero before))
+counted_is before (f ∷ fs) = by (nat_lt before most_told) refl (λ (n : ℕ). counted_is n fs)
+  where
+    by : (few : Bool) → nat_lt before most_told ≡ few
+        → ((n : ℕ) → count_findings n fs ≡ n + (length (take (most_told - n) fs) + count_faults (drop (most_told - n) fs)))
+        → count_findings before (f ∷ fs)
+        ≡ before + (length (take (most_told - before) (f ∷ fs)) + count_faults (drop (most_told - before) (f ∷ fs)))
+    by true few rest =
+        let low : before < most_told = ltb-true before most_told few in
+        let m = most_told - (before + 1) in
+        let left : most_told - before ≡ suc (most_told - (before + 1)) = omega arith in
+        let more : before + 1 + (length (take m fs) + count_faults (drop m fs)) ≡ before + (suc (length (take m fs)) + count_faults (drop m fs)) =
+        omega arith in
+        rw few (rest (before + 1) ∙ rw left more)
+    by false many rest =
+        let high : most_told ≤ before = ltb-false before most_told many in
+        let n = faults_of (severity_of f.cause) in
+        let none : most_told - before ≡ 0 = omega arith in
+        let none_after : most_told - (before + faults_of (severity_of f.cause)) ≡ 0 = omega arith in
+        let more : before + n + (0 + count_faults fs) ≡ before + (0 + (n + count_faults fs)) = omega arith in
+        rw many (rest (before + n) ∙ rw (none, none_after) more)
 
 -- at the end the rest is
 pub all_findings : (place : PatternPlace) (findings : List Finding) (count : ℕ) (first now new : Found) → Tells 0 first count now findings
@@ -89,11 +147,11 @@ all_findings place findings count first now new told rest =
     ∙ together_assoc first (told_findings 0 findings) (findings_alone (rest_of (at_pattern place) count))
     ∙ ap (λ (f : Found). together first f) joined
   where
-    same : count ≡ length findings
-    same = omega (arith, told.counted)
+    same : count ≡ count_told findings
+    same = told.counted ∙ counted_is 0 findings ∙ zero-add (count_told findings)
 
     joined : together (told_findings 0 findings) (findings_alone (rest_of (at_pattern place) count)) ≡ found_of_findings place findings
-    joined = rw (same, add-zero (length findings)) refl
+    joined = rw (same, told_is 0 findings, add-zero (count_faults findings), add-zero (count_notes findings)) refl
 
 -- ---- In a loop
 

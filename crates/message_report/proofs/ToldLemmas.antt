@@ -18,6 +18,7 @@ abbrev pub told_from : MessagePlace → ℕ → List (List ℕ) → Found
 told_from place before keys = record {
   findings = map (key_finding place) (take (most_told - before) keys);
   faults = length keys;
+  notes = 0;
   messages = 0;
   forms = 0;
 }

@@ -6,7 +6,7 @@
 --     IsFoundInMessagesDocument source file document found      what is found in a document under
 --         the rules of a source
 --     IsFoundInFiles source files found      what is found in files
-use Rattle.std.specs.Prelude.{◌≡◌, ℕ, ◌||◌, bytes_eq, Bool, List, [], ◌∷◌, ◌++◌, codes, length, map, take}
+use Rattle.std.specs.Prelude.{◌≡◌, ℕ, ◌+◌, ◌||◌, bytes_eq, Bool, List, [], ◌∷◌, ◌++◌, codes, length, map, take, drop}
 use Rattle.std.specs.Prelude.{Option, Some, None, is_some, ◌⊎◌, ◌↔◌, IsFalse, if◌then◌else◌}
 use Rattle.std.specs.Option.{option_and_then}
 use Rattle.serde_json.specs.Data.{Data, Members, no_members, member}
@@ -24,7 +24,7 @@ use Rattle.message_pattern.specs.StyledParts.{unstyled}
 use Rattle.message_pattern.specs.declared.error.FaultKind.{FaultKind}
 use Rattle.message_report.specs.FormFaults.{Language, HasFormFault, IsLanguageOf, told_of}
 use Rattle.message_report.specs.FoundInMessages.{Found, IsFoundInEach, IsFoundInMembers, nothing_found, one_form, one_message, together}
-use Rattle.message_report.specs.FoundInMessages.{fault_at, finding_at, rest_of}
+use Rattle.message_report.specs.FoundInMessages.{count_faults, count_notes, fault_at, finding_at, found_at, rest_of}
 use Rattle.message_report.specs.MessageFindings.{Finding}
 use Rattle.message_report.specs.MessageForms.{form_order, has_form, is_form_name}
 use Rattle.message_report.specs.MessagePlaces.{ArgumentPlace, LocalePlace, MessagePlace, PatternPlace, type_name}
@@ -32,7 +32,7 @@ use Rattle.message_report.specs.MessagePlaces.{at_document, at_locale, at_key, a
 use Rattle.message_report.specs.MessagePlaces.{at_other_key, at_patterns, at_pattern, at_argument, at_branch}
 use Rattle.message_report.specs.PatternFaults.{IsArgumentAt, PluralArgument, TwoLanguages, branch_fault, language_of, missing_fault, type_of_kind}
 use Rattle.plural_documents.specs.FirstLines.{most_told}
-use Rattle.message_report.specs.RulesSource.{RulesSource, HasRules}
+use Rattle.message_report.specs.RulesSource.{RulesSource, HasRules, HasText}
 use Rattle.message_report.specs.SourceArguments.{IsTextList, LacksNumber, source_name}
 use Rattle.message_report.specs.declared.branch_fault.BranchFault.{BranchFault}
 use Rattle.message_report.specs.declared.cause.Cause.TheVariants as cause
@@ -49,7 +49,7 @@ form_count form message = if has_form form message then one_form else nothing_fo
 -- its fault
 abbrev pub found_of_fault : MessagePlace → Form → Option FormFault → Found
 found_of_fault place form None = nothing_found
-found_of_fault place form (Some fault) = fault_at (at_form place form) (cause.Form fault)
+found_of_fault place form (Some fault) = found_at (at_form place form) (cause.Form fault)
 
 -- its fault is told, but for a number that it doesn't need
 abbrev pub IsFoundInForm : Option Language → Bool → MessagePlace → Data → Form → Found → Type 0
@@ -70,6 +70,7 @@ abbrev pub found_of_keys : MessagePlace → List (List ℕ) → Found
 found_of_keys place keys = record {
   findings = map (key_finding place) (take most_told keys) ++ rest_of (at_message place) (length keys);
   faults = length keys;
+  notes = 0;
   messages = 0;
   forms = 0;
 }
@@ -95,16 +96,16 @@ abbrev pub found_of_language : PluralRuleType → LocalePlace → Option Languag
 found_of_language type locale None = fault_at (at_locale locale) (cause.NoRules type)
 found_of_language type locale (Some language) = nothing_found
 
--- the language of the rules, if there are any
-abbrev pub IsLanguageIf : Option FiveRules → Option Language → Type 0
-IsLanguageIf None None = Unit {0}
-IsLanguageIf (Some rules) (Some language) = IsLanguageOf rules language
-IsLanguageIf _ _ = ⊥
+-- the language of the rules with these texts, if there are any
+abbrev pub IsLanguageIf : (PluralCategory → Option (List ℕ) → Type 0) → Option FiveRules → Option Language → Type 0
+IsLanguageIf IsText None None = Unit {0}
+IsLanguageIf IsText (Some rules) (Some language) = IsLanguageOf rules IsText language
+IsLanguageIf IsText _ _ = ⊥
 
 -- that of the locale
 abbrev pub HasLanguage : RulesSource → PluralRuleType → List ℕ → Option Language → Type 0
 HasLanguage source type locale language =
-    (rules : Option FiveRules) × HasRules source type locale rules × IsLanguageIf rules language
+    (rules : Option FiveRules) × HasRules source type locale rules × IsLanguageIf (HasText source type locale) rules language
 
 -- first that there are no rules
 abbrev pub IsFoundUnder : Option Language → Option Data → PluralRuleType → LocalePlace → Members → Found → Type 0
@@ -201,11 +202,16 @@ HasPatternFindings two place (p ∷ ps) findings =
     (first more : List Finding) × HasPieceFindings two place p.depth p.piece ps first
     × HasPatternFindings two place ps more × (findings ≡ first ++ more)
 
--- the first ones are told, and the others are counted in one
+-- the first ones, and further faults
+abbrev pub count_told : List Finding → ℕ
+count_told findings = length (take most_told findings) + count_faults (drop most_told findings)
+
+-- the first ones are told, and of the others the faults are counted in one
 abbrev pub found_of_findings : PatternPlace → List Finding → Found
 found_of_findings place findings = record {
-  findings = take most_told findings ++ rest_of (at_pattern place) (length findings);
-  faults = length findings;
+  findings = take most_told findings ++ rest_of (at_pattern place) (count_told findings);
+  faults = count_faults findings;
+  notes = count_notes findings;
   messages = 0;
   forms = 0;
 }

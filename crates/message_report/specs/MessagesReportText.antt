@@ -1,6 +1,6 @@
 -- The text of a report of messages: a line for each finding, and one with the counts and the numbers
 -- that were tried.
-use Rattle.std.specs.Prelude.{ℕ, List, ◌++◌, codes}
+use Rattle.std.specs.Prelude.{ℕ, ◌==◌, List, [], ◌++◌, codes, if◌then◌else◌}
 use Rattle.std.specs.Fmt.{decimal}
 use Rattle.std.specs.List.{flat_map}
 use Rattle.plural_documents.specs.FirstLines.{ended_line}
@@ -12,14 +12,21 @@ use Rattle.message_report.specs.declared.counts.Counts.{Counts}
 abbrev pub printed_finding : Finding → List ℕ
 printed_finding finding = ended_line (finding_line finding)
 
--- `messages: 12, forms: 40, faults: 3, numbers tried: 0 to 9999`
-abbrev pub message_counts_line : Counts → List ℕ
-message_counts_line counts =
+-- notes are named if there are some
+abbrev pub notes_text : ℕ → List ℕ
+notes_text notes = if notes == 0 then [] else codes ", notes: " ++ decimal notes
+
+-- `messages: 12, forms: 40, faults: 3, notes: 1, numbers tried: 0 to 9999`
+abbrev pub counts_line_with : Counts → List ℕ → List ℕ
+counts_line_with counts notes =
     codes "messages: " ++ (decimal counts.messages ++ (codes ", forms: " ++ (decimal counts.forms ++ (codes ", faults: "
-    ++ (decimal counts.faults ++ codes ", numbers tried: 0 to 9999\n")))))
+    ++ (decimal counts.faults ++ (notes ++ codes ", numbers tried: 0 to 9999\n"))))))
+
+abbrev pub message_counts_line : Counts → List ℕ
+message_counts_line counts = counts_line_with counts (notes_text counts.notes)
 
 abbrev pub counts_found : Found → Counts
-counts_found found = record { messages = found.messages; forms = found.forms; faults = found.faults }
+counts_found found = record { messages = found.messages; forms = found.forms; faults = found.faults; notes = found.notes }
 
 abbrev pub messages_report_text : Found → List ℕ
 messages_report_text found = flat_map printed_finding found.findings ++ message_counts_line (counts_found found)

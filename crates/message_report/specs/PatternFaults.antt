@@ -2,11 +2,10 @@
 -- language.
 --     IsArgumentAt name has_offset depth parts argument      the argument at a depth, of which
 --         these parts follow its beginning
---     missing_fault language argument category      that a category which whole numbers have has no
---         branch
+--     missing_fault language argument category      that a category which numbers choose has no branch
 --     branch_fault language argument before branch      the fault of a branch behind these
 --         selectors, if it has one
-use Rattle.std.specs.Prelude.{◌≡◌, ℕ, Bool, ◌||◌, bytes_eq, List, ◌++◌, codes, Option, Some, None, if◌then◌else◌}
+use Rattle.std.specs.Prelude.{◌≡◌, ℕ, Bool, false, ◌||◌, bytes_eq, List, ◌++◌, codes, Option, Some, None, if◌then◌else◌}
 use Rattle.icu_plurals.specs.declared.PluralCategory.{PluralCategory}
 use Rattle.icu_plurals.specs.declared.PluralCategory.TheVariants.{Zero, One, Two, Few, Many, Other}
 use Rattle.icu_plurals.specs.declared.PluralRuleType.{PluralRuleType}
@@ -15,11 +14,12 @@ use Rattle.icu_plurals.specs.Categories.{name_of}
 use Rattle.message_pattern.specs.PatternParts.{Branching, branches_of, Part, Selector, Exactly, Keyword}
 use Rattle.message_pattern.specs.declared.part.ArgumentKind.{ArgumentKind}
 use Rattle.message_pattern.specs.declared.part.ArgumentKind.TheVariants as kind
-use Rattle.message_report.specs.FormFaults.{Language, are_text, missing_text}
+use Rattle.message_report.specs.FormFaults.{Language, are_text, missing_numbers_text, missing_samples_text}
 use Rattle.message_report.specs.PatternBranches.{IsOwn, has_category_branch, has_number, inside_of, stands_in}
 use Rattle.message_report.specs.declared.branch_fault.BranchFault.{BranchFault}
-use Rattle.message_report.specs.declared.branch_fault.BranchFault.TheVariants.{NoCategory, Twice, Unused, NoHash, Missing}
+use Rattle.message_report.specs.declared.branch_fault.BranchFault.TheVariants.{NoCategory, Twice, Unused, NoHash, Missing, MissingRare}
 use Rattle.message_report.specs.declared.category_numbers.TwoNumbers.{TwoNumbers}
+use Rattle.message_report.specs.declared.rare_samples.TwoSamples.{TwoSamples}
 
 -- ---- An argument
 
@@ -72,15 +72,23 @@ numbers_of language a category = language.numbers category a.own_zero a.own_one
 
 -- ---- Faults
 
-abbrev pub missing_by : PluralCategory → Option ℕ → Option ℕ → Option BranchFault
-missing_by category None second = None
-missing_by category (Some first) second = Some (Missing category first second)
+-- by samples, if there is no whole number of the category; else it has such numbers, and branches of
+-- exactly 0 and 1 are for these
+abbrev pub rare_by : PluralCategory → Option ℕ → TwoSamples → Option BranchFault
+rare_by category None samples = Some (MissingRare category samples.first samples.second)
+rare_by category (Some least) samples = None
+
+-- by the numbers that would choose the branch; without these by the least whole number of the category
+abbrev pub missing_by : PluralCategory → Option ℕ → Option ℕ → Option ℕ → TwoSamples → Option BranchFault
+missing_by category None second least samples = rare_by category least samples
+missing_by category (Some first) second least samples = Some (Missing category first second)
 
 abbrev pub missing_fault : Language → PluralArgument → PluralCategory → Option BranchFault
 missing_fault language a category =
     if has_category_branch category a.branches then None
     else if language.has category
     then missing_by category (numbers_of language a category).first (numbers_of language a category).second
+    (language.numbers category false false).first (language.samples category)
     else None
 
 -- a branch needs the number if two numbers choose it
@@ -131,4 +139,5 @@ branch_fault_text NoCategory = codes "not a category"
 branch_fault_text Twice = codes "stands twice"
 branch_fault_text (Unused category) = codes "no number is " ++ name_of category
 branch_fault_text (NoHash category first second) = codes "no #, but " ++ are_text first second category
-branch_fault_text (Missing category first second) = missing_text category (Some first) second
+branch_fault_text (Missing category first second) = missing_numbers_text category first second
+branch_fault_text (MissingRare category first second) = missing_samples_text category first second

@@ -6,15 +6,18 @@ ghost use Rattle.message_report.specs.Inner.ArgumentViews.{argument_view};
 ghost use Rattle.message_report.specs.Inner.LanguageViews.{language_view};
 ghost use Rattle.message_report.specs.PatternBranches.{inside_of};
 ghost use Rattle.message_report.specs.PatternFaults.{branch_fault, branch_fault_text, category_fault, category_fault_if, category_named};
-ghost use Rattle.message_report.specs.PatternFaults.{missing_by, missing_fault, no_hash, numbers_of, selector_fault};
+ghost use Rattle.message_report.specs.PatternFaults.{missing_by, missing_fault, no_hash, numbers_of, rare_by, selector_fault};
 ghost use Rattle.message_report.specs.Inner.ArgumentViews.{branching};
 
 use crate::argument::{Argument, has_category_branch, has_number, stands_in};
 use crate::category_numbers::TwoNumbers;
+use crate::fault::write_rare;
 use crate::form::name_of;
 use crate::language::Language;
+use crate::rare_samples::TwoSamples;
 use icu_plurals::PluralCategory;
 use message_pattern::{Part, Selector};
+use plural_checker::Sample;
 use std::fmt;
 
 /// What is wrong with a branch of a plural argument.
@@ -30,6 +33,9 @@ pub enum BranchFault {
     NoHash(PluralCategory, u16, u16),
     /// There is none of the category. These are the two least numbers that would choose it, or one.
     Missing(PluralCategory, u16, Option<u16>),
+    /// There is none of the category, which no whole number has. These are the first two samples of
+    /// its rule that have it, as far as there are two.
+    MissingRare(PluralCategory, Option<Sample>, Option<Sample>),
 }
 
 impl fmt::Display for BranchFault {
@@ -61,6 +67,9 @@ impl fmt::Display for BranchFault {
             BranchFault::Missing(category, first, None) => {
                 write!(f, "missing, but {} is {}", first, name_of(category))
             }
+            BranchFault::MissingRare(category, first, second) => {
+                write_rare(f, category, first, second)
+            }
         }
     }
 }
@@ -90,15 +99,38 @@ pub(crate) fn missing_fault(
     if !language.has(category) {
         return None;
     }
-    missing_by(category, numbers_of(language, argument, category))
+    let least = language.numbers(category, false, false).first;
+    missing_by(
+        category,
+        numbers_of(language, argument, category),
+        least,
+        language.samples(category),
+    )
 }
 
-// Returns that a category of these numbers has no branch, if there are any.
-fn missing_by(category: PluralCategory, numbers: TwoNumbers) -> Option<BranchFault>
-    ensures { result ≡ missing_by category numbers.first numbers.second }
+// Returns that a category of these numbers has no branch, if numbers would choose it.
+fn missing_by(
+    category: PluralCategory,
+    numbers: TwoNumbers,
+    least: Option<u16>,
+    samples: TwoSamples,
+) -> Option<BranchFault>
+    ensures { result ≡ missing_by category numbers.first numbers.second least samples }
 {
-    let first = numbers.first?;
-    Some(BranchFault::Missing(category, first, numbers.second))
+    match numbers.first {
+        Some(first) => Some(BranchFault::Missing(category, first, numbers.second)),
+        None => rare_by(category, least, samples),
+    }
+}
+
+// Returns that a category of these samples has no branch, unless a whole number has it.
+fn rare_by(category: PluralCategory, least: Option<u16>, samples: TwoSamples) -> Option<BranchFault>
+    ensures { result ≡ rare_by category least samples }
+{
+    match least {
+        Some(_) => None,
+        None => Some(BranchFault::MissingRare(category, samples.first, samples.second)),
+    }
 }
 
 // Returns that a branch doesn't say the number, if two numbers choose it.

@@ -1,7 +1,7 @@
 //! What is wrong at a place.
 
 ghost use Rattle.std.specs.Prelude.{◌≡◌, Some};
-ghost use Rattle.message_report.specs.FindingCauses.{cause_text, no_rules_text, severity_of};
+ghost use Rattle.message_report.specs.FindingCauses.{branch_severity, cause_text, form_severity, no_rules_text, severity_of};
 
 use crate::branch_fault::BranchFault;
 use crate::fault::FormFault;
@@ -36,11 +36,36 @@ pub enum Cause {
 }
 
 impl Cause {
-    /// Returns how grave it is.
+    /// Returns how grave it is: what only large numbers, compact ones or fractions choose may be
+    /// missing, and all else is a fault.
     pub fn severity(self) -> Severity
         ensures { result ≡ severity_of self }
     {
-        Severity::Error
+        match self {
+            Cause::Form(fault) => form_severity(fault),
+            Cause::Branch(fault) => branch_severity(fault),
+            _ => Severity::Error,
+        }
+    }
+}
+
+// Returns how grave the fault of a form is.
+fn form_severity(fault: FormFault) -> Severity
+    ensures { result ≡ form_severity fault }
+{
+    match fault {
+        FormFault::MissingRare(..) => Severity::Note,
+        _ => Severity::Error,
+    }
+}
+
+// Returns how grave the fault of a branch is.
+fn branch_severity(fault: BranchFault) -> Severity
+    ensures { result ≡ branch_severity fault }
+{
+    match fault {
+        BranchFault::MissingRare(..) => Severity::Note,
+        _ => Severity::Error,
     }
 }
 

@@ -3,7 +3,7 @@
 ghost use Rattle.std.specs.Prelude.{◌≡◌};
 ghost use Rattle.message_report.specs.MessagesRun.{counts_status};
 
-/// How many messages and forms were checked, and how many faults they have.
+/// How many messages and forms were checked, and how many faults and notes they have.
 #[derive(Clone, Copy, Debug, PartialEq, Eq)]
 pub struct Counts {
     /// The messages.
@@ -12,6 +12,8 @@ pub struct Counts {
     pub forms: u64,
     /// Their faults.
     pub faults: u64,
+    /// Their notes, which don't count for the status.
+    pub notes: u64,
 }
 
 impl Counts {

@@ -92,7 +92,7 @@ fn add_all<'a, S: RulesOfLocales>(
 ) -> Result<(), AllocError>
     ensures { OnOk result (HasGrownBy (IsFoundInAll (S.source source.now) (locale_place_view locale.entry) (view value.now)) found.old found.new) }
 {
-    let languages = Languages::needed(source, locale.locale, value);
+    let languages = Languages::needed(alloc, source, locale.locale, value);
     add_parts(alloc, &languages, locale, value, found)?;
     add_patterns(alloc, &languages, locale, value, found)
 }

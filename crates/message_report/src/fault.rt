@@ -1,8 +1,9 @@
 //! What is wrong with a form of a message.
 
 ghost use Rattle.std.specs.Prelude.{◌≡◌, Some, None, option_map};
+ghost use Rattle.std.specs.Fmt.{DisplaysOnOk};
 ghost use Rattle.std.specs.Option.{option_and_then};
-ghost use Rattle.message_report.specs.FormFaults.{form_fault_text, no_number, form_value_fault, told_of};
+ghost use Rattle.message_report.specs.FormFaults.{form_fault_text, form_value_fault, missing_form, missing_samples_text, no_number, told_of};
 ghost use Rattle.message_report.specs.FormFaults.{HasFaultUnder, HasPresentFault, HasTextFault};
 ghost use Rattle.message_report.specs.Inner.FormSteps.{HasFaultOf, language_lent, value_lent};
 ghost use Rattle.message_report.specs.Inner.LanguageViews.{language_view};
@@ -12,7 +13,9 @@ ghost use Rattle.serde_json.specs.View.{view};
 use crate::category_numbers::TwoNumbers;
 use crate::form::{Form, OwnForms, name_of};
 use crate::language::Language;
+use crate::rare_samples::TwoSamples;
 use icu_plurals::PluralCategory;
+use plural_checker::Sample;
 use serde_json::Value;
 use std::fmt;
 
@@ -25,9 +28,12 @@ pub enum FormFault {
     Unused(PluralCategory),
     /// Its text has no `{}`, though these two numbers choose it.
     NoNumber(PluralCategory, u16, u16),
-    /// The message hasn't the form, though the language has its category. These are the two least
-    /// numbers that would choose it, as far as there are two.
-    Missing(PluralCategory, Option<u16>, Option<u16>),
+    /// The message hasn't the form, though these two least whole numbers would choose it, or one.
+    Missing(PluralCategory, u16, Option<u16>),
+    /// The message hasn't the form, though the language has its category, and no whole number would
+    /// choose it. These are the first two samples of its rule that have the category, as far as there
+    /// are two, unless forms of exactly 0 and 1 are for its whole numbers.
+    MissingRare(PluralCategory, Option<Sample>, Option<Sample>),
 }
 
 impl fmt::Display for FormFault {
@@ -46,7 +52,7 @@ impl fmt::Display for FormFault {
                     name_of(category)
                 )
             }
-            FormFault::Missing(category, Some(first), Some(second)) => {
+            FormFault::Missing(category, first, Some(second)) => {
                 write!(
                     f,
                     "missing, but {} and {} are {}",
@@ -55,11 +61,44 @@ impl fmt::Display for FormFault {
                     name_of(category)
                 )
             }
-            FormFault::Missing(category, Some(first), None) => {
+            FormFault::Missing(category, first, None) => {
                 write!(f, "missing, but {} is {}", first, name_of(category))
             }
-            FormFault::Missing(_, None, _) => f.write_str("missing"),
+            FormFault::MissingRare(category, first, second) => {
+                write_rare(f, category, first, second)
+            }
         }
+    }
+}
+
+// Writes that a category is missing, with its samples.
+pub(crate) fn write_rare<W: fmt::Write>(
+    f: &mut fmt::Formatter<W>,
+    category: PluralCategory,
+    first: Option<Sample>,
+    second: Option<Sample>,
+) -> fmt::Result
+    ensures { DisplaysOnOk W.write_str_gives f.old result (Some (missing_samples_text category first second)) f.new }
+{
+    match (first, second) {
+        (Some(first), Some(second)) => {
+            write!(
+                f,
+                "missing, but {} and {} are {}",
+                first.as_str(),
+                second.as_str(),
+                name_of(category)
+            )
+        }
+        (Some(first), None) => {
+            write!(
+                f,
+                "missing, but {} is {}",
+                first.as_str(),
+                name_of(category)
+            )
+        }
+        (None, _) => f.write_str("missing"),
     }
 }
 
@@ -143,9 +182,19 @@ fn fault_of_none(language: &Language, own: OwnForms, category: PluralCategory) -
 {
     if language.has(category) {
         let numbers = language.numbers(category, own.zero, own.one);
-        Some(FormFault::Missing(category, numbers.first, numbers.second))
+        Some(missing_form(category, numbers, language.samples(category)))
     } else {
         None
+    }
+}
+
+// Returns that a form isn't there, by the numbers that would choose it, or else by samples.
+fn missing_form(category: PluralCategory, numbers: TwoNumbers, samples: TwoSamples) -> FormFault
+    ensures { result ≡ missing_form category numbers.first numbers.second samples }
+{
+    match numbers.first {
+        Some(first) => FormFault::Missing(category, first, numbers.second),
+        None => FormFault::MissingRare(category, samples.first, samples.second),
     }
 }
 

@@ -2,7 +2,8 @@
 
 ghost use Rattle.std.specs.Prelude.{◌≡◌, ◌∷◌, [], ℕ, List, OnOk, map};
 ghost use Rattle.message_report.specs.FoundInMessages.{findings_alone, faults_alone, finding_at, nothing_found};
-ghost use Rattle.message_report.specs.FoundInMessages.{fault_at, one_form, one_message, rest_of, together, HasGrownBy, IsFoundInMembers};
+ghost use Rattle.message_report.specs.FoundInMessages.{counted_alone, fault_at, found_at, one_form, one_message, rest_of, together, HasGrownBy, IsFoundInMembers};
+ghost use Rattle.message_report.specs.Inner.ToldFindings.{note_at};
 ghost use Rattle.message_report.specs.FoundInMessages as seen;
 ghost use Rattle.message_report.specs.MessageFindings.{finding_view};
 ghost use Rattle.message_report.specs.MessagePlaces.{place_view};
@@ -14,6 +15,7 @@ use crate::cause::Cause;
 use crate::counts::Counts;
 use crate::finding::Finding;
 use crate::place::Place;
+use crate::severity::Severity;
 use plural_documents::{MOST_TOLD, sum};
 use serde_json::{Map, Value};
 use std::alloc::{AllocError, Global};
@@ -21,12 +23,13 @@ use std::marker::Model;
 
 /// What is found in files of messages: the findings in their order, and counts.
 ///
-/// A fault has a finding, unless ten of its message or pattern come before it; one more finding then
-/// counts the others ([`Cause::More`]).
+/// A fault or a note has a finding, unless ten of its message or pattern come before it; one more
+/// finding then counts further faults ([`Cause::More`]).
 #[derive(Debug, Drop)]
 pub struct Found<'a> {
     findings: Vec<Finding<'a>>,
     faults: u64,
+    notes: u64,
     messages: u64,
     forms: u64,
 }
@@ -41,6 +44,7 @@ impl<'a> Model for Found<'a> {
     ghost view = { λ found. record {
       findings = map finding_view found.findings.items;
       faults = found.faults;
+      notes = found.notes;
       messages = found.messages;
       forms = found.forms;
     } };
@@ -54,6 +58,7 @@ impl<'a> Found<'a> {
         Found {
             findings: Vec::new(alloc),
             faults: 0,
+            notes: 0,
             messages: 0,
             forms: 0,
         }
@@ -74,6 +79,7 @@ impl<'a> Found<'a> {
             messages: self.messages,
             forms: self.forms,
             faults: self.faults,
+            notes: self.notes,
         }
     }
 
@@ -91,6 +97,43 @@ impl<'a> Found<'a> {
     {
         self.faults = sum(self.faults, 1)?;
         self.add_finding(place, cause)
+    }
+
+    // Adds a note and its finding. A count that is too large is reported as out of memory.
+    fn add_note(&mut self, place: Place<'a>, cause: Cause) -> Result<(), AllocError>
+        ensures { OnOk result (self.new ≡ together self.old (note_at (place_view place.entry) cause)) }
+    {
+        self.notes = sum(self.notes, 1)?;
+        self.add_finding(place, cause)
+    }
+
+    // Adds a fault or a note, and its finding. A count that is too large is reported as out of
+    // memory.
+    pub(crate) fn add(&mut self, place: Place<'a>, cause: Cause) -> Result<(), AllocError>
+        ensures { OnOk result (self.new ≡ together self.old (found_at (place_view place.entry) cause)) }
+    {
+        match cause.severity() {
+            Severity::Error => self.add_fault(place, cause),
+            Severity::Note => self.add_note(place, cause),
+        }
+    }
+
+    // Counts a fault or a note. A count that is too large is reported as out of memory.
+    pub(crate) fn count(&mut self, severity: Severity) -> Result<(), AllocError>
+        ensures { OnOk result (self.new ≡ together self.old (counted_alone severity)) }
+    {
+        match severity {
+            Severity::Error => self.count_fault(),
+            Severity::Note => self.count_note(),
+        }
+    }
+
+    // Counts a note. A count that is too large is reported as out of memory.
+    fn count_note(&mut self) -> Result<(), AllocError>
+        ensures { OnOk result (self.new ≡ together self.old (counted_alone Severity.Note)) }
+    {
+        self.notes = sum(self.notes, 1)?;
+        Ok(())
     }
 
     // Counts a fault. A count that is too large is reported as out of memory.

@@ -1,44 +1,57 @@
 //! What is known of a language's rules of one type.
 
-ghost use Rattle.std.specs.Prelude.{◌≡◌, ◌↔◌, IsTrue};
+ghost use Rattle.std.specs.Prelude.{◌≡◌, IsTrue, false};
 ghost use Rattle.icu_plurals.specs.FiveRules.{rules_of};
-ghost use Rattle.message_report.specs.FormFaults.{IsLanguageOf};
-ghost use Rattle.message_report.specs.Inner.LanguageViews.{language_view, numbers_at};
-ghost use Rattle.message_report.specs.Inner.SeenNumbers.{seen_at};
+ghost use Rattle.message_report.specs.FormFaults.{AreRareSamples, IsLanguageOf};
+ghost use Rattle.message_report.specs.Inner.LanguageViews.{language_view, numbers_view};
+ghost use Rattle.message_report.specs.RulesSource.{HasText};
 
-use crate::category_numbers::{CategoryNumbers, TwoNumbers};
-use crate::number_walk::numbers_from_two;
-use crate::seen_numbers::SeenNumbers;
+use crate::category_numbers::TwoNumbers;
+use crate::language_numbers::LanguageNumbers;
+use crate::rare_samples::{TwoSamples, rare_samples};
+use crate::source::RulesOfLocales;
 use icu_plurals::provider::PluralRulesData;
-use icu_plurals::{Five, PluralCategory, PluralOperands, PluralRules};
+use icu_plurals::{Five, PluralCategory, PluralRuleType, PluralRules};
 use plural_base::{at_category, make_five};
-use plural_checker::CategorySet;
+use std::alloc::Global;
 
-// The categories that a language has, and what is known of the numbers of each.
+// The categories that a language has, what is known of the numbers of each, and the samples of those
+// that no whole number has.
 #[derive(Clone, Copy, Debug)]
 pub(crate) struct Language {
-    categories: CategorySet,
-    numbers: Five<CategoryNumbers>,
-    other: CategoryNumbers,
+    numbers: LanguageNumbers,
+    samples: Five<TwoSamples>,
+    samples_of_other: TwoSamples,
 }
 
 impl Language {
-    // Returns what is known of a language.
-    pub(crate) fn of(given: &PluralRulesData<'_>) -> Language
-        ensures { IsLanguageOf (rules_of given.now) (language_view result) }
+    // Returns what is known of the language of a locale's rules.
+    pub(crate) fn of<S: RulesOfLocales>(
+        alloc: Global,
+        source: &S,
+        rule_type: PluralRuleType,
+        locale: &str,
+        given: &PluralRulesData<'_>,
+    ) -> Language
+        ensures { IsLanguageOf (rules_of given.now) (HasText (S.source source.now) rule_type locale.now) (language_view result) }
     {
+        let numbers = LanguageNumbers::of(given);
         let rules = &PluralRules::from_data(given.as_borrowed());
-        let categories = CategorySet::of_rules(given);
-        let of_zero = rules.category_for(PluralOperands::from(0u16));
-        let of_one = rules.category_for(PluralOperands::from(1u16));
-        let seen = numbers_from_two(rules, categories);
         Language {
-            categories,
-            numbers: make_five!(
+            numbers,
+            samples: make_five!(
                 Five,
-                |category| numbers_of(of_zero, of_one, &seen, category)
+                |category| samples_of(alloc, source, rule_type, locale, rules, &numbers, category)
             ),
-            other: numbers_of(of_zero, of_one, &seen, PluralCategory::Other),
+            samples_of_other: samples_of(
+                alloc,
+                source,
+                rule_type,
+                locale,
+                rules,
+                &numbers,
+                PluralCategory::Other,
+            ),
         }
     }
 
@@ -46,7 +59,7 @@ impl Language {
     pub(crate) fn has(&self, category: PluralCategory) -> bool
         ensures { result ≡ (language_view self.now).has category }
     {
-        at_category!(self.categories, category, |is_there| *is_there, true)
+        self.numbers.has(category)
     }
 
     // Returns the two least numbers that choose a category's form.
@@ -58,31 +71,39 @@ impl Language {
     ) -> TwoNumbers
         ensures { result ≡ (language_view self.now).numbers category own_zero own_one }
     {
-        self.numbers_at(category).chosen(own_zero, own_one)
+        self.numbers.numbers(category, own_zero, own_one)
     }
 
-    // Returns what is known of a category's numbers.
-    fn numbers_at(&self, category: PluralCategory) -> CategoryNumbers
-        ensures { result ≡ numbers_at self.now category }
+    // Returns the samples of a category that no whole number has.
+    pub(crate) fn samples(&self, category: PluralCategory) -> TwoSamples
+        ensures { result ≡ (language_view self.now).samples category }
     {
-        at_category!(self.numbers, category, |numbers| *numbers, self.other)
+        at_category!(
+            self.samples,
+            category,
+            |samples| *samples,
+            self.samples_of_other
+        )
     }
 }
 
-// Returns what is known of a category's numbers, given the categories of 0 and of 1.
-fn numbers_of(
-    of_zero: PluralCategory,
-    of_one: PluralCategory,
-    seen: &SeenNumbers,
+// Returns the samples of a category that the language has, and no whole number.
+fn samples_of<S: RulesOfLocales>(
+    alloc: Global,
+    source: &S,
+    rule_type: PluralRuleType,
+    locale: &str,
+    rules: &PluralRules<'_>,
+    numbers: &LanguageNumbers,
     category: PluralCategory,
-) -> CategoryNumbers
-    ensures zero { IsTrue result.zero ↔ of_zero ≡ category }
-    ensures one { IsTrue result.one ↔ of_one ≡ category }
-    ensures from_two { result.from_two ≡ seen_at seen.now category }
+) -> TwoSamples
+    ensures { IsTrue ((numbers_view numbers.now).has category)
+        → AreRareSamples rules.now (HasText (S.source source.now) rule_type locale.now) category
+        ((numbers_view numbers.now).numbers category false false).first result }
 {
-    CategoryNumbers {
-        zero: of_zero == category,
-        one: of_one == category,
-        from_two: seen.at(category),
+    if !numbers.has(category) {
+        return TwoSamples::none();
     }
+    let least = numbers.numbers(category, false, false).first;
+    rare_samples(alloc, source, rule_type, locale, rules, category, least)
 }

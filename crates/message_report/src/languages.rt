@@ -15,6 +15,7 @@ use crate::place::type_name;
 use crate::source::RulesOfLocales;
 use icu_plurals::PluralRuleType;
 use serde_json::Value;
+use std::alloc::Global;
 
 // The languages of a locale, by both types of rules.
 #[derive(Drop)]
@@ -25,12 +26,17 @@ pub(crate) struct Languages {
 
 impl Languages {
     // Returns those of a locale, given its value: those of which rules are needed.
-    pub(crate) fn needed<S: RulesOfLocales>(source: &S, locale: &str, value: &Value) -> Languages
+    pub(crate) fn needed<S: RulesOfLocales>(
+        alloc: Global,
+        source: &S,
+        locale: &str,
+        value: &Value,
+    ) -> Languages
         ensures { AreNeeded (S.source source.now) locale.now (view value.now) (languages_view result) }
     {
         Languages {
-            cardinal: needed_language(source, PluralRuleType::Cardinal, locale, value),
-            ordinal: needed_language(source, PluralRuleType::Ordinal, locale, value),
+            cardinal: needed_language(alloc, source, PluralRuleType::Cardinal, locale, value),
+            ordinal: needed_language(alloc, source, PluralRuleType::Ordinal, locale, value),
         }
     }
 
@@ -47,6 +53,7 @@ impl Languages {
 
 // Returns the language of a locale's rules, if there are any and they are needed.
 fn needed_language<S: RulesOfLocales>(
+    alloc: Global,
     source: &S,
     rule_type: PluralRuleType,
     locale: &str,
@@ -56,7 +63,7 @@ fn needed_language<S: RulesOfLocales>(
         → HasLanguage (S.source source.now) rule_type locale.now (option_map language_view result) }
 {
     if needs_rules(rule_type, value) {
-        language_at(source, rule_type, locale)
+        language_at(alloc, source, rule_type, locale)
     } else {
         None
     }
@@ -102,6 +109,7 @@ fn is_filled(value: &Value) -> bool
 
 // Returns the language of a locale's rules, if there are any.
 fn language_at<S: RulesOfLocales>(
+    alloc: Global,
     source: &S,
     rule_type: PluralRuleType,
     locale: &str,
@@ -109,7 +117,7 @@ fn language_at<S: RulesOfLocales>(
     ensures { HasLanguage (S.source source.now) rule_type locale.now (option_map language_view result) }
 {
     match source.rules_of(rule_type, locale) {
-        Some(rules) => Some(Language::of(&rules)),
+        Some(rules) => Some(Language::of(alloc, source, rule_type, locale, &rules)),
         None => None,
     }
 }

@@ -163,7 +163,7 @@ fn add_fault<'a>(
     ensures { OnOk result (found.new ≡ together found.old (found_of_fault (message_place_view place.entry) form fault)) }
 {
     match fault {
-        Some(fault) => found.add_fault(Place::Form(place, form), Cause::Form(fault)),
+        Some(fault) => found.add(Place::Form(place, form), Cause::Form(fault)),
         None => Ok(()),
     }
 }

@@ -2,7 +2,7 @@
 
 ghost use Rattle.std.specs.Prelude.{◌≡◌, ◌∷◌, [], IfOk, OnOk, map};
 ghost use Rattle.message_pattern.specs.PatternParts.{parts_view, piece_view, selector_view};
-ghost use Rattle.message_report.specs.FoundInMessages.{finding_at};
+ghost use Rattle.message_report.specs.FoundInMessages.{faults_of, finding_at};
 ghost use Rattle.message_report.specs.Inner.ArgumentViews.{argument_view, languages_view};
 ghost use Rattle.message_report.specs.Inner.FormSteps.{language_lent};
 ghost use Rattle.message_report.specs.Inner.LanguageViews.{language_view};
@@ -20,6 +20,7 @@ use crate::found::Found;
 use crate::language::Language;
 use crate::languages::Languages;
 use crate::place::{ArgumentPlace, PatternPlace, Place};
+use crate::severity::Severity;
 use icu_plurals::{PluralCategory, PluralRuleType};
 use message_pattern::{ArgumentKind, Part, Piece, Selector};
 use plural_documents::{MOST_TOLD, sum};
@@ -249,7 +250,8 @@ fn tell_branch<'a>(
     }
 }
 
-// Tells a fault: by a finding if at most nine come before it.
+// Tells a fault or a note: by a finding if at most nine come before it. Returns how many are told, and
+// faults among the others.
 fn tell<'a>(
     place: Place<'a>,
     cause: Cause,
@@ -259,9 +261,20 @@ fn tell<'a>(
     ensures { IfOk result (λ count. Tells before found.old count found.new (finding_at (place_view place.entry) cause ∷ [])) }
 {
     if before < MOST_TOLD {
-        found.add_fault(place, cause)?;
-    } else {
-        found.count_fault()?;
+        found.add(place, cause)?;
+        return sum(before, 1);
     }
-    sum(before, 1)
+    let severity = cause.severity();
+    found.count(severity)?;
+    sum(before, faults_of(severity))
+}
+
+// Returns how many faults are of a severity: one or none.
+fn faults_of(severity: Severity) -> u64
+    ensures { result ≡ faults_of severity }
+{
+    match severity {
+        Severity::Error => 1,
+        Severity::Note => 0,
+    }
 }

@@ -3,7 +3,7 @@
 ghost use Rattle.std.specs.Prelude.{◌≡◌, ◌++◌, IfOk, OnOk, map, string_bytes};
 ghost use Rattle.std.specs.List.{flat_map};
 ghost use Rattle.message_report.specs.MessageFindings.{finding_view};
-ghost use Rattle.message_report.specs.MessagesReportText.{message_counts_line, messages_report_text, printed_finding};
+ghost use Rattle.message_report.specs.MessagesReportText.{counts_line_with, message_counts_line, messages_report_text, notes_text, printed_finding};
 
 use crate::counts::Counts;
 use crate::finding::Finding;
@@ -43,8 +43,26 @@ fn push_line(alloc: Global, text: &mut String, finding: &Finding<'_>) -> Result<
 fn counts_line(alloc: Global, counts: Counts) -> Result<String, AllocError>
     ensures { IfOk result (λ line. string_bytes line ≡ message_counts_line counts) }
 {
+    let notes = notes_text(alloc, counts.notes)?;
+    counts_line_with(alloc, counts, notes.as_str())
+}
+
+// Returns the line with the counts, given what is printed of the notes.
+fn counts_line_with(alloc: Global, counts: Counts, notes: &str) -> Result<String, AllocError>
+    ensures { IfOk result (λ line. string_bytes line ≡ counts_line_with counts notes.now) }
+{
     let (messages, forms, faults) = (counts.messages, counts.forms, counts.faults);
     format!(in alloc;
-        "messages: {messages}, forms: {forms}, faults: {faults}, numbers tried: 0 to 9999\n"
+        "messages: {messages}, forms: {forms}, faults: {faults}{notes}, numbers tried: 0 to 9999\n"
     )
+}
+
+// Returns how many notes there are, behind a comma, if there are some.
+fn notes_text(alloc: Global, notes: u64) -> Result<String, AllocError>
+    ensures { IfOk result (λ text. string_bytes text ≡ notes_text notes) }
+{
+    if notes == 0 {
+        return Ok(String::new(alloc));
+    }
+    format!(in alloc; ", notes: {notes}")
 }

@@ -1,21 +1,24 @@
 //! The rules of locales.
 
-ghost use Rattle.std.specs.Prelude.{option_map};
+ghost use Rattle.std.specs.Prelude.{◌≡◌, option_map};
 ghost use Rattle.icu_plurals.specs.FiveRules.{rules_of};
 ghost use Rattle.message_report.specs.Inner.KnownLanguages.{GivesKnown};
+ghost use Rattle.message_report.specs.RulesSource.{part_of};
 ghost use Rattle.plural_fallback.specs.Chain.{next_of};
 
+use crate::rule_texts::RuleTexts;
 use icu_plurals::provider::PluralRulesData;
-use icu_plurals::{PluralRuleType, PluralsProvider};
-use plural_fallback::{FallbackProvider, Loaded, Locales, is_known, is_unknown};
+use icu_plurals::{PluralCategory, PluralRuleType, PluralsProvider};
+use plural_fallback::{FallbackProvider, Loaded, Locales, Part, find_first, is_known, is_unknown};
 
 /// The rules of locales, each by its chain.
 pub trait RulesOfLocales {
     ghost use Rattle.std.specs.Prelude.{option_map};
+    ghost use Rattle.std.specs.Option.{option_copied};
     ghost use Rattle.icu_plurals.specs.FiveRules.{rules_of};
-    ghost use Rattle.message_report.specs.RulesSource.{HasRules, RulesSource};
+    ghost use Rattle.message_report.specs.RulesSource.{HasRules, HasText, RulesSource};
 
-    // The rules under keys, the keys, and the parents of locales.
+    // The rules and texts under keys, the keys, and the parents of locales.
     ghost source: { Self → RulesSource };
 
     /// Returns the rules of a type of the first key of a locale's chain; `None` if there is no key
@@ -23,13 +26,22 @@ pub trait RulesOfLocales {
     /// is `root`, though that wasn't asked for, and the other type has no other one ([`is_known`]).
     fn rules_of(&self, rule_type: PluralRuleType, locale: &str) -> Option<PluralRulesData<'_>>
         ensures { HasRules (source self.now) rule_type locale.now (option_map rules_of result) };
+
+    /// Returns the text of a category's rule under that key, with its samples, if there is one.
+    fn text_of(
+        &self,
+        rule_type: PluralRuleType,
+        locale: &str,
+        category: PluralCategory,
+    ) -> Option<&str>
+        ensures { HasText (source self.now) rule_type locale.now category (option_copied result) };
 }
 
-impl<'a, P: PluralsProvider, L: Locales> RulesOfLocales for FallbackProvider<'a, P, L> {
+impl<'a, P: PluralsProvider, L: Locales + RuleTexts> RulesOfLocales for FallbackProvider<'a, P, L> {
     ghost use Rattle.message_report.specs.RulesSource.{source_of};
 
     ghost source = { λ fallback. source_of (P.cardinal fallback.provider.now) (P.ordinal fallback.provider.now)
-        (L.keys fallback.locales.now) (L.parent fallback.locales.now) };
+        (L.texts fallback.locales.now) (L.keys fallback.locales.now) (L.parent fallback.locales.now) };
 
     fn rules_of(&self, rule_type: PluralRuleType, locale: &str) -> Option<PluralRulesData<'_>> {
         match rule_type {
@@ -42,6 +54,29 @@ impl<'a, P: PluralsProvider, L: Locales> RulesOfLocales for FallbackProvider<'a,
                 Err(_) => None,
             },
         }
+    }
+
+    fn text_of(
+        &self,
+        rule_type: PluralRuleType,
+        locale: &str,
+        category: PluralCategory,
+    ) -> Option<&str> {
+        let part = part_of(rule_type);
+        match find_first(self.locales, part, locale) {
+            Ok(key) => self.locales.rule_text(part, key, category),
+            Err(_) => None,
+        }
+    }
+}
+
+// Returns the part of a type.
+fn part_of(rule_type: PluralRuleType) -> Part
+    ensures { result ≡ part_of rule_type }
+{
+    match rule_type {
+        PluralRuleType::Cardinal => Part::Cardinal,
+        PluralRuleType::Ordinal => Part::Ordinal,
     }
 }
 

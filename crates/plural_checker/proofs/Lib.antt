@@ -17,3 +17,5 @@ pub mod ShortChecks
 -- ranges in order, and rules with these
 pub mod OrderedLists
 pub mod OrderedTruth
+-- the words of a text
+pub mod SampleLemmas

@@ -2,3 +2,5 @@
 pub mod ShortNumbers
 -- rules whose ranges are in order
 pub mod OrderedRules
+-- the words of a text
+pub mod SampleSteps

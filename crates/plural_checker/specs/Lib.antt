@@ -7,6 +7,8 @@ pub mod Findings
 pub mod TextChecks
 -- the whole numbers that have a category
 pub mod WholeNumbers
+-- the first samples of a text
+pub mod FirstSamples
 -- the texts of faults
 pub mod PluralCheckerErrors
 -- no definitions of the subject

@@ -3,6 +3,7 @@
 //! other than its own.
 #![tactic(auto)]
 
+mod category_samples;
 mod check;
 mod chooser;
 mod coverage;
@@ -19,17 +20,21 @@ mod printed_rule;
 mod range_check;
 mod reading;
 mod report;
+mod sample;
 mod sample_range;
+mod sample_words;
 mod short_number;
 mod text_check;
 mod texts;
 mod whole_numbers;
 
+pub use category_samples::first_samples;
 pub use check::check_texts;
 pub use coverage::{CategorySet, Coverage};
 pub use fault::{Fault, NumberFault, RangeFault, SampleFault, SampleType, TextFault};
 pub use printed_rule::PrintedRule;
 pub use report::Report;
+pub use sample::Sample;
 pub use sample_range::{SampleNumbers, Steps};
 pub use texts::{LanguageTexts, MOST_TEXT_BYTES};
 pub use whole_numbers::{WHOLE_LIMIT, least_from, two_least};

@@ -3,6 +3,7 @@ pub mod Numbers
 pub mod Texts
 pub mod Documents
 pub mod RangeTables
+pub mod FoundKeys
 pub mod ElementTexts
 pub mod ManyIntegers
 pub mod ReadArguments

@@ -1,6 +1,6 @@
 -- One step after another.
-use Rattle.std.proofs.Common.{◌≡◌, Result, Ok, Err, refl, ◌∙◌, ap}
-use Rattle.plural_exports.specs.Inner.GivenResults.{GivesSeen}
+use Rattle.std.proofs.Common.{◌≡◌, ℕ, ℤ, List, Result, Ok, Err, refl, ◌∙◌, ap}
+use Rattle.plural_exports.specs.Inner.GivenResults.{GivesSeen, GivesWritten}
 use Rattle.plural_documents.specs.Steps.{Then}
 use Rattle.plural_exports.specs.declared.fault.Fault.{Fault}
 
@@ -23,3 +23,8 @@ pub of_second : {A B D : Type 0} (seen : D → B) (First : Result A Fault → Ty
     (x : A) (r : Result D Fault) → First (Ok x) → GivesSeen seen (Next x) r → GivesSeen seen (Then First Next) r
 of_second seen First Next x (Ok y) h next = (Ok x, h, next)
 of_second seen First Next x (Err e) h next = (Ok x, h, next)
+
+-- a fault, at which nothing was written
+pub faulty : (Is : Result (List ℕ) Fault → Type 0) (old : List ℕ) (e : Fault) (r : Result ℤ Fault) → r ≡ Err e → Is (Err e)
+    → GivesWritten Is old old r
+faulty Is old e r is right = rw is (right, refl)

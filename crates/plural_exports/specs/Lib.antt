@@ -4,6 +4,7 @@ pub mod GivenBytes
 pub mod GivenTexts
 pub mod GivenDocuments
 pub mod GivenRanges
+pub mod FoundLocales
 pub mod GivenElements
 pub mod NumberAnswers
 pub mod GivenArguments

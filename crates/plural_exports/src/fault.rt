@@ -21,7 +21,7 @@ pub(crate) enum Fault {
     Memory,
     // A text isn't UTF-8.
     Utf8,
-    // The type is neither 0 nor 1.
+    // No type of rules, or no part of a document, has the number.
     RuleType,
     // A text isn't a number, or over a limit.
     Number(DecimalError),
@@ -39,7 +39,7 @@ pub(crate) enum Fault {
     Json,
     // A JSON value has another form.
     Document(JsonError),
-    // The document has no rules of the type for the locale.
+    // The document has nothing of the type for the locale, or for its chain.
     Locale,
     // A table of categories has another length.
     TableLength,

@@ -2,6 +2,7 @@
 
 ghost use Rattle.std.specs.Prelude.{pos};
 ghost use Rattle.icu_plurals.specs.FiveRules.{five};
+ghost use Rattle.plural_exports.specs.FoundLocales.{IsKeyIn};
 ghost use Rattle.plural_exports.specs.GivenBytes.{ReadsRules};
 ghost use Rattle.plural_exports.specs.GivenDocuments.{AreRulesIn};
 ghost use Rattle.plural_exports.specs.GivenRanges.{AreRangesIn};
@@ -88,4 +89,26 @@ pub extern "C" fn plurals_ranges_from_document(
     ensures { Written (AreRangesIn json.now locale.now) out.old out.new result }
 {
     plural_exports::ranges_from_document(alloc, json, locale, out)
+}
+
+/// Writes the key by which a JSON document has a locale: the first of the locale's chain that has
+/// one in a part, which is 0 for cardinal rules, 1 for ordinal rules and 2 for ranges. The result is
+/// how many bytes the key has; if the buffer is shorter, nothing is written. The calls that read a
+/// document take the key as their locale. It is `root` for an unknown language too, if the document
+/// has that.
+///
+/// A fault is negative, and then nothing is written. Faults are looked for in this order: the part,
+/// the locale's text isn't UTF-8, no JSON text, no key among the first 32 of the chain, as in a
+/// value that is no document. It allocates.
+#[unsafe(no_mangle)]
+pub extern "C" fn plurals_find_locale(
+    alloc: Global,
+    json: &[u8],
+    locale: &[u8],
+    part: u8,
+    out: &mut [u8],
+) -> i64
+    ensures { Written (IsKeyIn json.now locale.now part) out.old out.new result }
+{
+    plural_exports::find_locale(alloc, json, locale, part, out)
 }

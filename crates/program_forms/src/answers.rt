@@ -3,8 +3,8 @@
 use crate::failure::Failure;
 use finding_formats::Format;
 use form_commands::{
-    FormsError, Verdict, Wanted, answer_lines, answer_numbers, check_files_as, list_forms,
-    write_gettext,
+    Checking, FormsError, TranslationFile, Verdict, Wanted, answer_lines, answer_numbers,
+    check_files_as, check_translations, list_forms, write_gettext,
 };
 use message_report::MessageFile;
 use plural_documents::write_output;
@@ -24,6 +24,8 @@ pub(crate) enum Asked<'a> {
     Lines(Wanted<'a>),
     // What these files of messages lack, in a format.
     Check(Format, &'a [MessageFile<'a>]),
+    // What these files of translators lack.
+    Translations(Checking<'a>, &'a [TranslationFile<'a>]),
 }
 
 impl<'a> Asked<'a> {
@@ -67,6 +69,9 @@ pub(crate) fn write_answer<R: Read, N: Read, W: Write, E: Write>(
         ),
         Asked::Check(format, files) => {
             check_files_as(alloc, files, &format, rules, output, notes)
+        }
+        Asked::Translations(checking, files) => {
+            check_translations(alloc, files, checking, rules, output, notes)
         }
     }
 }

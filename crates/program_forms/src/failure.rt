@@ -7,12 +7,27 @@ use thiserror::Error;
 // How the program is used.
 pub(crate) const USAGE: &str = "usage: plural_forms list LOCALE [--ordinal] [--rules FILE]
        plural_forms category LOCALE [--ordinal] [--rules FILE] [NUMBER..]
-       plural_forms check [--rules FILE] [--format FORMAT] FILE..
+       plural_forms check [--rules FILE] [--format FORMAT] [--locale LOCALE] [--ignore CODE]..
+                          [--strict] [--lines] FILE..
        plural_forms gettext LOCALE [--ordinal] [--rules FILE]
        plural_forms --help | --version
 Without --rules, the rules are in the file that PLURALS_RULES names, else in standard input.
 Without a NUMBER, the numbers are the lines of standard input.
-FORMAT is text, json, sarif or github; without one it is text.";
+FORMAT is text, json, sarif or github; without one it is text.
+A FILE of check is a gettext catalog, a JSON file of i18next or ARB, or a document of messages;
+- is standard input.";
+
+// An example of each command and kind of file.
+pub(crate) const EXAMPLES: &str = "
+Examples:
+  plural_forms list ru
+  plural_forms category ru 22 1.5
+  plural_forms gettext ru
+  plural_forms check ru.po
+  plural_forms check app_ru.arb
+  plural_forms check --format github locales/ru.json
+  plural_forms check --ignore number-unclear --strict po/*.po
+  msgunfmt ru.mo | plural_forms check --locale ru -";
 
 // Which version it is.
 pub(crate) const VERSION: &str = "plural_forms 0.1.0";

@@ -3,15 +3,16 @@
 #![tactic(auto)]
 
 mod answers;
+mod check_words;
 mod failure;
-mod messages;
+mod opened;
 mod rules;
 
 use answers::{Asked, print, write_answer};
-use failure::{Failure, USAGE, VERSION};
-use finding_formats::Format;
-use form_commands::{Question, Verdict, Wanted, question_of};
-use messages::{files_of, read_files};
+use check_words::{CheckWords, said_by};
+use failure::{EXAMPLES, Failure, USAGE, VERSION};
+use form_commands::{Question, TranslationFile, Verdict, Wanted, question_of};
+use opened::{Opened, documents_of, has_input, have_translations, open_all, translations_of};
 use plural_commands::arguments::arguments;
 use rules::{open, rules_name};
 use std::process::ExitCode;
@@ -27,14 +28,20 @@ fn answer_words(rt: &HostRuntime) -> Result<Verdict, Failure> {
         return Err(Failure::Memory);
     };
     match question_of(words.as_slice()) {
-        Some(Question::Help) => print(&mut rt.stdout(), USAGE),
+        Some(Question::Help) => help(rt),
         Some(Question::Version) => print(&mut rt.stdout(), VERSION),
         Some(Question::List(wanted)) => answer(rt, wanted.file, Asked::List(wanted)),
         Some(Question::Gettext(wanted)) => answer(rt, wanted.file, Asked::Gettext(wanted)),
         Some(Question::Category(wanted, numbers)) => category(rt, wanted, numbers),
-        Some(Question::Check(file, format, names)) => check(rt, file, format, names),
-        None => Err(Failure::Usage),
+        Some(Question::Check(_, _, _)) | None => check(rt, words.as_slice()),
     }
+}
+
+// Writes how the program is used, with examples.
+fn help(rt: &HostRuntime) -> Result<Verdict, Failure> {
+    let mut output = rt.stdout();
+    print(&mut output, USAGE)?;
+    print(&mut output, EXAMPLES)
 }
 
 // Writes the categories of the numbers, or of those in the input.
@@ -48,15 +55,55 @@ fn category(rt: &HostRuntime, wanted: Wanted<'_>, numbers: &[&str]) -> Result<Ve
 }
 
 // Writes what files of messages lack.
-fn check(
+fn check(rt: &HostRuntime, words: &[&str]) -> Result<Verdict, Failure> {
+    let [command, rest @ ..] = words else {
+        return Err(Failure::Usage);
+    };
+    if *command != "check" {
+        return Err(Failure::Usage);
+    }
+    match said_by(rt.alloc(), rest) {
+        Ok(Some(said)) => check_said(rt, &said),
+        Ok(None) => Err(Failure::Usage),
+        Err(_) => Err(Failure::Memory),
+    }
+}
+
+// Writes what the files lack that words name. The rules and one of these can't both be in the input.
+fn check_said(rt: &HostRuntime, said: &CheckWords<'_>) -> Result<Verdict, Failure> {
+    let names = said.names.as_slice();
+    if has_input(names) && rules_name(rt, said.rules)?.is_none() {
+        return Err(Failure::Usage);
+    }
+    let all = open_all(rt, names)?;
+    if said.has_more() || have_translations(all.as_slice()) {
+        return check_opened(rt, said, all.as_slice());
+    }
+    let files = documents_of(rt.alloc(), all.as_slice())?;
+    let asked = Asked::Check(said.format(), files.as_slice());
+    let verdict = answer(rt, said.rules, asked)?;
+    Ok(if said.is_strict {
+        verdict.strict()
+    } else {
+        verdict
+    })
+}
+
+// Writes what files of translators lack.
+fn check_opened<'a>(
     rt: &HostRuntime,
-    rules: Option<&str>,
-    format: Format,
-    names: &[&str],
+    said: &'a CheckWords<'a>,
+    all: &'a [Opened<'a>],
 ) -> Result<Verdict, Failure> {
-    let documents = read_files(rt, names)?;
-    let files = files_of(rt.alloc(), names, documents.as_slice())?;
-    answer(rt, rules, Asked::Check(format, files.as_slice()))
+    let Ok(files) = translations_of(rt.alloc(), all) else {
+        return Err(Failure::Memory);
+    };
+    answer(rt, said.rules, translations(said, files.as_slice()))
+}
+
+// What is asked of files of translators.
+fn translations<'a>(said: &'a CheckWords<'a>, files: &'a [TranslationFile<'a>]) -> Asked<'a> {
+    Asked::Translations(said.checking(), files)
 }
 
 // Writes the answer by the rules in a file, or by those in the input. Then the numbers can't be

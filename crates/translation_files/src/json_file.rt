@@ -34,6 +34,7 @@ use arb_locale::locale_of_name;
 use document_places::{PlacesFound, places_of_document};
 use fault::tell_fault;
 use found_messages::{add_found, messages_in, tell_repeated};
+use icu_message::category_named;
 use icu_plurals::PluralRuleType;
 use json::Scratch;
 use message_report::RulesOfLocales;
@@ -76,7 +77,8 @@ pub fn read_json<S: RulesOfLocales>(
 
 /// Returns whether a JSON value is a document of messages, as [`message_report::found_in_files`]
 /// takes it: no file of texts. It is if it isn't an object, or is empty, or a member is an object
-/// that has a part `cardinal` or `ordinal` with members, or no members but parts.
+/// that has a part `cardinal` or `ordinal` with members. Without such a part it is if a member has
+/// no members but parts, misspelt ones too, and none of the document's is a text.
 pub fn is_document(value: &Value) -> bool {
     let Value::Object(members) = value else {
         return true;
@@ -84,31 +86,71 @@ pub fn is_document(value: &Value) -> bool {
     if members.contains_key("@@locale") || members.contains_key("@@file") {
         return false;
     }
+    let mut has_text = false;
+    let mut may_be = members.is_empty();
     for (_, locale) in members.iter() {
-        if let Value::Object(parts) = locale {
-            if has_parts(parts) {
-                return true;
-            }
+        match locale {
+            Value::Object(parts) if has_part(parts) => return true,
+            Value::Object(parts) => may_be = may_be || are_parts(parts),
+            Value::String(_) => has_text = true,
+            _ => (),
         }
     }
-    members.is_empty()
+    may_be && !has_text
 }
 
-// Whether the members of a locale are parts of a document.
-fn has_parts(parts: &Map<String, Value>) -> bool {
-    let mut are_parts = !parts.is_empty();
+// Whether one of a locale's members is a part that has members.
+fn has_part(parts: &Map<String, Value>) -> bool {
     for (key, part) in parts.iter() {
-        match key.as_str() {
-            "cardinal" | "ordinal" => {
-                if let Value::Object(_) = part {
-                    return true;
-                }
-            }
-            "source" | "patterns" => (),
-            _ => are_parts = false,
+        if matches!(key.as_str(), "cardinal" | "ordinal") && matches!(part, Value::Object(_)) {
+            return true;
         }
     }
-    are_parts
+    false
+}
+
+// Whether a locale has members, and each may be a part of a document.
+fn are_parts(parts: &Map<String, Value>) -> bool {
+    for (key, part) in parts.iter() {
+        let is_part = match part {
+            Value::String(_) => false,
+            _ if is_name_of_part(key.as_str()) => true,
+            Value::Object(messages) => are_messages(messages),
+            _ => false,
+        };
+        if !is_part {
+            return false;
+        }
+    }
+    !parts.is_empty()
+}
+
+// Whether a key is the name of a part.
+fn is_name_of_part(key: &str) -> bool {
+    matches!(key, "cardinal" | "ordinal" | "source" | "patterns")
+}
+
+// Whether there are no messages, or one has forms by category.
+fn are_messages(messages: &Map<String, Value>) -> bool {
+    for (_, message) in messages.iter() {
+        if has_forms(message) {
+            return true;
+        }
+    }
+    messages.is_empty()
+}
+
+// Whether a message has the text of a category.
+fn has_forms(message: &Value) -> bool {
+    let Value::Object(forms) = message else {
+        return false;
+    };
+    for (name, form) in forms.iter() {
+        if matches!(form, Value::String(_)) && category_named(name.as_bytes()).is_some() {
+            return true;
+        }
+    }
+    false
 }
 
 // The bytes behind the mark of UTF-8 at their front, if it is there.

@@ -103,32 +103,31 @@ fn read_catalog<S: RulesOfLocales>(
     if standings.whole == 0 {
         return Ok(());
     }
-    let Found {
-        forms,
-        indices,
-        fate,
-    } = forms_of_file(gathered, catalog, name, rules, locale)?;
+    let Found { forms, indices } = forms_of_file(gathered, catalog, name, rules, locale)?;
     match forms {
         Ok(forms) => add_messages(gathered, catalog, forms),
         Err(refusal) => {
-            tell_refusal(gathered, catalog, refusal, fate, standings.whole)?;
+            let has_indices = indices.is_some();
+            tell_refusal(gathered, catalog, refusal, has_indices, standings.whole)?;
             compare_messages(gathered, catalog, indices)
         }
     }
 }
 
-// Tells why so many messages aren't checked by the rules, and what becomes of them.
+// Tells why so many messages aren't checked by the rules: they are checked by the file's own rule, or
+// left out, if that has no indices.
 fn tell_refusal(
     gathered: &mut Gathered,
     catalog: &Catalog,
     refusal: Note,
-    fate: Fate,
+    has_indices: bool,
     count: u64,
 ) -> Result<(), AllocError> {
     let alloc = gathered.alloc;
-    let left = match fate {
-        Fate::LeftOut => left_out(alloc, count)?,
-        _ => checked_alone(alloc, count)?,
+    let (fate, left) = if has_indices {
+        (Fate::Noted, checked_alone(alloc, count)?)
+    } else {
+        (Fate::LeftOut, left_out(alloc, count)?)
     };
     let Note { code, text } = refusal;
     let text = format!(in alloc; "{text}; {left}")?;

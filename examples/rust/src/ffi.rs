@@ -18,6 +18,10 @@ mod raw {
             json: *const u8, json_len: usize, locale: *const u8, locale_len: usize, rule_type: u8, out: *mut u8, out_len: usize,
         ) -> i64;
         #[rustfmt::skip]
+        pub fn plurals_find_locale(
+            json: *const u8, json_len: usize, locale: *const u8, locale_len: usize, part: u8, out: *mut u8, out_len: usize,
+        ) -> i64;
+        #[rustfmt::skip]
         pub fn plurals_rules_from_texts(
             zero: *const u8, zero_len: usize, one: *const u8, one_len: usize, two: *const u8, two_len: usize,
             few: *const u8, few_len: usize, many: *const u8, many_len: usize, out: *mut u8, out_len: usize,
@@ -70,7 +74,7 @@ fn written(call: impl Fn(&mut [u8]) -> i64) -> Result<Vec<u8>, PluralsError> {
 fn written_to(mut out: Vec<u8>, call: impl Fn(&mut [u8]) -> i64) -> Result<Vec<u8>, PluralsError> {
     loop {
         let length = call(&mut out);
-        let length = usize::try_from(length).map_err(|_| PluralsError(length))?;
+        let length = usize::try_from(length).map_err(|_| PluralsError::of(length))?;
         let had_room = length <= out.len();
         out.resize(length, 0);
         if had_room {
@@ -81,7 +85,7 @@ fn written_to(mut out: Vec<u8>, call: impl Fn(&mut [u8]) -> i64) -> Result<Vec<u
 
 fn checked(result: i32) -> Result<i32, PluralsError> {
     if result < 0 {
-        Err(PluralsError(result.into()))
+        Err(PluralsError::of(result.into()))
     } else {
         Ok(result)
     }
@@ -94,6 +98,13 @@ pub fn rules_from_document(json: &str, locale: &str, rule_type: u8) -> Result<Ve
     written(|out| unsafe {
         let (json, json_len) = (json.as_ptr(), json.len());
         raw::plurals_rules_from_document(json, json_len, locale.as_ptr(), locale.len(), rule_type, out.as_mut_ptr(), out.len())
+    })
+}
+
+pub fn find_locale(json: &str, locale: &str, part: u8) -> Result<Vec<u8>, PluralsError> {
+    written(|out| unsafe {
+        let (json, json_len) = (json.as_ptr(), json.len());
+        raw::plurals_find_locale(json, json_len, locale.as_ptr(), locale.len(), part, out.as_mut_ptr(), out.len())
     })
 }
 

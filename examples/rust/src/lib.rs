@@ -17,11 +17,13 @@
 
 mod elements;
 mod ffi;
+mod locales;
 mod operands;
 mod ranges;
 mod table;
 
 pub use elements::PluralElements;
+pub use locales::{find_locale, Part};
 use operands::Written;
 pub use operands::{PluralOperands, RawPluralOperands};
 pub use ranges::PluralRulesWithRanges;
@@ -31,26 +33,56 @@ pub use table::CategoryTable;
 /// The document of the rules of CLDR 48 that is installed with the library.
 pub const CLDR: &str = include_str!(env!("PLURALS_CLDR"));
 
-/// Why a call has no result: a number of `plurals_fault` in `plurals.h`. Its text is the library's.
-#[derive(Clone, Copy, PartialEq, Eq, Hash)]
-pub struct PluralsError(i64);
+/// Why a call has no result: a number of `plurals_fault` in `plurals.h`. Its text is the library's; that of -75 names the locale.
+#[derive(Clone, PartialEq, Eq, Hash)]
+pub struct PluralsError {
+    number: i64,
+    locale: Option<Box<str>>,
+}
 
 impl PluralsError {
+    const LOCALE: i64 = -75;
+
+    fn of(number: i64) -> PluralsError {
+        PluralsError { number, locale: None }
+    }
+
+    fn of_locale(locale: &str) -> PluralsError {
+        PluralsError { number: PluralsError::LOCALE, locale: Some(locale.into()) }
+    }
+
+    /// The error with a locale, if it is that of one.
+    fn naming(self, locale: &str) -> PluralsError {
+        if self.is_of_locale() {
+            PluralsError::of_locale(locale)
+        } else {
+            self
+        }
+    }
+
+    fn is_of_locale(&self) -> bool {
+        self.number == PluralsError::LOCALE
+    }
+
     /// The number of the fault, as -75 if the document has no rules for the locale.
-    pub fn number(self) -> i64 {
-        self.0
+    pub fn number(&self) -> i64 {
+        self.number
     }
 }
 
 impl fmt::Display for PluralsError {
     fn fmt(&self, to: &mut fmt::Formatter<'_>) -> fmt::Result {
-        to.write_str(ffi::fault_text(self.0))
+        to.write_str(ffi::fault_text(self.number))?;
+        match &self.locale {
+            Some(locale) => write!(to, " {locale:?}"),
+            None => Ok(()),
+        }
     }
 }
 
 impl fmt::Debug for PluralsError {
     fn fmt(&self, to: &mut fmt::Formatter<'_>) -> fmt::Result {
-        write!(to, "PluralsError({}: {self})", self.0)
+        write!(to, "PluralsError({}: {self})", self.number)
     }
 }
 
@@ -164,6 +196,27 @@ pub struct PluralRules {
 }
 
 impl PluralRules {
+    /// The rules that a document has for the first locale of the chain: those of `ru` for `ru_RU`, as [`find_locale`] tells. The rules of
+    /// `root` are for a language that the document has for the other type of numbers, and for `root`; any other language is the fault
+    /// -75, whose text names the locale.
+    ///
+    /// ```
+    /// use plurals::{PluralCategory, PluralRules, CLDR};
+    ///
+    /// let rules = PluralRules::of_locale(CLDR, "sr-Latn-RS", Default::default())?;
+    /// assert_eq!(rules.category_for(3), PluralCategory::Few);
+    /// let fault = PluralRules::of_locale(CLDR, "xx", Default::default()).unwrap_err();
+    /// assert!(fault.to_string().ends_with(r#"for the locale "xx""#));
+    /// # Ok::<(), plurals::PluralsError>(())
+    /// ```
+    pub fn of_locale(document: &str, locale: &str, options: PluralRulesOptions) -> Result<PluralRules, PluralsError> {
+        let part = match options.rule_type {
+            None | Some(PluralRuleType::Cardinal) => Part::Cardinal,
+            Some(PluralRuleType::Ordinal) => Part::Ordinal,
+        };
+        locales::read(document, locale, part, |key| PluralRules::try_new(document, key, options))
+    }
+
     /// The rules that a document has for a locale, which is compared byte by byte.
     pub fn try_new(document: &str, locale: &str, options: PluralRulesOptions) -> Result<PluralRules, PluralsError> {
         match options.rule_type {
@@ -174,12 +227,17 @@ impl PluralRules {
 
     /// Its cardinal rules.
     pub fn try_new_cardinal(document: &str, locale: &str) -> Result<PluralRules, PluralsError> {
-        Ok(PluralRules { block: ffi::rules_from_document(document, locale, 0)? })
+        PluralRules::read(document, locale, Part::Cardinal)
     }
 
     /// Its ordinal rules.
     pub fn try_new_ordinal(document: &str, locale: &str) -> Result<PluralRules, PluralsError> {
-        Ok(PluralRules { block: ffi::rules_from_document(document, locale, 1)? })
+        PluralRules::read(document, locale, Part::Ordinal)
+    }
+
+    fn read(document: &str, locale: &str, part: Part) -> Result<PluralRules, PluralsError> {
+        let block = ffi::rules_from_document(document, locale, part as u8).map_err(|error| error.naming(locale))?;
+        Ok(PluralRules { block })
     }
 
     /// The rules of five texts, from zero to many. An empty text isn't a rule.

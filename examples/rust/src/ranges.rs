@@ -1,6 +1,6 @@
 //! Categories of ranges.
 use crate::operands::PluralOperands;
-use crate::{ffi, PluralCategory, PluralRules, PluralsError};
+use crate::{ffi, locales, Part, PluralCategory, PluralRules, PluralsError};
 
 /// The rules of a language with the categories of its ranges (UTS 35 Part 3, Plural Ranges).
 ///
@@ -20,6 +20,12 @@ pub struct PluralRulesWithRanges {
 }
 
 impl PluralRulesWithRanges {
+    /// The cardinal rules of a locale, and its ranges, each as [`PluralRules::of_locale`] finds them.
+    pub fn of_locale(document: &str, locale: &str) -> Result<Self, PluralsError> {
+        let rules = PluralRules::of_locale(document, locale, Default::default())?;
+        locales::read(document, locale, Part::Ranges, |key| Self::try_new_with_rules(document, key, rules.clone()))
+    }
+
     /// The cardinal rules and the ranges that a document has for a locale, which is compared byte by byte.
     pub fn try_new_cardinal(document: &str, locale: &str) -> Result<Self, PluralsError> {
         let rules = PluralRules::try_new_cardinal(document, locale)?;
@@ -28,7 +34,8 @@ impl PluralRulesWithRanges {
 
     /// These rules, and the ranges that a document has for a locale.
     pub fn try_new_with_rules(document: &str, locale: &str, rules: PluralRules) -> Result<Self, PluralsError> {
-        Ok(PluralRulesWithRanges { rules, table: ffi::ranges_from_document(document, locale)? })
+        let table = ffi::ranges_from_document(document, locale).map_err(|error| error.naming(locale))?;
+        Ok(PluralRulesWithRanges { rules, table })
     }
 
     /// The rules.

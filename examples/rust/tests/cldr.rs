@@ -1,7 +1,7 @@
 //! Categories, operands and values by category, over the document of CLDR 48. What is expected comes from UTS 35 and CLDR's samples.
 use plurals::PluralCategory::{self, *};
 use plurals::{CategoryTable, PluralElements, PluralOperands, PluralRuleType, PluralRules, PluralRulesOptions, PluralRulesWithRanges, CLDR};
-use plurals::{format_pattern, Argument, RawPluralOperands, Value};
+use plurals::{find_locale, format_pattern, Argument, Part, RawPluralOperands, Value};
 
 fn cardinal(locale: &str) -> PluralRules {
     PluralRules::try_new_cardinal(CLDR, locale).unwrap()
@@ -203,9 +203,45 @@ fn names_of_categories() {
 #[test]
 fn documents_and_texts_are_refused_by_a_number() {
     let fault = PluralRules::try_new_cardinal(CLDR, "xx").unwrap_err();
-    assert_eq!((fault.number(), fault.to_string()), (-75, "the document has no rules of the type, or no ranges, for the locale".to_string()));
+    let text = r#"the document has no rules of the type, or no ranges, for the locale "xx""#;
+    assert_eq!((fault.number(), fault.to_string()), (-75, text.to_string()));
     assert_eq!(PluralRules::try_new_ordinal("{", "en").unwrap_err().number(), -70);
     assert_eq!(PluralRules::try_from_texts(["", "i 1", "", "", ""]).unwrap_err().number(), -22);
+}
+
+#[test]
+fn a_locale_has_the_rules_of_its_chain() {
+    let of_locale = |locale| PluralRules::of_locale(CLDR, locale, Default::default());
+    for (locale, key) in [("ru_RU", "ru"), ("en-US", "en"), ("EN_us", "en"), ("sr-Latn-RS", "sr"), ("pt_AO", "pt-PT"), ("und", "root")] {
+        assert_eq!(find_locale(CLDR, locale, Part::Cardinal).unwrap(), key, "{locale}");
+        assert_eq!(of_locale(locale).unwrap(), cardinal(key), "{locale}");
+        assert_eq!(PluralRules::try_new_cardinal(CLDR, locale).unwrap_err().number(), -75, "{locale}");
+    }
+    // CLDR has no ordinal rules of Akan, so they are those of root.
+    let ordinal = PluralRules::of_locale(CLDR, "ak-GH", PluralRuleType::Ordinal.into()).unwrap();
+    assert_eq!(ordinal.categories().collect::<Vec<_>>(), [Other]);
+    let with_ranges = PluralRulesWithRanges::of_locale(CLDR, "pt_AO").unwrap();
+    assert_eq!(with_ranges.rules(), &cardinal("pt-PT"));
+    assert_eq!(with_ranges, PluralRulesWithRanges::try_new_with_rules(CLDR, "pt", cardinal("pt-PT")).unwrap());
+}
+
+#[test]
+fn an_unknown_language_is_named() {
+    for locale in ["xx", "xx-YY", "russian", ""] {
+        assert_eq!(find_locale(CLDR, locale, Part::Ordinal).unwrap(), "root", "{locale}");
+        let faults = [
+            PluralRules::of_locale(CLDR, locale, Default::default()).unwrap_err(),
+            PluralRules::of_locale(CLDR, locale, PluralRuleType::Ordinal.into()).unwrap_err(),
+            PluralRulesWithRanges::of_locale(CLDR, locale).unwrap_err(),
+            find_locale(CLDR, locale, Part::Ranges).unwrap_err(),
+        ];
+        for fault in faults {
+            assert_eq!(fault.number(), -75, "{locale}");
+            assert!(fault.to_string().ends_with(&format!("for the locale {locale:?}")), "{fault}");
+        }
+    }
+    assert_eq!(PluralRules::of_locale("[]", "en-US", Default::default()).unwrap_err().number(), -72);
+    assert_eq!(find_locale("{", "en-US", Part::Cardinal).unwrap_err().number(), -70);
 }
 
 #[test]

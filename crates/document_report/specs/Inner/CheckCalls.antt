@@ -10,9 +10,10 @@ use Rattle.document_report.specs.declared.error.CheckError.{CheckError}
 use Rattle.document_report.specs.declared.error.CheckError.TheVariants.{Read, TooLong, Write, Memory}
 use Rattle.document_report.specs.declared.run.Answer.{Answer as CodeAnswer}
 use Rattle.plural_checker.specs.declared.Fault.{Fault}
-use Rattle.document_report.specs.DocumentReport.{fault_line}
+use Rattle.document_report.specs.DocumentFindings.{Finding}
+use Rattle.document_report.specs.DocumentPlaces.{LocalePlace}
+use Rattle.document_report.specs.DocumentReport.{text_finding}
 use Rattle.plural_documents.specs.FirstLines.{most_told}
-use Rattle.plural_fallback.specs.declared.locales.Part.{Part}
 
 -- ---- Values
 
@@ -56,6 +57,6 @@ abbrev pub GivesAfterReading : (Result Answer CheckError → Type 0) → Result 
 GivesAfterReading IsAnswer (Err Read) = ⊤
 GivesAfterReading IsAnswer result = Gives answer_view IsAnswer result
 
--- the line of a fault, if few enough of the same text come before it
-abbrev pub told_after : Part → List ℕ → ℕ → Fault → List (List ℕ)
-told_after part name before fault = if nat_lt before most_told then fault_line part name fault ∷ [] else []
+-- the finding of a fault, if few enough of the same text come before it
+abbrev pub told_after : LocalePlace → ℕ → Fault → List Finding
+told_after place before fault = if nat_lt before most_told then text_finding place fault ∷ [] else []

@@ -3,12 +3,14 @@ use Rattle.std.specs.Prelude.{Bool, true}
 use Rattle.icu_plurals.specs.declared.PluralCategory.{PluralCategory}
 use Rattle.icu_plurals.specs.declared.PluralCategory.TheVariants.{Zero, One, Two, Few, Many, Other}
 use Rattle.plural_checker.specs.declared.coverage.CategorySet.{CategorySet}
-use Rattle.message_report.specs.FormFaults.{Language}
+use Rattle.message_report.specs.FormFaults.{Language, no_samples}
 use Rattle.message_report.specs.Inner.KnownNumbers.{chosen_of}
 use Rattle.message_report.specs.declared.category_numbers.CategoryNumbers.{CategoryNumbers}
 use Rattle.message_report.specs.declared.language.Language.{Language as CodeLanguage}
+use Rattle.message_report.specs.declared.language_numbers.LanguageNumbers.{LanguageNumbers}
+use Rattle.message_report.specs.declared.rare_samples.TwoSamples.{TwoSamples}
 
-abbrev pub numbers_at : CodeLanguage → PluralCategory → CategoryNumbers
+abbrev pub numbers_at : LanguageNumbers → PluralCategory → CategoryNumbers
 numbers_at language Zero = language.numbers.zero
 numbers_at language One = language.numbers.one
 numbers_at language Two = language.numbers.two
@@ -24,8 +26,25 @@ is_in_set set Few = set.few
 is_in_set set Many = set.many
 is_in_set set Other = true
 
-abbrev pub language_view : CodeLanguage → Language
-language_view language = record {
+-- without samples
+abbrev pub numbers_view : LanguageNumbers → Language
+numbers_view language = record {
   has = is_in_set language.categories;
   numbers = λ category own_zero own_one. chosen_of (numbers_at language category) own_zero own_one;
+  samples = λ category. no_samples;
+}
+
+abbrev pub samples_at : CodeLanguage → PluralCategory → TwoSamples
+samples_at language Zero = language.samples.zero
+samples_at language One = language.samples.one
+samples_at language Two = language.samples.two
+samples_at language Few = language.samples.few
+samples_at language Many = language.samples.many
+samples_at language Other = language.samples_of_other
+
+abbrev pub language_view : CodeLanguage → Language
+language_view language = record {
+  has = is_in_set language.numbers.categories;
+  numbers = λ category own_zero own_one. chosen_of (numbers_at language.numbers category) own_zero own_one;
+  samples = samples_at language;
 }

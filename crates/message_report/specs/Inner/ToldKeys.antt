@@ -12,6 +12,7 @@ abbrev pub told_key : MessagePlace → ℕ → List ℕ → Found
 told_key place before key = record {
   findings = if nat_lt before most_told then key_finding place key ∷ [] else [];
   faults = 1;
+  notes = 0;
   messages = 0;
   forms = 0;
 }

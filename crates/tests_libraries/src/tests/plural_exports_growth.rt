@@ -93,3 +93,14 @@ fn growth_of_tables_and_texts_may_be_refused(rt: HostRuntime) {
     }
     holds!(rt; refused <= 1);
 }
+
+#[test]
+fn growth_of_found_locales_may_be_refused(rt: HostRuntime) {
+    let mut refused = 0u8;
+    for _ in 0..2u8 {
+        let mut out = [7u8; 64];
+        let key = find_locale(rt.alloc(), DOCUMENT, b"A_b", 1, &mut out);
+        refused = refused.saturating_add(out_of_memory(&rt, &[(key, 1)]));
+    }
+    holds!(rt; refused <= 1);
+}

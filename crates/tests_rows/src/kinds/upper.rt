@@ -1,11 +1,13 @@
 //! The kinds of the upper crates: `icu_plurals`, `plural_message`, `plural_checker`,
-//! `plural_fallback`, `message_report`, `finding_formats`, `form_commands`, `example_callers`,
-//! `message_pattern`, `message_format`, `gettext_plural`, `plural_exports`, `po_catalog`,
-//! `format_arguments`, `translation_files` and `packed_pattern`.
+//! `plural_fallback`, `document_report`, `document_formats`, `message_report`, `finding_formats`,
+//! `form_commands`, `example_callers`, `message_pattern`, `message_format`, `gettext_plural`,
+//! `plural_exports`, `po_catalog`, `format_arguments`, `translation_files` and `packed_pattern`.
 
 mod callers;
 mod catalogs;
 mod checker;
+mod document_findings;
+mod document_reports;
 mod element_values;
 mod elements;
 mod elements_json;
@@ -41,6 +43,8 @@ pub fn make(kind: &str, call: &mut Call) -> bool {
         || messages::make(kind, call)
         || checker::make(kind, call)
         || fallback::make(kind, call)
+        || document_reports::make(kind, call)
+        || document_findings::make(kind, call)
         || message_reports::make(kind, call)
         || findings::make(kind, call)
         || located_findings::make(kind, call)

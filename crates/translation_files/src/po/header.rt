@@ -1,7 +1,6 @@
 //! The forms of a catalog, by its header.
 
 use crate::code::NoticeCode;
-use crate::counts::Fate;
 use crate::gathered::{Gathered, Note};
 use crate::locale_name::{Said, locale_of};
 use crate::po::indices::{Indices, Read, indices_of};
@@ -30,16 +29,13 @@ pub(crate) struct Forms {
 pub(crate) struct Found {
     pub(crate) forms: Result<Forms, Note>,
     pub(crate) indices: Option<Indices>,
-    // What becomes of the messages then: they are left out, or checked by the file's own rule alone.
-    pub(crate) fate: Fate,
 }
 
-// Nothing but why.
-fn refused(code: NoticeCode, text: String) -> Found {
+// Why the forms aren't known, and what is known of the indices.
+fn refused(code: NoticeCode, text: String, indices: Option<Indices>) -> Found {
     Found {
         forms: Err(Note { code, text }),
-        indices: None,
-        fate: Fate::LeftOut,
+        indices,
     }
 }
 
@@ -55,13 +51,13 @@ pub(crate) fn forms_of_file<S: RulesOfLocales>(
     let Some(header) = catalog.header() else {
         let text = "it has no header, with Language and Plural-Forms: write one (msginit makes it)";
         let text = String::from_str(alloc, text)?;
-        return Ok(refused(NoticeCode::Header, text));
+        return Ok(refused(NoticeCode::Header, text, None));
     };
     let line = header.line as u64;
     let text = catalog.header_field(b"Plural-Forms").unwrap_or(b"");
     let indices = match indices_of(alloc, text)? {
         Read::Indices(indices) => indices,
-        Read::Fault(text) => return Ok(refused(NoticeCode::PluralForms, text)),
+        Read::Fault(text) => return Ok(refused(NoticeCode::PluralForms, text, None)),
     };
     let said = match locale {
         Some(locale) => locale_of(alloc, Some(locale), name, rules)?,
@@ -69,11 +65,7 @@ pub(crate) fn forms_of_file<S: RulesOfLocales>(
     };
     let own = match said {
         Said::Locale(own) => own,
-        Said::Fault(text) => {
-            let mut found = refused(NoticeCode::Language, text);
-            found.indices = Some(indices);
-            return Ok(found);
-        }
+        Said::Fault(text) => return Ok(refused(NoticeCode::Language, text, Some(indices))),
     };
     if locale.is_none() && own.as_str() == "pt" && is_portugals(&indices) {
         tell_portugals(gathered, line)?;
@@ -120,9 +112,7 @@ fn forms_under<S: RulesOfLocales>(
         let text = format!(in alloc;
             "the rules have no language '{shown}': name one that has the same forms by --locale"
         )?;
-        let mut found = refused(NoticeCode::Language, text);
-        found.indices = Some(indices);
-        return Ok(found);
+        return Ok(refused(NoticeCode::Language, text, Some(indices)));
     };
     let forms = match lay(alloc, &indices, &PluralRules::from_data(data))? {
         Ok(laid) => {
@@ -130,15 +120,11 @@ fn forms_under<S: RulesOfLocales>(
             Found {
                 forms: Ok(Forms { indices, laid }),
                 indices: None,
-                fate: Fate::Checked,
             }
         }
         Err(clash) => {
             let text = clash_text(alloc, locale.as_str(), clash)?;
-            let mut found = refused(NoticeCode::PluralForms, text);
-            found.indices = Some(indices);
-            found.fate = Fate::Noted;
-            found
+            refused(NoticeCode::PluralForms, text, Some(indices))
         }
     };
     gathered.locale = locale;

@@ -11,6 +11,9 @@ use std::alloc::{AllocError, Global};
 pub(crate) struct FormIndex {
     pub(crate) form: Form,
     pub(crate) index: u64,
+    // Whether a category of more numbers has the index, too: what is wrong with its text is told of
+    // that one alone.
+    pub(crate) is_second: bool,
 }
 
 // Two numbers of one category that have two indices.
@@ -210,23 +213,35 @@ fn forms_of(
     if own.zero
         && let Some(index) = indices.index_of(0)
     {
-        let form = Form::ExplicitZero;
-        forms.push(FormIndex { form, index })?;
+        forms.push(own_form(Form::ExplicitZero, index))?;
     }
     if own.one
         && let Some(index) = indices.index_of(1)
     {
-        let form = Form::ExplicitOne;
-        forms.push(FormIndex { form, index })?;
+        forms.push(own_form(Form::ExplicitOne, index))?;
     }
-    for group in groups {
+    for (place, group) in groups.iter().enumerate() {
         if let Some(first) = group.first {
             let form = Form::Category(group.category);
             let index = first.index;
-            forms.push(FormIndex { form, index })?;
+            let is_second = has_larger(groups, place, group);
+            forms.push(FormIndex {
+                form,
+                index,
+                is_second,
+            })?;
         }
     }
     Ok(forms)
+}
+
+// The form of exactly one number.
+fn own_form(form: Form, index: u64) -> FormIndex {
+    FormIndex {
+        form,
+        index,
+        is_second: false,
+    }
 }
 
 // The numbers for which the indices and the categories differ, in their order.
@@ -267,27 +282,14 @@ fn index_of(group: &Group) -> Option<u64> {
     }
 }
 
-// Whether a number is one of the least two of a category that has the index of a larger one.
+// Whether a number is of a category that has the index of a larger one.
 fn is_told_apart(tried: &Tried, groups: &[Group]) -> bool {
     for (place, group) in groups.iter().enumerate() {
-        if group.category == tried.category && is_one_of_two(tried, group) {
+        if group.category == tried.category {
             return has_larger(groups, place, group);
         }
     }
     false
-}
-
-// Whether a number is one of the least two of a category.
-fn is_one_of_two(tried: &Tried, group: &Group) -> bool {
-    is_number(tried, group.first) || is_number(tried, group.second)
-}
-
-// Whether a number is this one.
-fn is_number(tried: &Tried, number: Option<NumberIndex>) -> bool {
-    match number {
-        Some(number) => number.number == tried.number.number,
-        None => false,
-    }
 }
 
 // Whether a category of the same index has more numbers, or as many and stands behind.

@@ -7,6 +7,7 @@ use crate::lines::{FormLine, MessageKind, MessageLines};
 use crate::po::compared::{Sides, Times, compare, line_of};
 use crate::po::header::Forms;
 use crate::po::indices::Indices;
+use crate::po::laid::FormIndex;
 use crate::po::standing::{Standing, standing_of};
 use message_report::Form;
 use po_catalog::{Catalog, Entry, Text};
@@ -41,16 +42,19 @@ pub(crate) fn compare_messages(
     Ok(())
 }
 
-// What is told of a message with more forms than its catalog has.
-fn too_many_forms(alloc: Global, entry: &Entry, count: u64) -> Result<Option<Note>, AllocError> {
+// Tells that a message has more forms than its catalog.
+fn tell_too_many_forms(
+    gathered: &mut Gathered,
+    entry: &Entry,
+    count: u64,
+) -> Result<(), AllocError> {
     if entry.forms.len() as u64 <= count {
-        return Ok(None);
+        return Ok(());
     }
-    let text = format!(in alloc;
+    let text = format!(in gathered.alloc;
         "it has msgstr[{count}], and the file's nplurals is {count}: remove the form, or correct Plural-Forms"
     )?;
-    let code = NoticeCode::Indices;
-    Ok(Some(Note { code, text }))
+    gathered.tell(line_of(entry, count as usize), NoticeCode::Indices, text)
 }
 
 // Tells what is wrong with a message that isn't in the document.
@@ -61,9 +65,7 @@ fn compare_alone(
 ) -> Result<(), AllocError> {
     let times = match indices {
         Some(indices) => {
-            if let Some(note) = too_many_forms(gathered.alloc, entry, indices.count)? {
-                return gathered.tell(Some(entry.line as u64), note.code, note.text);
-            }
+            tell_too_many_forms(gathered, entry, indices.count)?;
             Times::Known(indices.times.as_slice())
         }
         None => Times::Unknown,
@@ -104,9 +106,7 @@ fn tell_missing(
 // Adds a message, or tells why it is left out.
 fn add_message(gathered: &mut Gathered, entry: &Entry, forms: &Forms) -> Result<(), AllocError> {
     let alloc = gathered.alloc;
-    if let Some(note) = too_many_forms(alloc, entry, forms.indices.count)? {
-        return leave_out(gathered, entry, note);
-    }
+    tell_too_many_forms(gathered, entry, forms.indices.count)?;
     let times = forms.indices.times.as_slice();
     let sides = match compare(gathered, entry, Times::Known(times), true)? {
         Ok(sides) => sides,
@@ -121,13 +121,14 @@ fn add_message(gathered: &mut Gathered, entry: &Entry, forms: &Forms) -> Result<
         placeholder,
         note,
     } = sides;
+    let has_number = placeholder.is_some();
     let lines = MessageLines {
         line: entry.line as u64,
         forms: lines_of(alloc, entry, forms)?,
         placeholder,
     };
     let message = Message {
-        value: forms_value(alloc, forms, texts.as_slice())?,
+        value: forms_value(alloc, forms, texts.as_slice(), has_number)?,
         source: Some(source),
         lines,
         note,
@@ -170,15 +171,20 @@ fn push_text(key: &mut String, text: &Text) -> Result<(), AllocError> {
     key.push_str(text.as_str().unwrap_or(""))
 }
 
-// The texts of a message under the names of their forms. Where exactly 0 or 1 has a form of its own
-// without a text, none is shown. A category that no number has takes the last text: gettext's
-// numbers are whole.
-fn forms_value(alloc: Global, forms: &Forms, texts: &[String]) -> Result<Value, AllocError> {
+// The texts of a message, which has a number or none, under the names of their forms. Where exactly
+// 0 or 1 has a form of its own without a text, none is shown. A category that no number has takes the
+// last text: gettext's numbers are whole.
+fn forms_value(
+    alloc: Global,
+    forms: &Forms,
+    texts: &[String],
+    has_number: bool,
+) -> Result<Value, AllocError> {
     let mut members = Map::new(alloc);
     for it in forms.laid.forms.iter() {
-        let text = text_at(texts, it.index);
+        let text = text_of_form(texts, it, has_number);
         let is_own = !matches!(it.form, Form::Category(_));
-        if is_own || !text.is_empty() {
+        if is_own || it.is_second || !text.is_empty() {
             let value = Value::try_from_str(alloc, text)?;
             put(&mut members, alloc, it.form.as_str(), value)?;
         }
@@ -194,6 +200,16 @@ fn forms_value(alloc: Global, forms: &Forms, texts: &[String]) -> Result<Value, 
         )?;
     }
     Ok(Value::Object(members))
+}
+
+// The text of a form. Of one whose index a larger category has, nothing is told: it has the number.
+fn text_of_form<'a>(texts: &'a [String], form: &FormIndex, has_number: bool) -> &'a str {
+    let text = text_at(texts, form.index);
+    if form.is_second && has_number && !text.contains("{}") {
+        "{}"
+    } else {
+        text
+    }
 }
 
 // The text at an index, empty if there is none.

@@ -2,8 +2,8 @@ use Rattle.std.proofs.Common.{string_bytes, ap, subst, ◌∙◌}
 use Rattle.serde_json.specs.View.{view, members_view}
 use Rattle.document_report.specs.Inner.ParentRows.{named_parent}
 use Rattle.document_report.specs.ParentFaults.{IsFoundInParent, short_next}
-use Rattle.plural_documents.specs.Found.{HasGrownBy}
-use Rattle.plural_documents.proofs.FoundLemmas.{Completes, begins, ends, goes_on}
+use Rattle.document_report.specs.FoundInDocuments.{HasGrownBy}
+use Rattle.document_report.proofs.FoundTogether.{Completes, begins, ends, goes_on}
 use Rattle.document_report.proofs.parents.add_all.Goals as goal
 
 pub loop-key-init : goal.loop-key-init

@@ -2,7 +2,7 @@ use Rattle.serde_json.specs.View.{members_view}
 use Rattle.document_report.specs.Inner.ChainSteps.{AreKnown}
 use Rattle.document_report.specs.Inner.ParentRows.{named_parent}
 use Rattle.document_report.specs.ParentFaults.{IsFoundInParent, short_next}
-use Rattle.plural_documents.proofs.FoundLemmas.{Completes}
+use Rattle.document_report.proofs.FoundTogether.{Completes}
 use Rattle.document_report.proofs.parents.add_all.Given as goal
 
 -- what is known holds, and what is found in the remaining members completes what was found so far

@@ -1,7 +1,7 @@
 use Rattle.std.proofs.Common.{List, ℕ, Option, ap, refl, ◌∙◌}
 use Rattle.serde_json.specs.Find.{as_str}
 use Rattle.serde_json.specs.View.{view}
-use Rattle.plural_documents.specs.Found.{together}
+use Rattle.document_report.specs.FoundInDocuments.{together}
 use Rattle.document_report.specs.Inner.ParentRows.{named_parent}
 use Rattle.document_report.specs.ParentFaults.{found_of_chain, found_of_child, found_of_parent}
 use Rattle.document_report.proofs.FoundParts.{on_ok, three_more}

@@ -1,7 +1,7 @@
 use Rattle.std.proofs.Common.{Option, ap, ◌∙◌}
 use Rattle.serde_json.specs.Data.{Data}
 use Rattle.serde_json.specs.View.{members_view, view}
-use Rattle.plural_documents.specs.Found.{together}
+use Rattle.document_report.specs.FoundInDocuments.{together}
 use Rattle.document_report.specs.ParentFaults.{found_of_shape}
 use Rattle.document_report.proofs.FoundParts.{on_ok}
 use Rattle.document_report.proofs.ParentsFound.{with_members, without_members}

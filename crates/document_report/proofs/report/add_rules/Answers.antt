@@ -3,8 +3,8 @@ use Rattle.std.specs.Prelude.{OnOk}
 use Rattle.serde_json.specs.Data.{Members}
 use Rattle.document_report.specs.CheckedDocument.{members_or_none}
 use Rattle.document_report.specs.DocumentReport.{IsFoundInRules}
-use Rattle.plural_documents.specs.Found.{IsFoundInMembers}
-use Rattle.plural_documents.specs.Found.{HasGrownBy}
+use Rattle.document_report.specs.FoundInDocuments.{IsFoundInMembers}
+use Rattle.document_report.specs.FoundInDocuments.{HasGrownBy}
 use Rattle.document_report.proofs.report.add_rules.Goals as goal
 
 pub returns : goal.returns

@@ -1,9 +1,8 @@
 use Rattle.std.proofs.Common.{ap, subst, ◌∙◌}
 use Rattle.serde_json.specs.Data.{Members}
-use Rattle.serde_json.specs.View.{view}
 use Rattle.document_report.specs.CheckedDocument.{members_or_none}
-use Rattle.document_report.specs.DocumentReport.{IsFoundInPartKey, IsFoundInRanges}
-use Rattle.plural_documents.specs.Found.{Found, together, IsFoundInMembers}
+use Rattle.document_report.specs.DocumentReport.{IsFoundInPartKey}
+use Rattle.document_report.specs.FoundInDocuments.{Found, together, IsFoundInMembers}
 use Rattle.document_report.proofs.FoundParts.{five_added}
 use Rattle.document_report.proofs.report.found_in.Goals as goal
 
@@ -12,7 +11,7 @@ returns c =
     let keys = c.in_ok-add_members_of.ensures in
     let cardinal = c.in_ok-add_rules.ensures in
     let ordinal = c.in_ok-add_rules-2.ensures in
-    let ranges = c.in_ok-add_members_of-2.ensures in
+    let ranges = c.in_ok-add_ranges.ensures in
     let parents = c.in_ok-add_parents.ensures in (
       keys.0,
       cardinal.0,
@@ -22,10 +21,9 @@ returns c =
       subst (λ (members : Members). IsFoundInMembers IsFoundInPartKey members keys.0) (ap members_or_none c.as_object.ensures) keys.1,
       cardinal.1,
       ordinal.1,
-      subst (λ (members : Members). IsFoundInMembers (IsFoundInRanges (view c.args.document.now)) members ranges.0)
-          (ap members_or_none c.members_of-ranges.ensures) ranges.1,
+      ranges.1,
       parents.1,
       five_added keys.0 cardinal.0 ordinal.0 ranges.0 parents.0 c.add_members_of.new.found c.add_rules.new.found
-          c.add_rules-2.new.found c.add_members_of-2.new.found c.add_parents.new.found
+          c.add_rules-2.new.found c.add_ranges.new.found c.add_parents.new.found
           (keys.2 ∙ ap (λ (f : Found). together f keys.0) c.new-found.ensures) cardinal.2 ordinal.2 ranges.2 parents.2,
     )

@@ -1,4 +1,4 @@
-use Rattle.std.proofs.Common.{ℤ, w64, ◌≡◌, ℕ, ◌<◌, ◌++◌, List, Ok, Err, Result, length, drop, min, if◌then◌else◌, pos, refl, subst, sym, ap, ◌∙◌, arith, ⊎_elim}
+use Rattle.std.proofs.Common.{w64, ◌≡◌, ℕ, ◌<◌, ◌++◌, List, Ok, Err, length, drop, min, if◌then◌else◌, pos, refl, subst, sym, ap, ◌∙◌, arith, ⊎_elim}
 use Rattle.std.proofs.lemmas.Bool.{cases_lt, le-leb, lt-leb}
 use Rattle.std.proofs.lemmas.Int.{to_z_pos}
 use Rattle.std.proofs.lemmas.Result.{err_from_is_err_and}
@@ -6,17 +6,10 @@ use Rattle.icu_plurals.specs.Elements.{Elements, IsExactElement, IsKeptElement}
 use Rattle.icu_plurals.specs.Inner.ElementsViews.{lent_elements}
 use Rattle.icu_plurals.specs.PackedElements.{PackedValue}
 use Rattle.plural_message.specs.Messages.{IsMessageWith, IsWrittenTo}
-use Rattle.plural_exports.specs.Inner.GivenResults.{GivesWritten}
 use Rattle.plural_exports.specs.NumberAnswers.{IsMessageFor}
 use Rattle.plural_exports.specs.Results.{filled}
-use Rattle.plural_exports.specs.declared.fault.Fault.{Fault}
-use Rattle.plural_exports.proofs.Steps.{passed_on}
+use Rattle.plural_exports.proofs.Steps.{faulty, passed_on}
 use Rattle.plural_exports.proofs.number_message.write_message.Goals as goal
-
--- a fault, at which nothing was written
-faulty : (Is : Result (List ℕ) Fault → Type 0) (old : List ℕ) (e : Fault) (r : Result ℤ Fault) → r ≡ Err e → Is (Err e)
-    → GivesWritten Is old old r
-faulty Is old e r is right = rw is (right, refl)
 
 -- what was written of a message is what an export writes
 filled_is : (old new message : List ℕ) (told : ℕ) → IsWrittenTo old new told message → new ≡ filled message old

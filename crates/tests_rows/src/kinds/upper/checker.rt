@@ -7,8 +7,8 @@ use icu_plurals::provider::rules::reference::ast::{DecimalValue, SampleRange};
 use icu_plurals::{PluralCategory, PluralElements, PluralRules};
 use message_report::category_set;
 use plural_checker::{
-    CategorySet, Coverage, LanguageTexts, RangeFault, SampleNumbers, check_texts, least_from,
-    two_least,
+    CategorySet, Coverage, LanguageTexts, RangeFault, Sample, SampleNumbers, check_texts,
+    first_samples, least_from, two_least,
 };
 use std::fmt::Write;
 
@@ -34,6 +34,7 @@ fn of_rules(kind: &str, call: &mut Call) -> bool {
         "set_without" => set_without(call),
         "least_number" => least_number(call),
         "two_least_numbers" => two_least_numbers(call),
+        "two_first_samples" => two_first_samples(call),
         _ => return false,
     }
     true
@@ -198,6 +199,25 @@ fn two_least_numbers(call: &mut Call) {
     print_whole(call, first);
     call.print(" ");
     print_whole(call, second);
+}
+
+// The first two samples of a text that have a category.
+fn two_first_samples(call: &mut Call) {
+    let rules = PluralRules::from_data(call.rules());
+    let category = category(call);
+    let text = call.text();
+    let (first, second) = first_samples(call.alloc, &rules, category, text.as_str());
+    print_sample(call, first);
+    call.print(" ");
+    print_sample(call, second);
+}
+
+// Prints a sample, or `none`.
+fn print_sample(call: &mut Call, sample: Option<Sample>) {
+    match sample {
+        Some(sample) => call.print(sample.as_str()),
+        None => call.print("none"),
+    }
 }
 
 // Prints a whole number, or `none`.

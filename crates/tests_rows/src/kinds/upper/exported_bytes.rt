@@ -12,6 +12,7 @@ pub fn make(kind: &str, call: &mut Call) -> bool {
         "exported_rules" => rules(call),
         "exported_document" => document(call),
         "exported_ranges" => ranges(call),
+        "exported_locale" => locale(call),
         "exported_table" => table(call),
         "exported_categories" => categories(call),
         "exported_elements" => elements(call),
@@ -113,6 +114,16 @@ fn ranges(call: &mut Call) {
     let mut room = next_room(call);
     let told = plural_exports::ranges_from_document(call.alloc, &json, &locale, &mut room);
     print_bytes(call, told, &room);
+}
+
+// The key of a locale in a document.
+fn locale(call: &mut Call) {
+    let json = next_given(call);
+    let locale = next_given(call);
+    let part = call.byte();
+    let mut room = next_room(call);
+    let told = plural_exports::find_locale(call.alloc, &json, &locale, part, &mut room);
+    print_text(call, told, &room);
 }
 
 // The table of the categories of integers.

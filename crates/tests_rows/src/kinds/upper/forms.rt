@@ -4,8 +4,9 @@ use crate::call::Call;
 use crate::kinds::upper::message_reports::print_lines;
 use finding_formats::Format;
 use form_commands::{
-    FormsError, Question, Verdict, answer_lines, answer_numbers, check_files, check_files_as,
-    list_forms, question_of, write_gettext,
+    Checking, Content, FormsError, Question, TranslationFile, Verdict, answer_lines,
+    answer_numbers, check_files, check_files_as, check_translations, list_forms, question_of,
+    write_gettext,
 };
 use message_report::MessageFile;
 use plural_fallback::Part;
@@ -23,6 +24,7 @@ pub fn make(kind: &str, call: &mut Call) -> bool {
         "forms_gettext" => forms_gettext(call),
         "forms_check" => forms_check(call, Format::Text),
         "forms_check_as" => forms_check_as(call),
+        "forms_translations" => forms_translations(call),
         _ => return false,
     }
     true
@@ -191,6 +193,68 @@ fn forms_check(call: &mut Call, format: Format) {
     print_noted(call, text.as_slice(), notes.as_slice(), answer);
 }
 
+// What is found in two files of translators, of which the first may be unread: the format, the locale
+// that overrides theirs, a code that isn't told, `strict` or nothing, the rules, and the name and the
+// text of each.
+fn forms_translations(call: &mut Call) {
+    let (word, locale) = (call.text(), call.text());
+    let (ignored, strict) = (call.text(), call.text());
+    let rules = call.text();
+    let (first, first_text) = (call.text(), call.text());
+    let (second, second_text) = (call.text(), call.text());
+    let Some(format) = Format::from_word(word.as_str()) else {
+        return call.not("format");
+    };
+    let files = [
+        file_of(first.as_str(), content_of(first_text.as_str())),
+        file_of(second.as_str(), Content::Bytes(second_text.as_bytes())),
+    ];
+    let ignored = [ignored.as_str()];
+    let is_strict = strict.as_str() == "strict";
+    let checking = checking_of(format, locale.as_str(), &ignored, is_strict);
+    let (mut text, mut notes) = (Vec::new(call.alloc), Vec::new(call.alloc));
+    let mut input = rules.as_bytes();
+    let answer = check_translations(
+        call.alloc, &files, checking, &mut input, &mut text, &mut notes,
+    );
+    print_noted(call, text.as_slice(), notes.as_slice(), answer);
+}
+
+// What is in a file of this text; without a text it can't be read.
+fn content_of<'a>(text: &'a str) -> Content<'a> {
+    if text.is_empty() {
+        Content::Unread("it can't be opened")
+    } else {
+        Content::Bytes(text.as_bytes())
+    }
+}
+
+// A file of this name and content.
+fn file_of<'a>(name: &'a str, content: Content<'a>) -> TranslationFile<'a> {
+    TranslationFile { name, content }
+}
+
+// How files are checked, in their own locales if there is no text of one.
+fn checking_of<'a>(
+    format: Format,
+    locale: &'a str,
+    ignored: &'a [&'a str],
+    is_strict: bool,
+) -> Checking<'a> {
+    let locale = given(locale);
+    Checking {
+        format,
+        locale,
+        ignored,
+        is_strict,
+    }
+}
+
+// A text, if it isn't empty.
+fn given<'a>(text: &'a str) -> Option<&'a str> {
+    if text.is_empty() { None } else { Some(text) }
+}
+
 // Prints what was written, the notes, if there are some, and the status.
 fn print_noted(call: &mut Call, text: &[u8], notes: &[u8], answer: Result<Verdict, FormsError>) {
     if notes.is_empty() {
@@ -201,12 +265,18 @@ fn print_noted(call: &mut Call, text: &[u8], notes: &[u8], answer: Result<Verdic
     print_answer(call, notes, answer);
 }
 
-// Prints what was written, and the status.
+// Prints what was written, and the status; where notes would change it, also the strict one.
 fn print_answer(call: &mut Call, text: &[u8], answer: Result<Verdict, FormsError>) {
     print_lines(call, text);
     call.separate(" | ");
     match answer {
-        Ok(verdict) => call.print_value(&verdict.status()),
+        Ok(verdict) => {
+            call.print_value(&verdict.status());
+            if verdict.strict().status() != verdict.status() {
+                call.print(", strict: ");
+                call.print_value(&verdict.strict().status());
+            }
+        }
         Err(error) => {
             call.print_value(&error);
             call.separate(", ");

@@ -1,19 +1,19 @@
-use Rattle.std.proofs.Common.{ℕ, List, ap, refl, sym, ◌∙◌, inl, inr}
-use Rattle.document_report.specs.DocumentReport.{category_line}
-use Rattle.plural_documents.specs.Found.{nothing_found, one_fault, together}
+use Rattle.std.proofs.Common.{refl, sym, inl, inr}
+use Rattle.document_report.specs.DocumentPlaces.{at_key, locale_place_view}
+use Rattle.document_report.specs.FoundInDocuments.{fault_at, nothing_found}
+use Rattle.document_report.specs.declared.cause.Cause.TheVariants.{NotACategory}
 use Rattle.document_report.proofs.Entries.{no_category}
 use Rattle.document_report.proofs.FoundParts.{on_ok}
-use Rattle.plural_documents.proofs.FoundLemmas.{together-nothing}
+use Rattle.document_report.proofs.FoundTogether.{together-nothing}
 use Rattle.document_report.proofs.keys.CategoryCheckMemberCheck.add.Goals as goal
 
-pub returns-in_ok-category_line-in-None : goal.returns-in_ok-category_line-in-None
-returns-in_ok-category_line-in-None c =
-    let line = category_line c.args.self.now.part c.args.self.now.name.now c.args.key.now in
+pub returns-in-None : goal.returns-in-None
+returns-in-None c =
     on_ok c.add_fault.result
     (λ added. (
-      one_fault line,
+      fault_at (at_key (locale_place_view c.args.self.now.place) c.args.key.now) NotACategory,
       inr (λ named. no_category c.args.key.now c.in-None.ensures named.0 named.1, refl),
-      added ∙ ap (λ (l : List ℕ). together c.args.found.now (one_fault l)) c.in_ok-category_line-in-None.ensures,
+      added,
     ))
     c.add_fault.ensures
 

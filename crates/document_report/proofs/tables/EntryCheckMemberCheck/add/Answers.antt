@@ -1,17 +1,18 @@
-use Rattle.std.proofs.Common.{ℕ, List, Some, None, ap, refl, sym, ◌∙◌}
-use Rattle.document_report.specs.DocumentReport.{entry_line}
-use Rattle.plural_documents.specs.Found.{nothing_found, one_fault, together}
+use Rattle.std.proofs.Common.{Some, None, refl, sym}
+use Rattle.document_report.specs.DocumentPlaces.{at_key, locale_place_view}
+use Rattle.document_report.specs.FoundInDocuments.{fault_at, nothing_found}
+use Rattle.document_report.specs.declared.cause.Cause.TheVariants.{Entry}
 use Rattle.document_report.proofs.FoundParts.{on_ok}
-use Rattle.plural_documents.proofs.FoundLemmas.{together-nothing}
+use Rattle.document_report.proofs.FoundTogether.{together-nothing}
 use Rattle.document_report.proofs.tables.EntryCheckMemberCheck.add.Goals as goal
 
-pub returns-in_ok-entry_line-in-Some : goal.returns-in_ok-entry_line-in-Some
-returns-in_ok-entry_line-in-Some c =
+pub returns-in-Some : goal.returns-in-Some
+returns-in-Some c =
     on_ok c.add_fault.result
     (λ added. (
-      one_fault (entry_line c.args.self.now.name.now c.args.key.now c.in-Some.fault),
+      fault_at (at_key (locale_place_view c.args.self.now.place) c.args.key.now) (Entry c.in-Some.fault),
       (Some c.in-Some.fault, c.in-Some.ensures, refl),
-      added ∙ ap (λ (line : List ℕ). together c.args.found.now (one_fault line)) c.in_ok-entry_line-in-Some.ensures,
+      added,
     ))
     c.add_fault.ensures
 

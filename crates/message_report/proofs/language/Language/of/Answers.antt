@@ -1,48 +1,32 @@
-use Rattle.std.proofs.Common.{◌≡◌, ap, subst, sym, ◌∙◌}
-use Rattle.icu_plurals.specs.FiveRules.{FiveRules, first_category, rules_of}
-use Rattle.icu_plurals.specs.Operands.{of_whole}
-use Rattle.icu_plurals.specs.PackedTruth.{packed_truth}
-use Rattle.icu_plurals.specs.declared.PluralCategory.TheVariants.{Zero, One, Two, Few, Many, Other}
-use Rattle.plural_checker.specs.LanguageTexts.{categories_with_rule}
-use Rattle.message_report.specs.FormFaults.{IsLanguageOf}
-use Rattle.message_report.specs.Inner.LanguageViews.{language_view}
+use Rattle.std.proofs.Common.{◌≡◌, ℕ, List, Option, ap, subst, sym, ◌∙◌}
+use Rattle.icu_plurals.specs.FiveRules.{FiveRules, rules_of}
+use Rattle.icu_plurals.specs.declared.PluralCategory.{PluralCategory}
+use Rattle.message_report.specs.FormFaults.{HasNumbersOf, IsLanguageOf}
+use Rattle.message_report.specs.Inner.LanguageViews.{language_view, numbers_view}
+use Rattle.message_report.specs.RulesSource.{HasText}
 use Rattle.message_report.specs.declared.language.Language.{Language}
-use Rattle.message_report.proofs.LanguageLemmas.{language_is, numbers_are}
+use Rattle.message_report.proofs.LanguageLemmas.{language_is}
 use Rattle.message_report.proofs.language.Language.of.Goals as goal
 
 pub returns : goal.returns
-returns c =
+returns g c =
     let rules = c.from_data.result in
-    let set = c.of_rules-categories.result in
-    let seen = c.numbers_from_two-seen.result in
-    let zero = c.category_for-of_zero.result in
-    let one = c.category_for-of_one.result in
+    let IsText : PluralCategory → Option (List ℕ) → Type 0 =
+    HasText (g.S.RulesOfLocales.source c.args.source.now) c.args.rule_type c.args.locale.now in
     let language : Language = record {
-      categories = set;
-      numbers = record {
-        zero = c.numbers_of.result;
-        one = c.numbers_of-2.result;
-        two = c.numbers_of-3.result;
-        few = c.numbers_of-4.result;
-        many = c.numbers_of-5.result;
+      numbers = c.of-numbers.result;
+      samples = record {
+        zero = c.samples_of.result;
+        one = c.samples_of-2.result;
+        two = c.samples_of-3.result;
+        few = c.samples_of-4.result;
+        many = c.samples_of-5.result;
       };
-      other = c.numbers_of-6.result;
+      samples_of_other = c.samples_of-6.result;
     } in
     let same : rules ≡ rules_of c.args.given.now = c.from_data.ensures ∙ ap rules_of c.as_borrowed.ensures in
-    let of_zero : zero ≡ first_category (packed_truth (of_whole 0)) rules = cc in
-    let of_one : one ≡ first_category (packed_truth (of_whole 1)) rules = cc in
-    let found = c.numbers_from_two-seen.ensures in
-    subst (λ (rules : FiveRules). IsLanguageOf rules (language_view language)) same
-    (language_is rules language (c.of_rules-categories.ensures ∙ ap categories_with_rule (sym same))
-    (numbers_are rules Zero zero one set seen c.numbers_of.result of_zero of_one found
-    c.numbers_of.ensures.zero c.numbers_of.ensures.one c.numbers_of.ensures.from_two)
-    (numbers_are rules One zero one set seen c.numbers_of-2.result of_zero of_one found
-    c.numbers_of-2.ensures.zero c.numbers_of-2.ensures.one c.numbers_of-2.ensures.from_two)
-    (numbers_are rules Two zero one set seen c.numbers_of-3.result of_zero of_one found
-    c.numbers_of-3.ensures.zero c.numbers_of-3.ensures.one c.numbers_of-3.ensures.from_two)
-    (numbers_are rules Few zero one set seen c.numbers_of-4.result of_zero of_one found
-    c.numbers_of-4.ensures.zero c.numbers_of-4.ensures.one c.numbers_of-4.ensures.from_two)
-    (numbers_are rules Many zero one set seen c.numbers_of-5.result of_zero of_one found
-    c.numbers_of-5.ensures.zero c.numbers_of-5.ensures.one c.numbers_of-5.ensures.from_two)
-    (numbers_are rules Other zero one set seen c.numbers_of-6.result of_zero of_one found
-    c.numbers_of-6.ensures.zero c.numbers_of-6.ensures.one c.numbers_of-6.ensures.from_two))
+    let known : HasNumbersOf rules (numbers_view language.numbers) =
+    subst (λ (r : FiveRules). HasNumbersOf r (numbers_view language.numbers)) (sym same) c.of-numbers.ensures in
+    subst (λ (r : FiveRules). IsLanguageOf r IsText (language_view language)) same
+    (language_is rules IsText language known c.samples_of.ensures c.samples_of-2.ensures c.samples_of-3.ensures c.samples_of-4.ensures
+    c.samples_of-5.ensures c.samples_of-6.ensures)

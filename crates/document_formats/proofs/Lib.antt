@@ -1,0 +1,5 @@
+mod NoFloats
+-- the same as those of finding_formats
+mod PlainData
+mod LineLemmas
+mod ReadReports

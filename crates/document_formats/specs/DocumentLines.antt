@@ -1,0 +1,15 @@
+-- The report of a document as lines of JSON: one for each finding, and one with the counts.
+use Rattle.std.specs.Prelude.{ℕ, List, [], ◌∷◌, ◌++◌, map}
+use Rattle.std.specs.List.{flat_map}
+use Rattle.serde_json.specs.Data.{Data}
+use Rattle.document_report.specs.ReportText.{counts_in, findings_in}
+use Rattle.document_report.specs.declared.report.Report.{Report}
+use Rattle.finding_formats.specs.JsonLines.{json_line}
+use Rattle.document_formats.specs.DocumentObjects.{counts_data, finding_data}
+
+-- the findings in their order, and then the counts, whose line is the last one
+abbrev pub report_data : Report → List Data
+report_data report = map finding_data (findings_in report) ++ (counts_data (counts_in report) ∷ [])
+
+abbrev pub report_lines : Report → List ℕ
+report_lines report = flat_map json_line (report_data report)

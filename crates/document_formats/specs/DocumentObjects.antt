@@ -1,0 +1,65 @@
+-- A document's finding as a JSON object, which has its place, its code and what is printed of it.
+--     finding_data finding      the object
+--     counts_data counts      the object of the counts
+use Rattle.std.specs.Prelude.{ℕ, List, codes}
+use Rattle.serde_json.specs.Data.{Data, number, unsigned, string, object, Members, no_members, member}
+use Rattle.icu_plurals.specs.Categories.{name_of}
+use Rattle.plural_fallback.specs.LocalesJson.{part_name}
+use Rattle.document_report.specs.DocumentCauses.{cause_text}
+use Rattle.document_report.specs.DocumentFindings.{Finding, finding_line}
+use Rattle.document_report.specs.DocumentPlaces.{FindingPlace, LocalePlace, at_document, at_key, at_locale, at_parent, at_parents, at_part, at_text}
+use Rattle.document_report.specs.declared.cause.Cause.{Cause}
+use Rattle.document_report.specs.declared.counts.Counts.{Counts}
+use Rattle.document_formats.specs.DocumentCodes.{code_name, code_of}
+
+-- the document, standard input
+abbrev pub input_name : List ℕ
+input_name = codes "-"
+
+-- ---- A place
+
+-- a member that is a text, before others
+abbrev pub with_text : List ℕ → List ℕ → Members → Members
+with_text key text members = member key (string text) members
+
+-- the members of a locale
+abbrev pub locale_members : LocalePlace → Members
+locale_members l = with_text (codes "locale") l.locale (with_text (codes "part") (part_name l.part) no_members)
+
+-- what is there, and by which names; the keys are in the order of their bytes
+abbrev pub place_members : FindingPlace → Members
+place_members at_document = with_text (codes "kind") (codes "document") no_members
+place_members (at_part key) = with_text (codes "key") key (with_text (codes "kind") (codes "part") no_members)
+place_members at_parents = with_text (codes "kind") (codes "parents") no_members
+place_members (at_parent locale) = with_text (codes "kind") (codes "parent") (with_text (codes "locale") locale no_members)
+place_members (at_locale l) = with_text (codes "kind") (codes "locale") (locale_members l)
+place_members (at_text l category) =
+    with_text (codes "category") (name_of category) (with_text (codes "kind") (codes "text") (locale_members l))
+place_members (at_key l key) = with_text (codes "key") key (with_text (codes "kind") (codes "key") (locale_members l))
+
+-- `{"category":"few","kind":"text","locale":"ru","part":"cardinal"}`
+abbrev pub place_data : FindingPlace → Data
+place_data place = object (place_members place)
+
+-- ---- A cause
+
+-- `{"code":"wrong-sample","text":"sample 1.5 is other"}`
+abbrev pub cause_data : Cause → Data
+cause_data cause =
+    object (with_text (codes "code") (code_name (code_of cause)) (with_text (codes "text") (cause_text cause) no_members))
+
+-- ---- A finding
+
+-- `{"cause":{..},"file":"-","place":{..},"severity":"fault","text":"cardinal ru few: .."}`
+abbrev pub finding_data : Finding → Data
+finding_data f =
+    object (member (codes "cause") (cause_data f.cause) (with_text (codes "file") input_name
+    (member (codes "place") (place_data f.place) (with_text (codes "severity") (codes "fault")
+    (with_text (codes "text") (finding_line f) no_members)))))
+
+-- `{"counts":{"faults":1,"locales":1,"numbers":17,"rules":2}}`
+abbrev pub counts_data : Counts → Data
+counts_data counts =
+    object (member (codes "counts") (object (member (codes "faults") (number (unsigned counts.faults))
+    (member (codes "locales") (number (unsigned counts.locales)) (member (codes "numbers") (number (unsigned counts.numbers))
+    (member (codes "rules") (number (unsigned counts.rules)) no_members))))) no_members)

@@ -1,0 +1,17 @@
+# shellcheck shell=sh
+# For `plural_forms`, here and installed: whether the words of a check name a file that only translation-input reads (Android's XML, a
+# catalog in another charset), or whether its lines go to a terminal, where they have colours. Both need python3.
+
+# needs_input WORD..
+needs_input() {
+    [ "${1-}" = check ] && command -v python3 >/dev/null || return 1
+    [ ! -t 1 ] || return 0
+    for word; do
+        [ -f "$word" ] || continue
+        case $word in
+        *.xml) return 0 ;;
+        *.po | *.pot) LC_ALL=C grep -aqiE -m1 'charset=(utf-?8|charset|us-ascii|ascii)' "$word" || return 0 ;;
+        esac
+    done
+    return 1
+}
