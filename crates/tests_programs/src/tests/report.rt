@@ -13,8 +13,7 @@ use crate::tests::input::Input;
 use crate::tests::report::answers::{gives, is_told};
 use document_report::CheckError;
 
-const USAGE: &str =
-    "2: usage: plurals_check [--format text|json|sarif|github] < DOCUMENT\n";
+const USAGE: &str = "2: usage: plurals_check [--format text|json|sarif|github] < DOCUMENT\n";
 
 #[test]
 fn any_word_is_answered_with_the_usage(rt: HostRuntime) {

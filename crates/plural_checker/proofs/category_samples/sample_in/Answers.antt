@@ -15,7 +15,7 @@ returns-then-eq c =
     let own : c.in-Ok.chosen ≡ c.args.category = search rules in
     let answers : IsTextAnswer c.args.rules.now c.as_str.result.now (Ok c.in-Ok.chosen) =
     subst (λ (answer : Result PluralCategory DecimalError). IsTextAnswer c.args.rules.now c.as_str.result.now answer) c.in-Ok.is
-        c.category_for_text.ensures in
+    c.category_for_text.ensures in
     has_category c.args.rules.now c.args.category c.args.word.now c.in-Some.sample c.as_str.result.now c.in-Some.ensures.0 c.in-Some.ensures.1
     c.as_str.ensures c.in-Ok.chosen answers own
 
@@ -24,6 +24,6 @@ returns-else-eq c =
     let other : c.in-Ok.chosen ≡ c.args.category → ⊥ = search rules in
     let answers : IsTextAnswer c.args.rules.now c.as_str.result.now (Ok c.in-Ok.chosen) =
     subst (λ (answer : Result PluralCategory DecimalError). IsTextAnswer c.args.rules.now c.as_str.result.now answer) c.in-Ok.is
-        c.category_for_text.ensures in
+    c.category_for_text.ensures in
     has_other c.args.rules.now c.args.category c.args.word.now c.in-Some.sample c.as_str.result.now c.in-Some.ensures.0 c.in-Some.ensures.1
     c.as_str.ensures c.in-Ok.chosen answers other
