@@ -2,8 +2,10 @@
 
 ghost use Rattle.std.specs.Prelude.{◌≡◌, ◌≢◌, IfErr, IfOk, string_bytes};
 ghost use Rattle.std.specs.Io.KnownBytes.{Appends};
+ghost use Rattle.form_commands.specs.FormsAnswers.{forms_origin};
 ghost use Rattle.form_commands.specs.TranslationReports.{IsToldReport, told_verdict, verdict_told};
 ghost use Rattle.form_commands.specs.Inner.TranslationSteps.{IsReport};
+ghost use Rattle.plural_documents.specs.Inputs.{IsRead};
 
 use crate::error::{FormsError, Verdict};
 use crate::misspelt::is_misspelt;
@@ -50,8 +52,9 @@ pub struct Checking<'a> {
     pub is_strict: bool,
 }
 
-/// Writes what is found in translators' files, with their lines, file by file; and then, in the
-/// notes, the key of the rules of each locale, if that isn't the locale.
+/// Writes what is found in translators' files, with their lines, file by file: one whole report in
+/// the format, whose totals give the verdict; and then, in the notes, the key of the rules of each
+/// locale, if that isn't the locale.
 ///
 /// After an error nothing was written, except by a failed write. It allocates.
 pub fn check_translations<R: Read, W: Write, E: Write>(
@@ -61,15 +64,37 @@ pub fn check_translations<R: Read, W: Write, E: Write>(
     rules: &mut R,
     writer: &mut W,
     notes: &mut E,
-) -> Result<Verdict, FormsError> {
-    let document = document_of(alloc, rules)?;
-    match JsonProvider::from_value(alloc, &document) {
+) -> Result<Verdict, FormsError>
+    ensures report { IfOk result (IsToldReport checking.entry.format checking.entry.is_strict (W.contents writer.old) (W.contents writer.new)) }
+    ensures reads { IsRead forms_origin (R.remaining rules.old) (R.remaining rules.new) result }
+    ensures writes_nothing { IfErr result (λ e. e ≢ FormsError.Write → (writer.new ≡ writer.old) × (notes.new ≡ notes.old)) }
+{
+    match document_of(alloc, rules) {
+        Ok(document) => tell_files(alloc, &document, files, checking, writer, notes),
+        Err(error) => Err(error),
+    }
+}
+
+// Writes what is found in files under the rules of a document.
+fn tell_files<W: Write, E: Write>(
+    alloc: Global,
+    document: &Value,
+    files: &[TranslationFile<'_>],
+    checking: Checking<'_>,
+    writer: &mut W,
+    notes: &mut E,
+) -> Result<Verdict, FormsError>
+    ensures report { IfOk result (IsToldReport checking.entry.format checking.entry.is_strict (W.contents writer.old) (W.contents writer.new)) }
+    ensures short { IfErr result (λ e. e ≢ FormsError.TooLong) }
+    ensures writes_nothing { IfErr result (λ e. e ≢ FormsError.Write → (writer.new ≡ writer.old) × (notes.new ≡ notes.old)) }
+{
+    match JsonProvider::from_value(alloc, document) {
         Ok(provider) => {
             let source = FallbackProvider {
                 provider: &provider,
-                locales: &document,
+                locales: document,
             };
-            match report_of(alloc, &document, &source, files, checking) {
+            match report_of(alloc, document, &source, files, checking) {
                 Ok(report) => write_report(&report, writer, notes),
                 Err(_) => Err(FormsError::Memory),
             }
