@@ -1,4 +1,3 @@
-pub mod FoundLemmas
 pub mod InputLemmas
 pub mod ItemLemmas
 pub mod JsonTextLemmas

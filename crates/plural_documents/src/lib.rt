@@ -1,9 +1,8 @@
 //! What the programs that read JSON documents share: an input read to a limit, the JSON value of
-//! bytes, how its keys are printed, what a report finds in it, and an output written.
+//! bytes, how its keys are printed, the counts of a report, and an output written.
 #![tactic(auto)]
 
-mod first_lines;
-mod found;
+mod counts;
 mod held_token;
 mod input;
 mod json_number;
@@ -16,8 +15,7 @@ mod printed_key;
 mod token_place;
 mod tokens_left;
 
-pub use first_lines::{MOST_TOLD, add_rest, push_lines};
-pub use found::{Found, MemberCheck, add_members, sum};
+pub use counts::{MOST_TOLD, sum};
 pub use input::{InputError, read_input};
 pub use json::Scratch;
 pub use json_text::{JsonTextError, json_value};
