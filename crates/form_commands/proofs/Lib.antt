@@ -30,5 +30,3 @@ pub mod LeftAlone
 pub mod ConditionValues
 pub mod JoinLemmas
 pub mod GettextLemmas
--- the report of translators' files
-pub mod ReportLemmas

@@ -1,6 +1,5 @@
 -- What is read of the rules.
 use Rattle.std.proofs.Common.{◌≡◌, ℕ, ◌<◌, ◌≤◌, List, length, Option, Result, Ok, Err, inl, inr, refl, subst, arith}
-use Rattle.std.specs.Prelude.{◌≢◌, IfErr}
 use Rattle.message_report.specs.FoundInMessages.{Found}
 use Rattle.message_report.specs.declared.file.MessageFile.{MessageFile}
 use Rattle.plural_documents.specs.Inputs.{IsRead, IsReadAfter, IsReadToEnd, input_origin, most_bytes}
@@ -85,8 +84,3 @@ unfolding IsCheckedAs
 report_read text_of files left rest old new input document r end given checked =
     read_to_end left rest r end
     (λ is. let long = subst (IsCheckedAs text_of files input old new) is checked in not_both (length input) most_bytes given.0 long.0)
-
--- what isn't too long was read to its end
-pub told_read : (left rest : Option (List ℕ)) (r : Result Verdict FormsError) → IsReadToEnd left rest → IfErr r (λ e. e ≢ TooLong)
-    → IsRead forms_origin left rest r
-told_read left rest r end short = read_to_end left rest r end (λ is. subst (λ r. IfErr r (λ e. e ≢ TooLong)) is short refl)
