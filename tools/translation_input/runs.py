@@ -7,8 +7,7 @@ import tempfile
 import threading
 from pathlib import Path
 
-from .files import data_of_file
-from .inputs import input_of
+from .inputs import data_of_file, input_of
 from .lines import Fault
 
 # The seconds after which a run says that it goes on.

@@ -4,14 +4,23 @@ import json
 import re
 
 from .android import Resources, is_reference, key_of, locale_of_folder, texts_of_plurals
-from .catalogs import CHARSET
 from .lines import Fault, shown
 
+# The charsets other than UTF-8 that a catalog can have: those in which ASCII's bytes are ASCII's characters, or nearly.
+CHARSET = r"ascii|iso8859-[0-9]+|cp(874|932|949|950|125[0-8])|koi8-[rtu]|tis-620|euc_(jp|kr)|big5(hkscs)?|gb2312|gbk|gb18030|shift_jis|johab"
 # The charset of a gettext file, as its header names it.
 NAMED = re.compile(rb"(Content-Type:[^\"\n]{0,99}charset=)([^\s\\\"]{1,60})")
 # How many bytes plural_forms reads of a file.
 MOST = 4194304
 WIDE = (codecs.BOM_UTF16_LE, codecs.BOM_UTF16_BE)
+
+
+def data_of_file(path):
+    try:
+        with open(path, "rb") as file:
+            return file.read()
+    except (OSError, ValueError) as fault:
+        raise Fault(f"{path}: it can't be read: {getattr(fault, 'strerror', None) or fault}") from None
 
 
 def notice(line, code, text, severity="error", left_out=0):
@@ -65,10 +74,10 @@ def codec_of(data):
     """Returns the codec of a gettext file in another charset than UTF-8, and none for all others."""
     named = NAMED.search(data)
     try:
-        codec = codecs.lookup(named[2].decode("ascii", "replace")).name if named else "utf-8"
+        codec = codecs.lookup(named[2].decode("ascii", "replace")).name if named else ""
     except (LookupError, ValueError):
         return None
-    return codec if codec != "utf-8" and re.fullmatch(CHARSET, codec) else None
+    return codec if re.fullmatch(CHARSET, codec) else None
 
 
 def in_utf8(data):

@@ -4,10 +4,9 @@ import re
 from typing import NamedTuple
 from xml.parsers import expat
 
-from .document import CATEGORIES
-from .files import text_of
-from .formats import Text, arguments, marked, note_of, number_of, of_source, source_of
 from .lines import Fault, shown
+
+CATEGORIES = ("zero", "one", "two", "few", "many", "other")
 
 
 def android_text(text, name):
@@ -24,7 +23,10 @@ def android_text(text, name):
             found.append({"n": "\n", "t": "\t"}.get(part[1], part[1]))
         else:
             found.append(" " if part.isspace() and not is_quoted else part)
-    return text_of("".join(found), name)
+    made = "".join(found)
+    if re.search("[\ud800-\udfff]", made):
+        raise Fault(f"{name}: {shown(made)} has a surrogate without its pair, which no text has: correct it")
+    return made
 
 
 class Item(NamedTuple):
@@ -111,7 +113,7 @@ def key_of(plurals, more):
     """Returns the key of a plurals: what is for some devices or networks alone has their qualifiers in it."""
     if plurals.name is None:
         raise Fault("a plurals has no name: give it one")
-    return text_of(plurals.name, "name") + (f" ({more})" if more else "")
+    return plurals.name + (f" ({more})" if more else "")
 
 
 def is_reference(texts):
@@ -130,36 +132,3 @@ def locale_of_folder(path):
     folder = FOLDER.fullmatch(os.path.basename(os.path.dirname(os.path.abspath(path))))
     own = folder and "-".join(it for it in (folder[2] or folder[3], folder[4]) if it).replace("+", "-")
     return own, folder and (folder[1] + folder[5])[1:]
-
-
-def read_android(document, data, path):
-    resources = Resources(data)
-    if resources.fault:
-        line, text = resources.fault
-        raise Fault(f"{path}:{line}: {text}" if line else f"{path}: {text}")
-    if resources.root != "resources":
-        return False
-    own, more = locale_of_folder(path)
-    if not resources.found:
-        return True
-    locale = document.locale_or_none(own, path, len(resources.found))
-    for it in resources.found if locale else ():
-        document.attempt(add_plurals, it, locale, more, place=f"{path}:{it.line}")
-    return True
-
-
-def add_plurals(document, plurals, locale, more, place):
-    """Adds a message."""
-    key = key_of(plurals, more)
-    texts = texts_of_plurals(plurals, shown(key))
-    if is_reference(texts):
-        document.leave_out(f"{place}: note: {shown(key)} refers to another resource: left out", is_fault=False)
-        return
-    found = {name: arguments("Android", it) for name, it in texts.items()}
-    pairs = [Text(texts[name], found[name]) for name in reversed(CATEGORIES) if name in texts]
-    longest = max(pairs, key=lambda it: len(it.found), default=Text("", []))
-    number = number_of(longest, Text(texts["one"], found["one"]) if "one" in texts else longest)
-    # The source isn't known: if no form has the number, it has none, either.
-    source = None if number else source_of(longest.found, number)
-    forms = {name: marked(it, of_source(found[name], longest.found), number) for name, it in texts.items()}
-    document.add(locale, "cardinal", key, forms, place, source, note_of(longest.found, longest.found, number))

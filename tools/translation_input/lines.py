@@ -1,4 +1,4 @@
-"""Lines on standard error, and what is wrong with a file or a message."""
+"""What is wrong with a file or a message, and how it is told."""
 import os
 
 
@@ -15,21 +15,17 @@ def shown(text):
     return repr(text if len(text) <= 60 else text[:57] + "..")
 
 
-def write(handle, text):
-    """Writes all of a text, without a buffer: what is wrong is known when it returns."""
-    left = memoryview(text.encode("utf-8", errors="backslashreplace"))
+def write(handle, data):
+    """Writes all bytes, without a buffer: what is wrong is known when it returns."""
+    left = memoryview(data)
     while left:
         left = left[os.write(handle, left) :]
 
 
 def say(text):
-    """Writes a line on standard error."""
+    """Writes a line on standard error, as a terminal can show it."""
+    line = text if text.isprintable() else "".join(it if it.isprintable() else ascii(it)[1:-1] for it in text)
     try:
-        write(2, f"{printable(text)}\n")
+        write(2, f"{line}\n".encode())
     except OSError:
         pass  # the status says it
-
-
-def printable(text):
-    """Returns a text as one line that a terminal can show."""
-    return text if text.isprintable() else "".join(it if it.isprintable() else ascii(it)[1:-1] for it in text)

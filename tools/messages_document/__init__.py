@@ -1,1 +1,0 @@
-"""What tools/messages-document and tools/translation-input are made of."""

@@ -1,0 +1,1 @@
+"""What tools/translation-input is made of."""
