@@ -1,10 +1,7 @@
-use Rattle.std.proofs.Common.{◌≤◌, List, Option, Bor, None, Some, length, subst, arith}
+use Rattle.std.proofs.Common.{◌≤◌, None, length, arith}
 use Rattle.fixed_decimal.specs.Written.{CompactNumber}
-use Rattle.message_pattern.specs.declared.part.Part as parts
 use Rattle.message_pattern.specs.PatternParts.{parts_view, branches_of}
 use Rattle.message_format.specs.FormatBranches.{Equals}
-use Rattle.message_format.specs.Inner.FormatPlain.{plain_number}
-use Rattle.message_format.specs.Inner.FormatViews.{any_parts}
 use Rattle.message_format.specs.Inner.FormatWalks.{IsFirst, PassedFor}
 use Rattle.message_format.proofs.Plainly.{of_plain, counted_plain}
 use Rattle.message_format.proofs.steps.counted.Goals as goal
