@@ -1,24 +1,25 @@
 -- A plural with an offset.
-use Rattle.std.proofs.Common.{◌≡◌, ◌≤◌, ℕ, List, Result, Ok, Err, refl, sym, subst, ap, ◌∙◌, inl, inr, arith}
+use Rattle.std.proofs.Common.{◌≡◌, ◌≤◌, ℕ, List, Some, None, Result, Ok, Err, refl, sym, subst, ap, ◌∙◌, inl, inr, arith}
 use Rattle.std.proofs.lemmas.List.{append-nil}
 use Rattle.fixed_decimal.specs.Places.{Places, IsWithinLimit, IsOverLimit}
 use Rattle.fixed_decimal.specs.Shown.{decimal_text, CompactReadAgain}
 use Rattle.fixed_decimal.specs.Written.{CompactNumber, WritesUnsigned, WritesCompact, IsCompactOverLimit, OneCompact}
 use Rattle.fixed_decimal.specs.declared.decimal.Decimal.{Decimal}
+use Rattle.fixed_decimal.specs.declared.error.DecimalError.{DecimalError}
+use Rattle.fixed_decimal.specs.declared.error.DecimalError.TheVariants as number
 use Rattle.plural_base.specs.FiveRules.{FiveRules}
 use Rattle.message_pattern.specs.PatternParts.{Part, Branching}
-use Rattle.message_format.specs.declared.error.ArgumentFault.TheVariants.{NotANumber, OverLimit}
+use Rattle.message_format.specs.declared.error.ArgumentFault.TheVariants.{OverLimit}
 use Rattle.message_format.specs.declared.error.FormatError.{FormatError}
 use Rattle.message_format.specs.declared.error.FormatError.TheVariants as error
-use Rattle.message_format.specs.declared.step.Step as steps
 use Rattle.message_format.specs.FormatBranches.{IsBranchOfNumber}
 use Rattle.message_format.specs.FormatOffsets.{IsDifference, plain}
-use Rattle.message_format.specs.FormatSteps.{Step, Chooses, Fails, IsCountedBy, IsLess, IsCountedLess}
-use Rattle.message_format.specs.Inner.FormatViews.{step_view, GivesStep}
-use Rattle.message_format.proofs.Equal.{within}
+use Rattle.message_format.specs.FormatSteps.{Step, Chooses, Fails, StepsFromNumber, IsCountedBy, IsLess, IsCountedLess}
+use Rattle.message_format.specs.Inner.FormatViews.{Choice, step_view, GivesStep, fault_step, number_step}
+use Rattle.message_format.proofs.Equal.{within, refused}
 
 -- what follows from each step follows from what is returned
-gives : (r : Result steps.Step FormatError) (P Q : Step → Type 0) → ((s : Step) → P s → Q s) → GivesStep P r → GivesStep Q r
+pub gives : (r : Result Choice FormatError) (P Q : Step → Type 0) → ((s : Step) → P s → Q s) → GivesStep P r → GivesStep Q r
 gives (Ok s) P Q f h = f (step_view s) h
 gives (Err (error.Argument fault name)) P Q f h = f (Fails fault name.now) h
 gives (Err error.Memory) P Q f h = tt
@@ -52,41 +53,60 @@ module _ (one : OneCompact) (again : CompactReadAgain) (rules : FiveRules) (name
       let limit : IsWithinLimit s.0.absolute = subst (λ (y : CompactNumber). IsWithinLimit y.significand.absolute) e l in
       (s.0, s.1, inr (not_over s.0.absolute limit, (parts, subst (λ (y : CompactNumber). IsBranchOfNumber rules x y bs parts) e h, ap (λ (t : List ℕ). Chooses t parts) s.2)))
 
-  pub over : (y : CompactNumber) × WritesCompact shown y × IsCompactOverLimit y
+  over : (y : CompactNumber) × WritesCompact shown y × IsCompactOverLimit y
       → (d : Decimal) × IsDifference x.significand o d × IsCountedBy rules name bs x d (Fails OverLimit name)
   over w = elim (subst (λ (y : CompactNumber). IsCompactOverLimit y) (is_plain w.0 w.1) w.2) [
     | inl h ↦ (s.0, s.1, inl (h, refl))
     | inr h ↦ absurd (omega arith)
   ]
 
-  pub no_text : ((y : CompactNumber) → WritesCompact shown y → ⊥) → ⊥
-  no_text h = h (plain s.0) (subst (λ (t : List ℕ). WritesCompact t (plain s.0)) (sym same) (writes_plain again x.significand o text s))
+  -- it is over the limit, or memory ran out
+  pub less_refused : {B : Type 0} (r : Result B DecimalError) (e : DecimalError) (f : FormatError) → r ≡ Err e → fault_step f ≡ number_step name e
+      → (r ≡ Err number.Syntax → (y : CompactNumber) → WritesCompact shown y → ⊥)
+      → (r ≡ Err number.Limit → (y : CompactNumber) × WritesCompact shown y × IsCompactOverLimit y)
+      → GivesStep (λ (t : Step). (d : Decimal) × IsDifference x.significand o d × IsCountedBy rules name bs x d t) (Err f)
+  less_refused r number.Syntax f is e none limit =
+      absurd (none is (plain s.0) (subst (λ (t : List ℕ). WritesCompact t (plain s.0)) (sym same) (writes_plain again x.significand o text s)))
+  less_refused r number.Limit (error.Argument fault n) is e none limit =
+      let both : Some (Fails fault n.now) ≡ Some (Fails OverLimit name) = e in
+      let step : Fails OverLimit name ≡ Fails fault n.now = cc in
+      subst (λ (t : Step). (d : Decimal) × IsDifference x.significand o d × IsCountedBy rules name bs x d t) step (over (limit is))
+  less_refused r number.Memory (error.Argument fault n) is e none limit = let both : Some (Fails fault n.now) ≡ None = e in cc
+  less_refused r number.Limit error.Memory is e none limit = tt
+  less_refused r number.Memory error.Memory is e none limit = tt
 
 -- ---- the text of an offset
 
 module _ (rules : FiveRules) (name : List ℕ) (bs : List Branching) (digits : List ℕ) (x : CompactNumber) (plain_number : x.exponent ≡ 0) where
-  pub no_offset : ((o : Places) → WritesUnsigned digits o → ⊥) → IsLess rules name bs digits x (Fails NotANumber name)
-  no_offset h = inr (plain_number, inl (h, refl))
+  -- the step from an offset
+  abbrev From : Places → Step → Type 0
+  From o s = (d : Decimal) × IsDifference x.significand o d × IsCountedBy rules name bs x d s
 
-  pub offset_over : (text : List ℕ) → text ≡ digits → (o : Places) × WritesUnsigned text o × IsOverLimit o → IsLess rules name bs digits x (Fails OverLimit name)
-  offset_over text e h = inr (plain_number, inr (inl ((h.0, subst (λ (t : List ℕ). WritesUnsigned t h.0) e h.1, h.2), refl)))
+  pub offset_refused : {B : Type 0} (r : Result B DecimalError) (e : DecimalError) (f : FormatError) → r ≡ Err e → fault_step f ≡ number_step name e
+      → (r ≡ Err number.Syntax → (o : Places) → WritesUnsigned digits o → ⊥) → (r ≡ Err number.Limit → (o : Places) × WritesUnsigned digits o × IsOverLimit o)
+      → GivesStep (λ (s : Step). IsLess rules name bs digits x s) (Err f)
+  offset_refused r e f is step none limit =
+      gives (Err f) (λ (s : Step). StepsFromNumber (λ o. WritesUnsigned digits o) (λ o. IsOverLimit o) name (λ o t. From o t) s) (λ (s : Step). IsLess rules name bs digits x s)
+      (λ s k. inr (plain_number, k))
+      (refused (λ o. WritesUnsigned digits o) (λ o. IsOverLimit o) name (λ o t. From o t) r e f is step none limit)
 
-  offset_read : (text : List ℕ) (o : Places) (s : Step) → text ≡ digits → WritesUnsigned text o → IsWithinLimit o
-      → (d : Decimal) × IsDifference x.significand o d × IsCountedBy rules name bs x d s → IsLess rules name bs digits x s
-  offset_read text o s e w l h = inr (plain_number, inr (inr (o, subst (λ (t : List ℕ). WritesUnsigned t o) e w, not_over o l, h)))
-
-  pub offset_gives : (text : List ℕ) (o : Places) (r : Result steps.Step FormatError) → text ≡ digits → WritesUnsigned text o → IsWithinLimit o
-      → GivesStep (λ (s : Step). (d : Decimal) × IsDifference x.significand o d × IsCountedBy rules name bs x d s) r
-      → GivesStep (λ (s : Step). IsLess rules name bs digits x s) r
-  offset_gives text o r e w l h =
-      gives r (λ (s : Step). (d : Decimal) × IsDifference x.significand o d × IsCountedBy rules name bs x d s) (λ (s : Step). IsLess rules name bs digits x s)
-      (λ s k. offset_read text o s e w l k) h
+  pub offset_gives : (o : Places) (r : Result Choice FormatError) → WritesUnsigned digits o → IsWithinLimit o
+      → GivesStep (λ (s : Step). From o s) r → GivesStep (λ (s : Step). IsLess rules name bs digits x s) r
+  offset_gives o r w l h =
+      gives r (λ (s : Step). From o s) (λ (s : Step). IsLess rules name bs digits x s) (λ s k. inr (plain_number, inr (inr (o, w, not_over o l, k)))) h
 
 -- ---- the text of a number
 
-pub number_gives : (rules : FiveRules) (name : List ℕ) (bs : List Branching) (digits text : List ℕ) (x : CompactNumber) (r : Result steps.Step FormatError)
+pub number_gives : (rules : FiveRules) (name : List ℕ) (bs : List Branching) (digits text : List ℕ) (x : CompactNumber) (r : Result Choice FormatError)
     → WritesCompact text x → IsWithinLimit x.significand.absolute → x.exponent ≤ 255 → GivesStep (λ (s : Step). IsLess rules name bs digits x s) r
     → GivesStep (λ (s : Step). IsCountedLess rules name bs digits text s) r
 number_gives rules name bs digits text x r w l e h =
     gives r (λ (s : Step). IsLess rules name bs digits x s) (λ (s : Step). IsCountedLess rules name bs digits text s)
     (λ s k. inr (inr (x, w, within x l e, k))) h
+
+pub number_refused : {B : Type 0} (rules : FiveRules) (name : List ℕ) (bs : List Branching) (digits text : List ℕ) (r : Result B DecimalError) (e : DecimalError) (f : FormatError)
+    → r ≡ Err e → fault_step f ≡ number_step name e
+    → (r ≡ Err number.Syntax → (x : CompactNumber) → WritesCompact text x → ⊥) → (r ≡ Err number.Limit → (x : CompactNumber) × WritesCompact text x × IsCompactOverLimit x)
+    → GivesStep (λ s. IsCountedLess rules name bs digits text s) (Err f)
+number_refused rules name bs digits text r e f is same none over =
+    refused (λ x. WritesCompact text x) (λ x. IsCompactOverLimit x) name (λ x s. IsLess rules name bs digits x s) r e f is same none over

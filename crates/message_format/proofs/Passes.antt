@@ -1,13 +1,15 @@
 -- The first of the parts that are left, and the branch at their front.
-use Rattle.std.proofs.Common.{◌≡◌, ◌≤◌, ◌<◌, ◌-◌, ℕ, List, [], ◌∷◌, Option, Some, false, nat_lt, length, take, drop, get_or, refl, sym, ap, subst, inl, inr, arith}
+use Rattle.std.proofs.Common.{◌≡◌, ◌≤◌, ◌<◌, ◌-◌, ℕ, List, [], ◌∷◌, Option, Some, Bool, true, false, nat_lt, if◌then◌else◌, length, take, drop, get_or, refl, sym, ap, subst, inl, inr, arith}
+use Rattle.std.specs.Bool.{IsTrue}
 use Rattle.std.proofs.lemmas.List.{take_all}
 use Rattle.std.proofs.lemmas.Bool.Decides.{nat_tests}
 use Rattle.fixed_decimal.specs.Written.{CompactNumber}
 use Rattle.message_pattern.specs.declared.part.Part as parts
 use Rattle.message_pattern.specs.declared.part.Piece.TheVariants as pieces
 use Rattle.message_pattern.specs.declared.part.Selector as selectors
-use Rattle.message_pattern.specs.PatternParts.{Part, parts_view, selector_view, Branching, branches_of}
-use Rattle.message_format.specs.FormatBranches.{Equals, IsBranchOfValue, behind_end}
+use Rattle.message_pattern.specs.PatternParts.{Part, Selector, parts_view, selector_view, Branching, branches_of}
+use Rattle.message_format.specs.FormatBranches.{Equals, IsBranchOfValue, behind_end, is_keyword, branch_of_keyword}
+use Rattle.message_format.specs.Inner.FormatWalks.{IsFirst}
 
 -- what stands for a part that isn't there
 abbrev pub no_part : parts.Part
@@ -30,21 +32,21 @@ branches_from depth p rest s h is =
     let f : nat_lt depth p.depth ≡ false = grind (arith, nat_tests) in
     rw (f, is)
 
--- a branch that isn't of the number is passed
-pub passed : (x : CompactNumber) (depth : ℕ) (ps : List parts.Part) (p : parts.Part) (rest : List parts.Part) (s : selectors.Selector) (found : Option (List Part))
-    → ps ≡ p ∷ rest → p.depth ≤ depth → p.piece ≡ pieces.Branch s → (Equals x (selector_view s) → ⊥)
-    → IsBranchOfValue x (branches_of depth (parts_view rest)) found → IsBranchOfValue x (branches_of depth (parts_view ps)) found
-passed x depth ps p rest s found e h is other k =
-    subst (λ (l : List parts.Part). IsBranchOfValue x (branches_of depth (parts_view l)) found) (sym e)
-    (subst (λ (l : List Branching). IsBranchOfValue x l found) (sym (branches_from depth p rest s h is)) (inr (other, k)))
+-- a branch that isn't chosen is passed
+pub passed : (P : Selector → Type 0) (depth : ℕ) (ps : List parts.Part) (p : parts.Part) (rest : List parts.Part) (s : selectors.Selector) (found : Option (List Part))
+    → ps ≡ p ∷ rest → p.depth ≤ depth → p.piece ≡ pieces.Branch s → (P (selector_view s) → ⊥)
+    → IsFirst P (branches_of depth (parts_view rest)) found → IsFirst P (branches_of depth (parts_view ps)) found
+passed P depth ps p rest s found e h is other k =
+    subst (λ (l : List parts.Part). IsFirst P (branches_of depth (parts_view l)) found) (sym e)
+    (subst (λ (l : List Branching). IsFirst P l found) (sym (branches_from depth p rest s h is)) (inr (other, k)))
 
--- a branch that is of the number is chosen
-pub taken : (x : CompactNumber) (depth : ℕ) (ps : List parts.Part) (p : parts.Part) (rest : List parts.Part) (s : selectors.Selector)
-    → ps ≡ p ∷ rest → p.depth ≤ depth → p.piece ≡ pieces.Branch s → Equals x (selector_view s)
-    → IsBranchOfValue x (branches_of depth (parts_view ps)) (Some (parts_view rest))
-taken x depth ps p rest s e h is same =
-    subst (λ (l : List parts.Part). IsBranchOfValue x (branches_of depth (parts_view l)) (Some (parts_view rest))) (sym e)
-    (subst (λ (l : List Branching). IsBranchOfValue x l (Some (parts_view rest))) (sym (branches_from depth p rest s h is)) (inl (same, refl)))
+-- a branch that is chosen is the first
+pub taken : (P : Selector → Type 0) (depth : ℕ) (ps : List parts.Part) (p : parts.Part) (rest : List parts.Part) (s : selectors.Selector)
+    → ps ≡ p ∷ rest → p.depth ≤ depth → p.piece ≡ pieces.Branch s → P (selector_view s)
+    → IsFirst P (branches_of depth (parts_view ps)) (Some (parts_view rest))
+taken P depth ps p rest s e h is same =
+    subst (λ (l : List parts.Part). IsFirst P (branches_of depth (parts_view l)) (Some (parts_view rest))) (sym e)
+    (subst (λ (l : List Branching). IsFirst P l (Some (parts_view rest))) (sym (branches_from depth p rest s h is)) (inl (same, refl)))
 
 -- the end of the argument isn't a branch
 pub behind_branch : (depth : ℕ) (ps : List parts.Part) (p : parts.Part) (rest : List parts.Part) (s : selectors.Selector)
@@ -52,3 +54,23 @@ pub behind_branch : (depth : ℕ) (ps : List parts.Part) (p : parts.Part) (rest 
 behind_branch depth ps p rest s e h is =
     let f : nat_lt depth p.depth ≡ false = grind (arith, nat_tests) in
     subst (λ (l : List parts.Part). behind_end depth (parts_view rest) ≡ behind_end depth (parts_view l)) (sym e) (rw (f, is) refl)
+
+-- ---- the first branch that is chosen by a value, and by a keyword
+
+pub of_value : (x : CompactNumber) (bs : List Branching) (found : Option (List Part)) → IsFirst (λ s. Equals x s) bs found → IsBranchOfValue x bs found
+of_value x [] found h = h
+of_value x (b ∷ bs) found (inl h) = inl h
+of_value x (b ∷ bs) found (inr h) = inr (h.0, of_value x bs found h.1)
+
+not_true : (b : Bool) → (IsTrue b → ⊥) → b ≡ false
+not_true false h = refl
+not_true true h = absurd (h refl)
+
+pub of_keyword : (word : List ℕ) (bs : List Branching) (found : Option (List Part)) → IsFirst (λ s. IsTrue (is_keyword word s)) bs found → found ≡ branch_of_keyword word bs
+of_keyword word [] found h = h
+of_keyword word (b ∷ bs) found (inl h) =
+    let is : is_keyword word b.selector ≡ true = h.0 in
+    subst (λ (t : Bool). found ≡ (if t then Some b.parts else branch_of_keyword word bs)) (sym is) h.1
+of_keyword word (b ∷ bs) found (inr h) =
+    subst (λ (t : Bool). found ≡ (if t then Some b.parts else branch_of_keyword word bs)) (sym (not_true (is_keyword word b.selector) h.0))
+    (of_keyword word bs found h.1)

@@ -1,5 +1,5 @@
 -- Numbers that are written plainly: digits, with a fraction or none.
-use Rattle.std.proofs.Common.{◌≡◌, ◌↔◌, ◌+◌, ◌-◌, ◌≤◌, ◌<◌, ◌&&◌, ℕ, zero, suc, ℤ, pos, negsuc, ◌-ℤ◌, Bool, true, false, List, [], ◌∷◌, ◌++◌, map, length, reverse, get_or, refl, sym, ap, subst, ◌∙◌, inl, inr, arith, Some}
+use Rattle.std.proofs.Common.{◌≡◌, ◌↔◌, ◌+◌, ◌-◌, ◌≤◌, ◌<◌, ◌&&◌, ℕ, zero, suc, ℤ, pos, negsuc, ◌-ℤ◌, Bool, true, false, List, [], ◌∷◌, ◌++◌, length, reverse, get_or, refl, sym, ap, subst, ◌∙◌, inl, inr, arith, Some}
 use Rattle.std.specs.Bool.{IsTrue, Decides, ◌==◌}
 use Rattle.std.specs.Char.{is_ascii_digit}
 use Rattle.std.specs.List.{list_all}
@@ -15,21 +15,11 @@ use Rattle.plural_base.specs.FiveRules.{FiveRules}
 use Rattle.message_pattern.specs.PatternParts.{Part, Branching}
 use Rattle.message_format.specs.FormatSteps.{Chooses, IsCounted}
 use Rattle.message_format.proofs.Equal.{counted_by}
-use Rattle.message_format.specs.FormatBranches.{EqualsWritten, IsBranchOfValue}
+use Rattle.message_format.proofs.Passes.{of_value}
+use Rattle.message_format.specs.FormatBranches.{Equals, EqualsWritten}
 use Rattle.message_format.specs.FormatNumbers.{digit_of, HaveSameValue}
-use Rattle.message_format.specs.Inner.FormatPlain.{is_zero, IsNumeral, IsPlain}
-
--- the digits that bytes write
-abbrev pub digits_in : List ℕ → List ℕ
-digits_in s = map (λ b. b - 48) s
-
--- the number that bytes of digits write, before and behind the point
-abbrev pub plainly : List ℕ → List ℕ → CompactNumber
-plainly whole fraction =
-    record {
-      significand = record { sign = sign.None; absolute = record { whole = digits_in whole; fraction = digits_in fraction } };
-      exponent = 0;
-    }
+use Rattle.message_format.specs.Inner.FormatPlain.{is_zero, digits_in, plain_number, IsNumeral, IsPlain, ArePlain}
+use Rattle.message_format.specs.Inner.FormatWalks.{IsFirst}
 
 -- if a conjunction is true, both its parts are
 both_true : (a b : Bool) → (a && b) ≡ true → (a ≡ true) × (b ≡ true)
@@ -54,7 +44,7 @@ written (b ∷ s) h =
     ap (λ (n : ℕ). n ∷ text_of (digits_in s)) e ∙ ap (λ (l : List ℕ). b ∷ l) (written s p.1)
 
 -- digits write a whole number
-pub writes_whole : (s : List ℕ) → list_all is_ascii_digit s ≡ true → 0 < length s → WritesCompact s (plainly s [])
+pub writes_whole : (s : List ℕ) → list_all is_ascii_digit s ≡ true → 0 < length s → WritesCompact s (plain_number s [])
 writes_whole s h some = (
   s,
   [],
@@ -72,7 +62,7 @@ writes_whole s h some = (
 
 -- digits, a point and digits write a number
 pub writes_both : (s f : List ℕ) → list_all is_ascii_digit s ≡ true → 0 < length s → list_all is_ascii_digit f ≡ true → 0 < length f
-    → WritesCompact (s ++ 46 ∷ f) (plainly s f)
+    → WritesCompact (s ++ 46 ∷ f) (plain_number s f)
 writes_both s f h some k more = (
   s ++ 46 ∷ f,
   [],
@@ -93,15 +83,15 @@ writes_both s f h some k more = (
 
 -- ---- the digits at the powers of ten
 
-before_point : (w f : List ℕ) (k : ℕ) → digit_of (plainly w f) (pos k) ≡ get_or (reverse (digits_in w)) k 0
+before_point : (w f : List ℕ) (k : ℕ) → digit_of (plain_number w f) (pos k) ≡ get_or (reverse (digits_in w)) k 0
 before_point w f k =
     let e : pos k -ℤ pos 0 ≡ pos k = omega (arith, ints) in
-    ap (λ (i : ℤ). digit_at (plainly w f).significand.absolute i) e
+    ap (λ (i : ℤ). digit_at (plain_number w f).significand.absolute i) e
 
-behind_point : (w f : List ℕ) (k : ℕ) → digit_of (plainly w f) (negsuc k) ≡ get_or (digits_in f) k 0
+behind_point : (w f : List ℕ) (k : ℕ) → digit_of (plain_number w f) (negsuc k) ≡ get_or (digits_in f) k 0
 behind_point w f k =
     let e : negsuc k -ℤ pos 0 ≡ negsuc k = omega (arith, ints) in
-    ap (λ (i : ℤ). digit_at (plainly w f).significand.absolute i) e
+    ap (λ (i : ℤ). digit_at (plain_number w f).significand.absolute i) e
 
 first_zero : (s : List ℕ) → list_all is_ascii_digit s ≡ true → 0 < length s → get_or (digits_in s) 0 0 ≡ 0 → get_or s 0 0 ≡ 48
 first_zero [] h n e = absurd (omega arith)
@@ -163,43 +153,15 @@ no_digit (b ∷ f) h (suc k) = no_digit f (both_true (is_zero b) (list_all is_ze
 
 -- ---- the same value
 
-same_value : (w f v : List ℕ) → w ≡ v → list_all is_zero f ≡ true → HaveSameValue (plainly w f) (plainly v [])
+same_value : (w f v : List ℕ) → w ≡ v → list_all is_zero f ≡ true → HaveSameValue (plain_number w f) (plain_number v [])
 same_value w f v e z = record {
   digits = λ k.
-      elim k as (λ (i : ℤ). digit_of (plainly w f) i ≡ digit_of (plainly v []) i) [
+      elim k as (λ (i : ℤ). digit_of (plain_number w f) i ≡ digit_of (plain_number v []) i) [
         | pos n ↦ before_point w f n ∙ (ap (λ (l : List ℕ). get_or (reverse (digits_in l)) n 0) e ∙ sym (before_point v [] n))
         | negsuc n ↦ behind_point w f n ∙ (no_digit f z n ∙ sym (behind_point v [] n))
       ];
   signs = (λ s. let e : sign.None ≡ sign.Negative = s.0 in cc, λ s. let e : sign.None ≡ sign.Negative = s.0 in cc);
 }
-
--- where both numbers are written plainly, their digits tell whether they have the same value
-pub decided : OneCompact → (text written w f v : List ℕ) (b : Bool) → WritesCompact text (plainly w f) → WritesCompact written (plainly v [])
-    → list_all is_ascii_digit w ≡ true → list_all is_ascii_digit f ≡ true → list_all is_ascii_digit v ≡ true → IsNumeral w → IsNumeral v
-    → length w ≤ 32767 → IsTrue b ↔ ((w ≡ v) × (list_all is_zero f ≡ true))
-    → (x : CompactNumber) → WritesCompact text x → IsTrue b ↔ EqualsWritten x written
-decided one text written w f v b p q dw df dv n m short test x k =
-    let is : plainly w f ≡ x = one text (plainly w f) x p k in
-    let yes : IsTrue b → EqualsWritten (plainly w f) written = λ t.
-    let both = test.0 t in
-    let fits : length (digits_in v) ≤ 32767 = omega (arith, length-map v (λ (b : ℕ). b - 48), ap (λ (l : List ℕ). length l) both.0) in
-    let within : IsCompactOverLimit (plainly v []) → ⊥ = λ o.
-    elim o [
-      | inl side ↦ elim side [ inl over ↦ omega arith | inr over ↦ omega arith ]
-      | inr over ↦ omega arith
-    ]
-    in
-    (plainly v [], q, within, same_value w f v both.0 both.1)
-    in
-    let no : EqualsWritten (plainly w f) written → IsTrue b = λ e.
-    let other : e.0 ≡ plainly v [] = one written e.0 (plainly v []) e.1 q in
-    let same : HaveSameValue (plainly w f) (plainly v []) = subst (λ (y : CompactNumber). HaveSameValue (plainly w f) y) other e.3 in
-    test.1 (
-      same_digits w v dw dv n m (λ i. sym (before_point w f i) ∙ (same.digits (pos i) ∙ before_point v [] i)),
-      zeros f df (λ i. sym (behind_point w f i) ∙ (same.digits (negsuc i) ∙ behind_point v [] i)),
-    )
-    in
-    subst (λ (y : CompactNumber). IsTrue b ↔ EqualsWritten y written) is (yes, no)
 
 -- ---- two texts of which the digits at the front were split off
 
@@ -211,20 +173,20 @@ only : (s front rest : List ℕ) → s ≡ front ++ rest → length rest < 1 →
 only s front rest e h = e ∙ (ap (λ (l : List ℕ). front ++ l) (nothing rest h) ∙ append-nil front)
 
 is_written : (written v behind : List ℕ) → written ≡ v ++ behind → true ≡ (length behind == 0) → list_all is_ascii_digit v ≡ true → IsNumeral v
-    → WritesCompact written (plainly v [])
+    → WritesCompact written (plain_number v [])
 is_written written v behind e h d n =
     let none : length behind < 1 = grind (arith, nat_tests) in
-    subst (λ (t : List ℕ). WritesCompact t (plainly v [])) (sym (only written v behind e none)) (writes_whole v d n.nonempty)
+    subst (λ (t : List ℕ). WritesCompact t (plain_number v [])) (sym (only written v behind e none)) (writes_whole v d n.nonempty)
 
 -- such digits write the number
-writes_plain : (text w f : List ℕ) → IsPlain text w f → WritesCompact text (plainly w f)
+writes_plain : (text w f : List ℕ) → IsPlain text w f → WritesCompact text (plain_number w f)
 writes_plain text w f p =
     elim p.form [
       | inl whole ↦
-          subst (λ (g : List ℕ). WritesCompact text (plainly w g)) (sym whole.0)
-          (subst (λ (t : List ℕ). WritesCompact t (plainly w [])) (sym whole.1) (writes_whole w p.whole_digits p.numeral.nonempty))
+          subst (λ (g : List ℕ). WritesCompact text (plain_number w g)) (sym whole.0)
+          (subst (λ (t : List ℕ). WritesCompact t (plain_number w [])) (sym whole.1) (writes_whole w p.whole_digits p.numeral.nonempty))
       | inr both ↦
-          subst (λ (t : List ℕ). WritesCompact t (plainly w f)) (sym both.1) (writes_both w f p.whole_digits p.numeral.nonempty p.fraction_digits both.0)
+          subst (λ (t : List ℕ). WritesCompact t (plain_number w f)) (sym both.1) (writes_both w f p.whole_digits p.numeral.nonempty p.fraction_digits both.0)
     ]
 
 -- they are no more than the text's
@@ -238,25 +200,51 @@ no_more text w f p =
       )
     ]
 
--- the other is a whole number
-pub at_sight : OneCompact → (text written w f v behind : List ℕ) (b : Bool) → IsPlain text w f → length text ≤ 32767
+-- where both are written plainly, their digits tell whether they have the same value
+pub at_sight : OneCompact → (written w f v behind : List ℕ) (b : Bool) → ArePlain w f
     → written ≡ v ++ behind → true ≡ (length behind == 0) → list_all is_ascii_digit v ≡ true → IsNumeral v
     → Decides b ((w ≡ v) × (list_all is_zero f ≡ true))
-    → (x : CompactNumber) → WritesCompact text x → IsTrue b ↔ EqualsWritten x written
-at_sight one text written w f v behind b p short e none d n test =
-    let l = no_more text w f p in
-    decided one text written w f v b (writes_plain text w f p) (is_written written v behind e none d n) p.whole_digits p.fraction_digits d p.numeral n (omega (arith, l.0)) test
+    → IsTrue b ↔ EqualsWritten (plain_number w f) written
+at_sight one written w f v behind b plain e none d m test =
+    let p = plain.1 in
+    let l = no_more plain.0 w f p in
+    let q = is_written written v behind e none d m in
+    let yes : IsTrue b → EqualsWritten (plain_number w f) written = λ t.
+    let both = test.0 t in
+    let fits : length (digits_in v) ≤ 32767 = omega (arith, l.0, length-map v (λ (b : ℕ). b - 48), ap (λ (l : List ℕ). length l) both.0) in
+    let within : IsCompactOverLimit (plain_number v []) → ⊥ = λ o.
+    elim o [
+      | inl side ↦ elim side [ inl over ↦ omega arith | inr over ↦ omega arith ]
+      | inr over ↦ omega arith
+    ]
+    in
+    (plain_number v [], q, within, same_value w f v both.0 both.1)
+    in
+    let no : EqualsWritten (plain_number w f) written → IsTrue b = λ e.
+    let other : e.0 ≡ plain_number v [] = one written e.0 (plain_number v []) e.1 q in
+    let same : HaveSameValue (plain_number w f) (plain_number v []) = subst (λ (y : CompactNumber). HaveSameValue (plain_number w f) y) other e.3 in
+    test.1 (
+      same_digits w v p.whole_digits d p.numeral m (λ i. sym (before_point w f i) ∙ (same.digits (pos i) ∙ before_point v [] i)),
+      zeros f p.fraction_digits (λ i. sym (behind_point w f i) ∙ (same.digits (negsuc i) ∙ behind_point v [] i)),
+    )
+    in
+    (yes, no)
+
+-- what holds of the number that they write holds of each that the text writes
+pub of_plain : OneCompact → (P : CompactNumber → Type 0) (text s w f : List ℕ) (x : CompactNumber) → IsPlain text w f → text ≡ s → P (plain_number w f) → WritesCompact s x → P x
+of_plain one P text s w f x p same h writes =
+    subst P (one s (plain_number w f) x (subst (λ (t : List ℕ). WritesCompact t (plain_number w f)) same (writes_plain text w f p)) writes) h
 
 -- the number that they write is chosen for its value
 pub counted_plain : (rules : FiveRules) (name : List ℕ) (bs : List Branching) (text shown w f : List ℕ) (parts : List Part)
-    → IsPlain text w f → length text ≤ 32767 → ((x : CompactNumber) → WritesCompact text x → IsBranchOfValue x bs (Some parts)) → shown ≡ text
+    → IsPlain shown w f → length shown ≤ 32767 → IsFirst (λ s. Equals (plain_number w f) s) bs (Some parts) → shown ≡ text
     → IsCounted rules name bs text (Chooses shown parts)
 counted_plain rules name bs text shown w f parts p short chosen same =
-    let x = plainly w f in
-    let writes = writes_plain text w f p in
-    let l = no_more text w f p in
+    let x = plain_number w f in
+    let l = no_more shown w f p in
     let limit : IsWithinLimit x.significand.absolute = record {
       whole = omega (arith, l.0, length-map w (λ (b : ℕ). b - 48));
       fraction = omega (arith, l.1, length-map f (λ (b : ℕ). b - 48));
     } in
-    counted_by rules name bs text shown x parts writes limit (omega arith) (inl (chosen x writes)) same
+    counted_by rules name bs text shown x parts (subst (λ (t : List ℕ). WritesCompact t x) same (writes_plain shown w f p)) limit (omega arith)
+    (inl (of_value x bs (Some parts) chosen)) same

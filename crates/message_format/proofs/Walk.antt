@@ -1,12 +1,15 @@
 -- A walk over the parts of a message.
-use Rattle.std.proofs.Common.{◌≡◌, ◌++◌, ℕ, List, [], ◌∷◌, Option, Some, None, Err, refl, sym, ap, subst, inl, inr}
+use Rattle.std.proofs.Common.{◌≡◌, ◌++◌, ℕ, List, [], ◌∷◌, Bor, Option, Some, None, Err, refl, sym, ap, subst, inl, inr}
 use Rattle.message_pattern.specs.declared.part.Part as parts
-use Rattle.message_pattern.specs.PatternParts.{Part, part_view, parts_view, piece_view}
+use Rattle.message_pattern.specs.declared.part.ArgumentKind.{ArgumentKind}
+use Rattle.message_pattern.specs.declared.part.Piece as pieces
+use Rattle.message_pattern.specs.declared.part.Piece.TheVariants as piece
+use Rattle.message_pattern.specs.PatternParts.{Part, part_view, parts_view, piece_view, offset_view, branches_of}
 use Rattle.message_format.specs.declared.error.FormatError.{FormatError}
 use Rattle.message_format.specs.declared.error.FormatError.TheVariants as error
-use Rattle.message_format.specs.FormatArguments.{Argument}
+use Rattle.message_format.specs.FormatArguments.{Argument, Value, value_named}
 use Rattle.message_format.specs.FormatBranches.{behind_end}
-use Rattle.message_format.specs.FormatSteps.{Step, Stops, Prints, Chooses, TwoRules, IsStep}
+use Rattle.message_format.specs.FormatSteps.{Step, Stops, Prints, Chooses, TwoRules, IsChoice, IsStep}
 use Rattle.message_format.specs.FormatMeaning.{PatternOutcome, Said, Faulty, Says, ends, stops, prints, chooses, breaks, fails, PatternSays, SaysExactly}
 use Rattle.message_format.specs.Inner.FormatViews.{GivesStep, GivesOutcome, outcome_of}
 use Rattle.message_format.proofs.OneSaying.{OneNumber, one_outcome}
@@ -14,6 +17,19 @@ use Rattle.message_format.proofs.OneSaying.{OneNumber, one_outcome}
 -- what the part does that these follow
 abbrev pub PartIs : List Argument → TwoRules → List ℕ → parts.Part → List parts.Part → Step → Type 0
 PartIs arguments rules hash p rest s = IsStep arguments rules hash p.depth (piece_view p.piece) (parts_view rest) s
+
+-- it does what its piece does
+pub does : (arguments : List Argument) (rules : TwoRules) (hash : List ℕ) (p : parts.Part) (rest : List parts.Part) (what : pieces.Piece) (s : Step)
+    → p.piece ≡ what → IsStep arguments rules hash p.depth (piece_view what) (parts_view rest) s → PartIs arguments rules hash p rest s
+does arguments rules hash p rest what s is h =
+    subst (λ (q : pieces.Piece). IsStep arguments rules hash p.depth (piece_view q) (parts_view rest) s) (sym is) h
+
+pub begins : (arguments : List Argument) (rules : TwoRules) (hash : List ℕ) (p : parts.Part) (rest : List parts.Part) (kind : ArgumentKind) (name : Bor (List ℕ)) (offset : Option (Bor (List ℕ)))
+    (value : Option Value) (s : Step) → p.piece ≡ piece.Begin kind name offset → value ≡ value_named name.now arguments
+    → IsChoice rules hash kind name.now (offset_view offset) (branches_of p.depth (parts_view rest)) value s → PartIs arguments rules hash p rest s
+begins arguments rules hash p rest kind name offset value s is named h =
+    does arguments rules hash p rest (piece.Begin kind name offset) s is
+    (subst (λ (v : Option Value). IsChoice rules hash kind name.now (offset_view offset) (branches_of p.depth (parts_view rest)) v s) named h)
 
 -- the parts end
 pub at_end : (arguments : List Argument) (rules : TwoRules) (hash before : List ℕ) (ps : List parts.Part) → ps ≡ []

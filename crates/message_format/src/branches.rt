@@ -1,16 +1,18 @@
 //! The branches of an argument.
 
 ghost use Rattle.std.specs.Prelude.{◌≡◌, ◌≤◌, ◌↔◌, length, IsTrue, IfOk, IfSome};
-ghost use Rattle.message_pattern.specs.PatternParts.{parts_view, selector_view, branches_of};
-ghost use Rattle.message_format.specs.FormatBranches.{behind_end, is_keyword, branch_of_keyword, branch_or_other, IsBranchOfValue, HasBranchOfValue, IsBranchOfNumber};
+ghost use Rattle.message_pattern.specs.PatternParts.{parts_view, branches_of};
+ghost use Rattle.message_format.specs.FormatBranches.{behind_end, is_keyword, branch_of_keyword, branch_or_other, Equals, HasBranchOfValue, IsBranchOfNumber};
 ghost use Rattle.message_format.specs.Inner.FormatViews.{any_parts};
-ghost use Rattle.message_format.specs.Inner.FormatWalks.{PassedFor};
+ghost use Rattle.message_format.specs.Inner.FormatWalks.{IsFirst, PassedFor};
 
-use crate::numbers::{equals, span_of};
+use crate::numbers::Compared;
+use crate::walks::{Chooser, Seen, first_chosen};
 use fixed_decimal::CompactDecimal;
 use message_pattern::{Part, Piece, Selector};
 use plural_base::PluralRules;
 use std::alloc::{AllocError, Global};
+use std::convert::Infallible;
 
 // The parts that follow the end of an argument at this depth.
 pub(crate) fn behind_end<'s, 'p>(depth: usize, parts: &'s [Part<'p>]) -> &'s [Part<'p>]
@@ -29,22 +31,24 @@ pub(crate) fn behind_end<'s, 'p>(depth: usize, parts: &'s [Part<'p>]) -> &'s [Pa
     left
 }
 
-// Whether a selector is this keyword.
-fn is_keyword(word: &[u8], selector: Selector<'_>) -> bool
-    ensures { result ≡ is_keyword word.now (selector_view selector.entry) }
-{
-    match selector {
-        Selector::Exactly(_) => false,
-        Selector::Keyword(other) => other == word,
-    }
-}
-
-// What is seen of the branches: one of them, if it is there, and the parts from which the end of the
-// argument is sought: what follows it is the same as from all parts on.
+// A keyword, which chooses a branch of its own.
 #[derive(Clone, Copy)]
-pub(crate) struct Seen<'s, 'p> {
-    pub(crate) branch: Option<&'s [Part<'p>]>,
-    pub(crate) left: &'s [Part<'p>],
+struct Keyword<'s>(&'s [u8]);
+
+impl<'s> Chooser for Keyword<'s> {
+    type Stop = Infallible;
+
+    ghost IsReady = { λ _. Unit {0} };
+
+    ghost IsChosen = { λ keyword selector. IsTrue (is_keyword keyword.0.now selector) };
+
+    #[inline(always)]
+    fn chooses(&self, selector: Selector<'_>) -> Result<bool, Infallible> {
+        match selector {
+            Selector::Exactly(_) => Ok(false),
+            Selector::Keyword(word) => Ok(word == self.0),
+        }
+    }
 }
 
 // The first branch of a keyword.
@@ -55,22 +59,10 @@ fn branch_of_keyword<'s, 'p>(word: &[u8], depth: usize, parts: &'s [Part<'p>]) -
     ensures shorter { IfSome result.branch (λ x. length x.now ≤ length parts.now) }
     ensures fewer { length result.left.now ≤ length parts.now }
 {
-    let mut left = parts;
-    while let [part, rest @ ..] = left {
-        if part.depth <= depth {
-            let Piece::Branch(selector) = part.piece else {
-                return Seen { branch: None, left };
-            };
-            if is_keyword(word, selector) {
-                return Seen {
-                    branch: Some(rest),
-                    left: rest,
-                };
-            }
-        }
-        left = rest;
+    match first_chosen(&Keyword(word), depth, parts) {
+        Ok(seen) => seen,
+        Err((never, _)) => match never {},
     }
-    Seen { branch: None, left }
 }
 
 // A branch, and the parts from which the end of the argument is sought.
@@ -111,23 +103,13 @@ fn branch_of_value<'s, 'p>(
     depth: usize,
     parts: &'s [Part<'p>],
 ) -> Result<Option<&'s [Part<'p>]>, AllocError>
-    ensures branch { IfOk result (λ found. IsBranchOfValue number.now (branches_of depth (parts_view parts.now)) (any_parts found)) }
+    ensures branch { IfOk result (λ found. IsFirst (λ s. Equals number.now s) (branches_of depth (parts_view parts.now)) (any_parts found)) }
     ensures shorter { IfOk result (λ found. IfSome found (λ x. length x.now ≤ length parts.now)) }
 {
-    let span = span_of(number);
-    let mut left = parts;
-    while let [part, rest @ ..] = left {
-        if part.depth <= depth {
-            let Piece::Branch(selector) = part.piece else {
-                return Ok(None);
-            };
-            if equals(alloc, number, span, selector)? {
-                return Ok(Some(rest));
-            }
-        }
-        left = rest;
+    match first_chosen(&Compared::of(alloc, number), depth, parts) {
+        Ok(seen) => Ok(seen.branch),
+        Err((error, _)) => Err(error),
     }
-    Ok(None)
 }
 
 /// Returns whether a number chooses a branch by its value: whether the argument at this depth, of
@@ -163,9 +145,11 @@ pub(crate) fn branch_of_number<'s, 'p>(
     ensures branch { IfOk result (λ x. IsBranchOfNumber rules.now number.now less.now (branches_of depth (parts_view parts.now)) (parts_view x.now)) }
     ensures shorter { IfOk result (λ x. length x.now ≤ length parts.now) }
 {
-    if let Some(branch) = branch_of_value(alloc, number, depth, left)? {
-        return Ok(branch);
+    match branch_of_value(alloc, number, depth, left)? {
+        Some(branch) => Ok(branch),
+        None => {
+            let category = rules.category_for_compact(less);
+            Ok(branch_or_other(category.as_str().as_bytes(), depth, parts).branch)
+        }
     }
-    let category = rules.category_for_compact(less);
-    Ok(branch_or_other(category.as_str().as_bytes(), depth, parts).branch)
 }

@@ -1,5 +1,6 @@
 //! Why a pattern says nothing.
 
+use fixed_decimal::DecimalError;
 use std::alloc::{AllocError, AllocFailed};
 use std::error::Error;
 use std::fmt;
@@ -44,6 +45,22 @@ pub enum FormatError<'p> {
     Argument(ArgumentFault, &'p [u8]),
     /// Out of memory.
     Memory,
+}
+
+impl<'p> FormatError<'p> {
+    ghost use Rattle.std.specs.Prelude.{◌≡◌};
+    ghost use Rattle.message_format.specs.Inner.FormatViews.{fault_step, number_step};
+
+    // The error of an argument whose text is read as a number.
+    pub(crate) fn of_number(name: &'p [u8], error: DecimalError) -> Self
+        ensures { fault_step result ≡ number_step name.now error }
+    {
+        match error {
+            DecimalError::Syntax => FormatError::Argument(ArgumentFault::NotANumber, name),
+            DecimalError::Limit => FormatError::Argument(ArgumentFault::OverLimit, name),
+            DecimalError::Memory => FormatError::Memory,
+        }
+    }
 }
 
 impl<'p> fmt::Display for FormatError<'p> {

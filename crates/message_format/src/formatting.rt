@@ -6,13 +6,12 @@ ghost use Rattle.message_format.specs.FormatArguments.{arguments_view};
 ghost use Rattle.message_format.specs.FormatMeaning.{SaysExactly};
 ghost use Rattle.message_format.specs.Inner.FormatViews.{GivesOutcome, outcome_of, two_rules};
 
-use crate::arguments::Argument;
+use crate::arguments::{Argument, value_named};
 use crate::branches::behind_end;
 use crate::error::FormatError;
-use crate::step::Step;
-use crate::steps::{Rules, step_of, text_of};
+use crate::steps::{Rules, chosen, shown_value};
 use fixed_decimal::laws::texts_write_one_number;
-use message_pattern::{Part, Pattern};
+use message_pattern::{Part, Pattern, Piece};
 use std::alloc::Global;
 
 // How many bytes of the text there is room for at first.
@@ -31,18 +30,24 @@ fn message<'s, 'p: 's>(
 {
     let mut left = parts;
     'parts: while let [part, rest @ ..] = left {
-        if let Some(text) = text_of(arguments, hash, part.piece)? {
-            said.extend_from_slice(text)?;
-            left = rest;
-            continue;
-        }
-        match step_of(alloc, arguments, rules, hash, part, rest)? {
-            Step::Stops => return Ok(()),
-            Step::Chooses(number, branch, behind) => {
-                message(alloc, &*arguments, rules, number.as_bytes(), branch, said)?;
-                left = behind_end(part.depth, behind);
+        let text = match part.piece {
+            Piece::Text(text) => text,
+            Piece::Hash => hash,
+            Piece::Argument(name) => shown_value(name, value_named(name, arguments))?,
+            Piece::Begin(kind, name, offset) => {
+                let value = value_named(name, arguments);
+                let (shown, found) = chosen(
+                    alloc, rules, hash, kind, name, offset, part.depth, rest, value,
+                )?;
+                let branch = found.branch;
+                message(alloc, &*arguments, rules, shown.as_bytes(), branch, said)?;
+                left = behind_end(part.depth, found.left);
+                continue;
             }
-        }
+            Piece::Branch(_) | Piece::End => return Ok(()),
+        };
+        said.extend_from_slice(text)?;
+        left = rest;
     }
     Ok(())
 }

@@ -10,7 +10,7 @@ pub mod laws;
 mod numbers;
 mod offsets;
 mod plain;
-mod step;
+mod shown;
 mod steps;
 mod walks;
 

@@ -1,16 +1,29 @@
 //! Numbers of the same value.
 
-ghost use Rattle.std.specs.Prelude.{◌≡◌, ◌↔◌, ◌<◌, ◌<ℤ◌, ◌≤ℤ◌, ◌-ℤ◌, ℤ, ℕ, pos, neg_ℤ, IsTrue, IfOk, IfSome, IfNone};
-ghost use Rattle.message_pattern.specs.PatternParts.{selector_view};
-ghost use Rattle.fixed_decimal.specs.Places.{digit_at};
+ghost use Rattle.std.specs.Prelude.{◌≡◌, ◌↔◌, ◌<◌, ◌≤◌, ◌<ℤ◌, ◌≤ℤ◌, ◌-ℤ◌, ℤ, ℕ, pos, neg_ℤ, IsTrue, IfOk, IfSome, IfNone, Err};
+ghost use Rattle.fixed_decimal.specs.Places.{digit_at, IsWithinLimit};
+ghost use Rattle.fixed_decimal.specs.Written.{CompactNumber, WritesCompact, IsCompactOverLimit};
 ghost use Rattle.message_format.specs.FormatBranches.{Equals, EqualsWritten};
 ghost use Rattle.message_format.specs.FormatNumbers.{digit_of, HaveSameDigits, IsBelowZero, HaveSameValue};
 ghost use Rattle.message_format.specs.Inner.FormatViews.{IsZeroOutside, IsSpanOf};
 
+use crate::walks::Chooser;
 use fixed_decimal::laws::texts_write_one_number;
 use fixed_decimal::{CompactDecimal, DecimalError, Sign, UnsignedDecimal};
 use message_pattern::Selector;
 use std::alloc::{AllocError, Global};
+
+// The number that a text writes.
+pub(crate) fn number_of_text(alloc: Global, text: &[u8]) -> Result<CompactDecimal, DecimalError>
+    ensures number { IfOk result (λ x. WritesCompact text.now x × IsWithinLimit x.significand.absolute × (x.exponent ≤ 255)) }
+    ensures syntax { (result ≡ Err DecimalError.Syntax) → ((x : CompactNumber) → ¬ (WritesCompact text.now x)) }
+    ensures limit { (result ≡ Err DecimalError.Limit) → ((x : CompactNumber) × WritesCompact text.now x × IsCompactOverLimit x) }
+{
+    match std::str::from_utf8(text) {
+        Ok(text) => CompactDecimal::from_str(alloc, text),
+        Err(_) => Err(DecimalError::Syntax),
+    }
+}
 
 // The powers of ten outside which all digits are 0.
 fn powers_of(number: &CompactDecimal) -> (i32, i32)
@@ -154,10 +167,7 @@ fn equals_written(
 {
     // Another number that the text writes would be the same.
     texts_write_one_number();
-    let Ok(text) = std::str::from_utf8(written) else {
-        return Ok(false);
-    };
-    match CompactDecimal::from_str(alloc, text) {
+    match number_of_text(alloc, written) {
         Ok(other) => Ok(has_same_value(number, span, &other)),
         Err(DecimalError::Syntax) => Ok(false),
         Err(DecimalError::Limit) => Ok(false),
@@ -165,18 +175,45 @@ fn equals_written(
     }
 }
 
-// Whether a selector is `=` and a number of the same value.
-pub(crate) fn equals(
+// A number, which chooses the branch of its value.
+#[derive(Clone, Copy)]
+pub(crate) struct Compared<'n> {
     alloc: Global,
-    number: &CompactDecimal,
+    number: &'n CompactDecimal,
     span: Span,
-    selector: Selector<'_>,
-) -> Result<bool, AllocError>
-    requires { IsSpanOf number.now span.low span.high }
-    ensures { IfOk result (λ same. IsTrue same ↔ Equals number.now (selector_view selector.entry)) }
-{
-    match selector {
-        Selector::Exactly(written) => equals_written(alloc, number, span, written),
-        Selector::Keyword(_) => Ok(false),
+}
+
+impl<'n> Compared<'n> {
+    // The number with its span.
+    pub(crate) fn of(alloc: Global, number: &'n CompactDecimal) -> Self
+        ensures number { result.number.now ≡ number.now }
+        ensures span { IsSpanOf result.number.now result.span.low result.span.high }
+    {
+        let span = span_of(number);
+        Compared {
+            alloc,
+            number,
+            span,
+        }
+    }
+}
+
+impl<'n> Chooser for Compared<'n> {
+    type Stop = AllocError;
+
+    ghost IsReady = { λ it. IsSpanOf it.number.now it.span.low it.span.high };
+
+    ghost IsChosen = { λ it selector. Equals it.number.now selector };
+
+    fn chooses(&self, selector: Selector<'_>) -> Result<bool, AllocError> {
+        match selector {
+            Selector::Exactly(written) => equals_written(
+                self.alloc,
+                self.number,
+                self.span,
+                written,
+            ),
+            Selector::Keyword(_) => Ok(false),
+        }
     }
 }

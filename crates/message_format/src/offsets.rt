@@ -1,32 +1,33 @@
 //! A plural with an offset.
 
 ghost use Rattle.std.specs.Prelude.{◌≡◌, IfOk, Err};
-ghost use Rattle.fixed_decimal.specs.Places.{IsWithinLimit};
-ghost use Rattle.fixed_decimal.specs.Written.{CompactNumber, WritesCompact, IsCompactOverLimit};
+ghost use Rattle.fixed_decimal.specs.Places.{Places, IsWithinLimit, IsOverLimit};
+ghost use Rattle.fixed_decimal.specs.Written.{WritesUnsigned};
 ghost use Rattle.fixed_decimal.specs.declared.decimal.Decimal.{Decimal as SignedNumber};
 ghost use Rattle.message_pattern.specs.PatternParts.{parts_view, branches_of};
 ghost use Rattle.message_format.specs.FormatOffsets.{IsDifference};
 ghost use Rattle.message_format.specs.FormatSteps.{IsCountedBy, IsLess, IsCountedLess};
 ghost use Rattle.message_format.specs.Inner.FormatViews.{GivesStep, ChoosesWithin};
 
-use crate::branches::branch_of_number;
+use crate::branches::{Found, branch_of_number};
 use crate::difference::difference;
 use crate::error::{ArgumentFault, FormatError};
-use crate::step::{Shown, Step};
+use crate::numbers::number_of_text;
+use crate::shown::Shown;
 use fixed_decimal::laws::{numbers_are_read_again, texts_write_one_number};
 use fixed_decimal::{CompactDecimal, DecimalError, UnsignedDecimal};
 use message_pattern::Part;
 use plural_base::PluralRules;
 use std::alloc::Global;
 
-// The number that a text writes.
-fn number_of_text(alloc: Global, text: &[u8]) -> Result<CompactDecimal, DecimalError>
-    ensures number { IfOk result (λ x. WritesCompact text.now x × IsWithinLimit x.significand.absolute) }
-    ensures syntax { (result ≡ Err DecimalError.Syntax) → ((x : CompactNumber) → ¬ (WritesCompact text.now x)) }
-    ensures limit { (result ≡ Err DecimalError.Limit) → ((x : CompactNumber) × WritesCompact text.now x × IsCompactOverLimit x) }
+// The offset that digits write.
+fn offset_of(alloc: Global, digits: &[u8]) -> Result<UnsignedDecimal, DecimalError>
+    ensures number { IfOk result (λ o. WritesUnsigned digits.now o × IsWithinLimit o) }
+    ensures syntax { (result ≡ Err DecimalError.Syntax) → ((o : Places) → ¬ (WritesUnsigned digits.now o)) }
+    ensures limit { (result ≡ Err DecimalError.Limit) → ((o : Places) × WritesUnsigned digits.now o × IsOverLimit o) }
 {
-    match std::str::from_utf8(text) {
-        Ok(text) => CompactDecimal::from_str(alloc, text),
+    match std::str::from_utf8(digits) {
+        Ok(text) => UnsignedDecimal::from_str(alloc, text),
         Err(_) => Err(DecimalError::Syntax),
     }
 }
@@ -40,7 +41,7 @@ fn counted_by<'s, 'p: 's>(
     depth: usize,
     rest: &'s [Part<'p>],
     number: &CompactDecimal,
-) -> Result<Step<'s, 'p>, FormatError<'p>>
+) -> Result<(Shown<'s>, Found<'s, 'p>), FormatError<'p>>
     requires number { IsWithinLimit number.now.significand.absolute }
     requires offset { IsWithinLimit offset.now }
     ensures step { GivesStep (λ step. (less : SignedNumber) × IsDifference number.now.significand offset.now less × IsCountedBy rules.now name.now (branches_of depth (parts_view rest.now)) number.now less step) result }
@@ -52,11 +53,9 @@ fn counted_by<'s, 'p: 's>(
     match number_of_text(alloc, &text) {
         Ok(less) => {
             let branch = branch_of_number(alloc, rules, number, &less, depth, rest, rest)?;
-            Ok(Step::Chooses(Shown::Less(text), branch, rest))
+            Ok((Shown::Less(text), Found { branch, left: rest }))
         }
-        Err(DecimalError::Syntax) => { Err(FormatError::Argument(ArgumentFault::NotANumber, name)) }
-        Err(DecimalError::Limit) => Err(FormatError::Argument(ArgumentFault::OverLimit, name)),
-        Err(DecimalError::Memory) => Err(FormatError::Memory),
+        Err(error) => Err(FormatError::of_number(name, error)),
     }
 }
 
@@ -69,7 +68,7 @@ fn less<'s, 'p: 's>(
     depth: usize,
     rest: &'s [Part<'p>],
     number: &CompactDecimal,
-) -> Result<Step<'s, 'p>, FormatError<'p>>
+) -> Result<(Shown<'s>, Found<'s, 'p>), FormatError<'p>>
     requires { IsWithinLimit number.now.significand.absolute }
     ensures step { GivesStep (λ step. IsLess rules.now name.now (branches_of depth (parts_view rest.now)) digits.now number.now step) result }
     ensures left { ChoosesWithin depth rest.now result }
@@ -77,14 +76,9 @@ fn less<'s, 'p: 's>(
     if number.exponent() != 0 {
         return Err(FormatError::Argument(ArgumentFault::CompactOffset, name));
     }
-    let Ok(text) = std::str::from_utf8(digits) else {
-        return Err(FormatError::Argument(ArgumentFault::NotANumber, name));
-    };
-    match UnsignedDecimal::from_str(alloc, text) {
+    match offset_of(alloc, digits) {
         Ok(offset) => counted_by(alloc, rules, name, &offset, depth, rest, number),
-        Err(DecimalError::Syntax) => { Err(FormatError::Argument(ArgumentFault::NotANumber, name)) }
-        Err(DecimalError::Limit) => Err(FormatError::Argument(ArgumentFault::OverLimit, name)),
-        Err(DecimalError::Memory) => Err(FormatError::Memory),
+        Err(error) => Err(FormatError::of_number(name, error)),
     }
 }
 
@@ -97,14 +91,12 @@ pub(crate) fn counted_less<'s, 'p: 's>(
     depth: usize,
     rest: &'s [Part<'p>],
     text: &str,
-) -> Result<Step<'s, 'p>, FormatError<'p>>
+) -> Result<(Shown<'s>, Found<'s, 'p>), FormatError<'p>>
     ensures step { GivesStep (λ step. IsCountedLess rules.now name.now (branches_of depth (parts_view rest.now)) digits.now text.now step) result }
     ensures left { ChoosesWithin depth rest.now result }
 {
     match CompactDecimal::from_str(alloc, text) {
         Ok(number) => less(alloc, rules, name, digits, depth, rest, &number),
-        Err(DecimalError::Syntax) => { Err(FormatError::Argument(ArgumentFault::NotANumber, name)) }
-        Err(DecimalError::Limit) => Err(FormatError::Argument(ArgumentFault::OverLimit, name)),
-        Err(DecimalError::Memory) => Err(FormatError::Memory),
+        Err(error) => Err(FormatError::of_number(name, error)),
     }
 }

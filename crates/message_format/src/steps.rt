@@ -1,31 +1,25 @@
-//! What a part of a message does.
+//! What an argument chooses.
 
-ghost use Rattle.std.specs.Prelude.{◌≡◌, ◌≤◌, ℕ, List, length, IfOk, IfSome, Some, None};
+ghost use Rattle.std.specs.Prelude.{◌≡◌, ◌≤◌, length, None};
 ghost use Rattle.fixed_decimal.specs.Written.{CompactNumber, WritesCompact};
-ghost use Rattle.message_format.specs.FormatBranches.{behind_end, IsBranchOfValue};
-ghost use Rattle.message_pattern.specs.PatternParts.{parts_view, piece_view, offset_view, branches_of};
-ghost use Rattle.message_format.specs.FormatArguments.{arguments_view, value_view};
-ghost use Rattle.message_format.specs.FormatSteps.{shown_value, selected, IsCounted, IsPlural, IsChoice, IsStep};
-ghost use Rattle.message_pattern.specs.declared.part.Part.{Part as SpecPart};
-ghost use Rattle.message_format.specs.Inner.FormatWalks.{HasNoText, PrintsAlways, PassedFor};
+ghost use Rattle.message_pattern.specs.PatternParts.{parts_view, offset_view, branches_of};
+ghost use Rattle.message_format.specs.FormatBranches.{behind_end, Equals};
+ghost use Rattle.message_format.specs.FormatSteps.{shown_value, selected, IsCounted, IsPlural, IsChoice};
+ghost use Rattle.message_format.specs.Inner.FormatWalks.{IsFirst, PassedFor};
 ghost use Rattle.message_format.specs.Inner.FormatViews.{any_value, GivesStep, GivesText, ChoosesWithin, two_rules};
 
-use crate::arguments::{Argument, Value, value_named};
-use crate::branches::{branch_of_number, branch_or_other};
+use crate::arguments::Value;
+use crate::branches::{Found, branch_of_number, branch_or_other};
 use crate::error::{ArgumentFault, FormatError};
 use crate::offsets::counted_less;
 use crate::plain::plain_of;
-use crate::step::{Shown, Step};
-use crate::walks::branch_at_sight;
+use crate::shown::Shown;
+use crate::walks::first_chosen;
+use fixed_decimal::CompactDecimal;
 use fixed_decimal::laws::texts_write_one_number;
-use fixed_decimal::{CompactDecimal, DecimalError};
-use message_pattern::{ArgumentKind, Part, Piece};
+use message_pattern::{ArgumentKind, Part};
 use plural_base::PluralRules;
 use std::alloc::Global;
-
-// The most bytes of a number's text that is sought by its digits among the values: so few are read
-// without memory.
-const SHORT: usize = 18;
 
 /// The rules of a language, for cardinal and for ordinal numbers.
 #[derive(Clone, Copy, Debug)]
@@ -38,7 +32,7 @@ pub struct Rules<'r, 'data> {
 
 // The text that `{name}` prints.
 #[inline(always)]
-fn shown_value<'s, 'p: 's>(
+pub(crate) fn shown_value<'s, 'p: 's>(
     name: &'p [u8],
     value: Option<Value<'s>>,
 ) -> Result<&'s [u8], FormatError<'p>>
@@ -58,14 +52,14 @@ fn selected<'s, 'p: 's>(
     depth: usize,
     rest: &'s [Part<'p>],
     value: Option<Value<'s>>,
-) -> Result<Step<'s, 'p>, FormatError<'p>>
+) -> Result<(Shown<'s>, Found<'s, 'p>), FormatError<'p>>
     ensures step { GivesStep (λ step. step ≡ selected hash.now name.now (branches_of depth (parts_view rest.now)) (any_value value.entry)) result }
     ensures left { ChoosesWithin depth rest.now result }
 {
     match value {
         Some(Value::Text(text)) => {
             let found = branch_or_other(text.as_bytes(), depth, rest);
-            Ok(Step::Chooses(Shown::Given(hash), found.branch, found.left))
+            Ok((Shown::Given(hash), found))
         }
         Some(Value::Number(_)) => Err(FormatError::Argument(ArgumentFault::WrongKind, name)),
         None => Err(FormatError::Argument(ArgumentFault::Missing, name)),
@@ -82,7 +76,7 @@ fn counted_by_digits<'s, 'p: 's>(
     rest: &'s [Part<'p>],
     left: &'s [Part<'p>],
     text: &'s str,
-) -> Result<Step<'s, 'p>, FormatError<'p>>
+) -> Result<(Shown<'s>, Found<'s, 'p>), FormatError<'p>>
     requires passed { (x : CompactNumber) → WritesCompact text.now x → PassedFor x depth (parts_view rest.now) (parts_view left.now) }
     requires fewer { length left.now ≤ length rest.now }
     ensures step { GivesStep (λ step. IsCounted rules.now name.now (branches_of depth (parts_view rest.now)) text.now step) result }
@@ -91,11 +85,9 @@ fn counted_by_digits<'s, 'p: 's>(
     match CompactDecimal::from_str(alloc, text) {
         Ok(number) => {
             let branch = branch_of_number(alloc, rules, &number, &number, depth, rest, left)?;
-            Ok(Step::Chooses(Shown::Given(text.as_bytes()), branch, rest))
+            Ok((Shown::Given(text.as_bytes()), Found { branch, left: rest }))
         }
-        Err(DecimalError::Syntax) => { Err(FormatError::Argument(ArgumentFault::NotANumber, name)) }
-        Err(DecimalError::Limit) => Err(FormatError::Argument(ArgumentFault::OverLimit, name)),
-        Err(DecimalError::Memory) => Err(FormatError::Memory),
+        Err(error) => Err(FormatError::of_number(name, error)),
     }
 }
 
@@ -109,8 +101,8 @@ fn counted_by_category<'s, 'p: 's>(
     rest: &'s [Part<'p>],
     left: &'s [Part<'p>],
     text: &'s str,
-) -> Result<Step<'s, 'p>, FormatError<'p>>
-    requires none { (x : CompactNumber) → WritesCompact text.now x → IsBranchOfValue x (branches_of depth (parts_view rest.now)) None }
+) -> Result<(Shown<'s>, Found<'s, 'p>), FormatError<'p>>
+    requires none { (x : CompactNumber) → WritesCompact text.now x → IsFirst (λ s. Equals x s) (branches_of depth (parts_view rest.now)) None }
     requires fewer { length left.now ≤ length rest.now }
     requires behind { behind_end depth (parts_view left.now) ≡ behind_end depth (parts_view rest.now) }
     ensures step { GivesStep (λ step. IsCounted rules.now name.now (branches_of depth (parts_view rest.now)) text.now step) result }
@@ -118,19 +110,11 @@ fn counted_by_category<'s, 'p: 's>(
 {
     let category = match rules.category_for_text(alloc, text) {
         Ok(category) => category,
-        Err(DecimalError::Syntax) => {
-            return Err(FormatError::Argument(ArgumentFault::NotANumber, name));
-        }
-        Err(DecimalError::Limit) => {
-            return Err(FormatError::Argument(ArgumentFault::OverLimit, name));
-        }
-        Err(DecimalError::Memory) => {
-            return Err(FormatError::Memory);
-        }
+        Err(error) => return Err(FormatError::of_number(name, error)),
     };
     let written = text.as_bytes();
-    let found = branch_or_other(category.as_str().as_bytes(), depth, rest);
-    Ok(Step::Chooses(Shown::Given(written), found.branch, left))
+    let branch = branch_or_other(category.as_str().as_bytes(), depth, rest).branch;
+    Ok((Shown::Given(written), Found { branch, left }))
 }
 
 // A plural without an offset, of the text of a number.
@@ -141,23 +125,25 @@ fn counted<'s, 'p: 's>(
     depth: usize,
     rest: &'s [Part<'p>],
     text: &'s str,
-) -> Result<Step<'s, 'p>, FormatError<'p>>
+) -> Result<(Shown<'s>, Found<'s, 'p>), FormatError<'p>>
     ensures step { GivesStep (λ step. IsCounted rules.now name.now (branches_of depth (parts_view rest.now)) text.now step) result }
     ensures left { ChoosesWithin depth rest.now result }
 {
+    // A text writes one number at most.
+    texts_write_one_number();
     let written = text.as_bytes();
-    if written.len() > SHORT {
-        return counted_by_digits(alloc, rules, name, depth, rest, rest, text);
-    }
     let Some(plain) = plain_of(written) else {
         return counted_by_digits(alloc, rules, name, depth, rest, rest, text);
     };
-    match branch_at_sight(plain, depth, rest) {
+    match first_chosen(&plain, depth, rest) {
         Ok(seen) => match seen.branch {
-            Some(branch) => Ok(Step::Chooses(Shown::Given(written), branch, seen.left)),
+            Some(branch) => {
+                let left = seen.left;
+                Ok((Shown::Given(written), Found { branch, left }))
+            }
             None => counted_by_category(alloc, rules, name, depth, rest, seen.left, text),
         },
-        Err(left) => counted_by_digits(alloc, rules, name, depth, rest, left, text),
+        Err((_, left)) => counted_by_digits(alloc, rules, name, depth, rest, left, text),
     }
 }
 
@@ -170,7 +156,7 @@ fn plural<'s, 'p: 's>(
     depth: usize,
     rest: &'s [Part<'p>],
     value: Option<Value<'s>>,
-) -> Result<Step<'s, 'p>, FormatError<'p>>
+) -> Result<(Shown<'s>, Found<'s, 'p>), FormatError<'p>>
     ensures step { GivesStep (λ step. IsPlural rules.now name.now (offset_view offset.entry) (branches_of depth (parts_view rest.now)) (any_value value.entry) step) result }
     ensures left { ChoosesWithin depth rest.now result }
 {
@@ -184,49 +170,24 @@ fn plural<'s, 'p: 's>(
     }
 }
 
-// The text that a piece prints, unless it chooses a branch or ends the message.
-#[inline(always)]
-pub(crate) fn text_of<'s, 'p: 's>(
-    arguments: &[Argument<'s>],
-    hash: &'s [u8],
-    piece: Piece<'p>,
-) -> Result<Option<&'s [u8]>, FormatError<'p>>
-    ensures { PrintsAlways (arguments_view arguments.now) hash.now (piece_view piece.entry) result }
-{
-    match piece {
-        Piece::Text(text) => Ok(Some(text)),
-        Piece::Hash => Ok(Some(hash)),
-        Piece::Argument(name) => Ok(Some(shown_value(name, value_named(name, arguments))?)),
-        Piece::Begin(_, _, _) | Piece::Branch(_) | Piece::End => Ok(None),
-    }
-}
-
-// What a part without a text does, which these parts follow.
-pub(crate) fn step_of<'s, 'p: 's>(
+// What an argument chooses.
+pub(crate) fn chosen<'s, 'p: 's>(
     alloc: Global,
-    arguments: &[Argument<'s>],
     rules: &Rules<'_, '_>,
     hash: &'s [u8],
-    part: &Part<'p>,
+    kind: ArgumentKind,
+    name: &'p [u8],
+    offset: Option<&'p [u8]>,
+    depth: usize,
     rest: &'s [Part<'p>],
-) -> Result<Step<'s, 'p>, FormatError<'p>>
-    requires { HasNoText (piece_view part.now.piece) }
-    ensures step { GivesStep (λ step. IsStep (arguments_view arguments.now) (two_rules rules.now) hash.now part.now.depth (piece_view part.now.piece) (parts_view rest.now) step) result }
-    ensures left { ChoosesWithin part.now.depth rest.now result }
+    value: Option<Value<'s>>,
+) -> Result<(Shown<'s>, Found<'s, 'p>), FormatError<'p>>
+    ensures step { GivesStep (λ step. IsChoice (two_rules rules.now) hash.now kind name.now (offset_view offset.entry) (branches_of depth (parts_view rest.now)) (any_value value.entry) step) result }
+    ensures left { ChoosesWithin depth rest.now result }
 {
-    match part.piece {
-        Piece::Begin(kind, name, offset) => {
-            let value = value_named(name, arguments);
-            match kind {
-                ArgumentKind::Plural => {
-                    plural(alloc, rules.cardinal, name, offset, part.depth, rest, value)
-                }
-                ArgumentKind::Ordinal => {
-                    plural(alloc, rules.ordinal, name, offset, part.depth, rest, value)
-                }
-                ArgumentKind::Select => selected(hash, name, part.depth, rest, value),
-            }
-        }
-        _ => Ok(Step::Stops),
+    match kind {
+        ArgumentKind::Plural => plural(alloc, rules.cardinal, name, offset, depth, rest, value),
+        ArgumentKind::Ordinal => plural(alloc, rules.ordinal, name, offset, depth, rest, value),
+        ArgumentKind::Select => selected(hash, name, depth, rest, value),
     }
 }

@@ -3,20 +3,22 @@ use Rattle.std.specs.Prelude.{◌≡◌, ◌≤◌, ◌<◌, ◌<ℤ◌, ◌≤�
 use Rattle.std.specs.Borrow.{Bor}
 use Rattle.std.specs.declared.alloc.Global.{Global}
 use Rattle.fixed_decimal.specs.Written.{CompactNumber}
+use Rattle.fixed_decimal.specs.declared.error.DecimalError.{DecimalError}
+use Rattle.fixed_decimal.specs.declared.error.DecimalError.TheVariants as number
 use Rattle.message_pattern.specs.declared.part.Part as parts
 use Rattle.message_pattern.specs.PatternParts.{Part, parts_view}
 use Rattle.message_format.specs.declared.arguments.Value as values
+use Rattle.message_format.specs.declared.branches.Found as found
+use Rattle.message_format.specs.declared.error.ArgumentFault.TheVariants.{NotANumber, OverLimit}
 use Rattle.message_format.specs.declared.error.FormatError.{FormatError}
 use Rattle.message_format.specs.declared.error.FormatError.TheVariants as error
 use Rattle.message_format.specs.declared.steps.Rules as rules
-use Rattle.message_format.specs.declared.step.Shown as shown
-use Rattle.message_format.specs.declared.step.Shown.TheVariants as shows
-use Rattle.message_format.specs.declared.step.Step as steps
-use Rattle.message_format.specs.declared.step.Step.TheVariants as step
+use Rattle.message_format.specs.declared.shown.Shown as shown
+use Rattle.message_format.specs.declared.shown.Shown.TheVariants as shows
 use Rattle.message_format.specs.FormatArguments.{Argument, Value, value_view}
 use Rattle.message_format.specs.FormatBranches.{behind_end}
 use Rattle.message_format.specs.FormatNumbers.{digit_of}
-use Rattle.message_format.specs.FormatSteps.{Step, Stops, Prints, Chooses, Fails, TwoRules}
+use Rattle.message_format.specs.FormatSteps.{Step, Prints, Chooses, Fails, TwoRules}
 use Rattle.message_format.specs.FormatMeaning.{PatternOutcome, Said, Faulty, Says}
 
 abbrev pub any_value : Option values.Value → Option Value
@@ -32,13 +34,16 @@ abbrev pub shown_view : shown.Shown → List ℕ
 shown_view (shows.Given given) = given.now
 shown_view (shows.Less less) = less.items
 
-abbrev pub step_view : steps.Step → Step
-step_view step.Stops = Stops
-step_view (step.Chooses number branch left) = Chooses (shown_view number) (parts_view branch.now)
+-- the text of `#`, and the branch that is chosen
+abbrev pub Choice : Type 0
+Choice = shown.Shown × found.Found
+
+abbrev pub step_view : Choice → Step
+step_view c = Chooses (shown_view c.0) (parts_view c.1.branch.now)
 
 -- what a private call returns meets the relation of steps, unless memory ran out
-abbrev pub GivesStep : (Step → Type 0) → Result steps.Step FormatError → Type 0
-GivesStep IsStep (Ok s) = IsStep (step_view s)
+abbrev pub GivesStep : (Step → Type 0) → Result Choice FormatError → Type 0
+GivesStep IsStep (Ok c) = IsStep (step_view c)
 GivesStep IsStep (Err (error.Argument fault name)) = IsStep (Fails fault name.now)
 GivesStep IsStep (Err error.Memory) = Unit {0}
 
@@ -47,6 +52,17 @@ abbrev pub GivesText : (Step → Type 0) → Result (Bor (List ℕ)) FormatError
 GivesText IsStep (Ok text) = IsStep (Prints text.now)
 GivesText IsStep (Err f) = GivesStep IsStep (Err f)
 
+-- what an error does, or none if memory ran out
+abbrev pub fault_step : FormatError → Option Step
+fault_step (error.Argument fault name) = Some (Fails fault name.now)
+fault_step error.Memory = None
+
+-- the same of the error of an argument's text, which is read as a number
+abbrev pub number_step : List ℕ → DecimalError → Option Step
+number_step name number.Syntax = Some (Fails NotANumber name)
+number_step name number.Limit = Some (Fails OverLimit name)
+number_step name number.Memory = None
+
 -- a branch that is chosen is no longer than the parts that it is chosen from, the parts that are left
 -- neither; and behind the end of the argument the same parts follow these
 pub record IsWithin (depth : ℕ) (ps branch left : List parts.Part) : Type 0 where
@@ -54,9 +70,9 @@ pub record IsWithin (depth : ℕ) (ps branch left : List parts.Part) : Type 0 wh
   pub fewer : length left ≤ length ps
   pub behind : behind_end depth (parts_view left) ≡ behind_end depth (parts_view ps)
 
-abbrev pub ChoosesWithin : ℕ → List parts.Part → Result steps.Step FormatError → Type 0
-ChoosesWithin depth ps (Ok (step.Chooses number branch left)) = IsWithin depth ps branch.now left.now
-ChoosesWithin depth ps _ = Unit {0}
+abbrev pub ChoosesWithin : ℕ → List parts.Part → Result Choice FormatError → Type 0
+ChoosesWithin depth ps (Ok c) = IsWithin depth ps c.1.branch.now c.1.left.now
+ChoosesWithin depth ps (Err f) = Unit {0}
 
 -- the rules, as contracts see them
 abbrev pub two_rules : rules.Rules → TwoRules

@@ -1,5 +1,5 @@
-use Rattle.std.proofs.Common.{◌∙◌, ap, inl, refl, Err}
-use Rattle.message_format.proofs.Equal.{counted_by}
+use Rattle.message_pattern.specs.PatternParts.{parts_view, branches_of}
+use Rattle.message_format.proofs.Equal.{counted_by, not_counted}
 use Rattle.message_format.proofs.steps.counted_by_digits.Goals as goal
 
 pub returns-in_ok-branch-in-Ok-clause-step : goal.returns-in_ok-branch-in-Ok-clause-step
@@ -7,5 +7,6 @@ returns-in_ok-branch-in-Ok-clause-step c =
     let w = c.in-Ok.ensures.number in
     counted_by c.args.rules.now c.args.name.now _ c.args.text.now c.as_bytes.result.now _ _ w.0 w.1 w.2 c.in_ok-branch-in-Ok.ensures.branch c.as_bytes.ensures.value
 
-pub returns-in-Err-Syntax-clause-step : goal.returns-in-Err-Syntax-clause-step
-returns-in-Err-Syntax-clause-step c = inl (c.from_str.ensures.syntax.0 (c.in-Err-Syntax.is ∙ ap Err c.in-Err-Syntax.field-0-is), refl)
+pub returns-in-Err-clause-step : goal.returns-in-Err-clause-step
+returns-in-Err-clause-step c =
+    not_counted c.args.rules.now c.args.name.now (branches_of c.args.depth (parts_view c.args.rest.now)) c.args.text.now c.from_str.result c.in-Err.error c.of_number.result c.in-Err.is c.of_number.ensures c.from_str.ensures.syntax.0 c.from_str.ensures.limit.0

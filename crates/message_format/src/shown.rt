@@ -1,20 +1,8 @@
-//! What a part of a message does.
+//! The text of `#`.
 
 ghost use Rattle.std.specs.Prelude.{◌≡◌};
 
-use message_pattern::Part;
-
-// What a part without a text does.
-#[derive(Drop)]
-pub(crate) enum Step<'s, 'p> {
-    // Ends the message.
-    Stops,
-    // Chooses a branch: the text of `#` in it, the parts from it on, and the parts from which the
-    // end of the argument is sought.
-    Chooses(Shown<'s>, &'s [Part<'p>], &'s [Part<'p>]),
-}
-
-// The text of `#`.
+// The text of `#` in a branch.
 #[derive(Drop)]
 pub(crate) enum Shown<'s> {
     // As it is given.
