@@ -1,6 +1,9 @@
 """What is wrong with a file or a message, and how it is told."""
 import os
 
+# The version of the scripts, that of include/plurals.h.
+VERSION = "0.1.0"
+
 
 class Fault(Exception):
     """What is wrong with a file or a message: where, why, and what to do; the line, if it is another one than the message's."""

@@ -4,8 +4,10 @@
 
 mod bytes;
 mod calls;
+mod cldr;
 mod elements;
 mod english;
+mod items;
 mod json;
 mod messages;
 mod named;
@@ -96,8 +98,21 @@ fn show_all(
     calls::show_rules(rt, alloc, provider)
 }
 
+// Prints examples of CLDR's rules, each after its name.
+fn show_cldr(rt: &HostRuntime, alloc: Global) -> anyhow::Result<()> {
+    println!(rt; "== file")?;
+    cldr::show_file(rt, alloc)?;
+    println!(rt; "== input")?;
+    cldr::show_input(rt, alloc)?;
+    println!(rt; "== constant")?;
+    cldr::show_bytes(rt)?;
+    println!(rt; "== items")?;
+    items::print_items(rt, alloc)
+}
+
 fn main(rt: HostRuntime) -> anyhow::Result<()> {
     let alloc = rt.alloc();
     let provider = json::provider(alloc)?;
-    show(&rt, alloc, &provider)
+    show(&rt, alloc, &provider)?;
+    show_cldr(&rt, alloc)
 }

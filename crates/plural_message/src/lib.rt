@@ -1,14 +1,14 @@
 //! Messages with a number in them: the text for the number's plural category, with the number in
 //! the place of each `{}`.
 //!
-//! <!-- snippet crates/example_plurals/src/main.rt: imports; fn main -->
+//! <!-- snippet crates/example_calls/src/items.rt: imports; fn print_items -->
 //! ```
 //! use icu_plurals::provider::{PluralElementsPackedCow, PluralRulesData};
 //! use icu_plurals::{PluralElements, PluralRules};
 //! use plural_message::Message;
+//! use std::alloc::Global;
 //!
-//! fn main(rt: HostRuntime) -> anyhow::Result<()> {
-//!     let alloc = rt.alloc();
+//! pub(crate) fn print_items(rt: &HostRuntime, alloc: Global) -> anyhow::Result<()> {
 //!     let one = Some("i = 1 and v = 0");
 //!     let data = PluralRulesData::from_texts(alloc, None, one, None, None, None)?;
 //!     let rules = PluralRules::from_data(data);
@@ -25,7 +25,7 @@
 //!
 //! prints
 //!
-//! <!-- snippet crates/example_plurals/stdout -->
+//! <!-- snippet crates/example_calls/stdout: section items -->
 //! ```text
 //! 0 items
 //! 1 item

@@ -1,12 +1,11 @@
-//! Prints a message for each of four numbers.
-#![tactic(auto)]
+//! A message for each of four numbers.
 
 use icu_plurals::provider::{PluralElementsPackedCow, PluralRulesData};
 use icu_plurals::{PluralElements, PluralRules};
 use plural_message::Message;
+use std::alloc::Global;
 
-fn main(rt: HostRuntime) -> anyhow::Result<()> {
-    let alloc = rt.alloc();
+pub(crate) fn print_items(rt: &HostRuntime, alloc: Global) -> anyhow::Result<()> {
     let one = Some("i = 1 and v = 0");
     let data = PluralRulesData::from_texts(alloc, None, one, None, None, None)?;
     let rules = PluralRules::from_data(data);
