@@ -30,3 +30,17 @@ loop-preserved g c =
           rw w.bytes-is (search rules, subst first (sym grown) (Consumes-trans _ _ _ _ _ before w.in-Ok.ensures.bytes.0))
       | in-Err+else-ne w ↦ rw w.bytes-is (c.loop.invariant.0, Consumes-kept _ _ _ _ c.loop.invariant.1 w.in-Err.ensures.bytes)
     ]
+
+pub returns-then-len-gt-MOST_BYTES-clause-up_to : goal.returns-then-len-gt-MOST_BYTES-clause-up_to
+returns-then-len-gt-MOST_BYTES-clause-up_to g c = (
+  c.loop.bytes.items ++ take c.in-Ok.count c.read.new.buf,
+  Consumes-trans _ _ _ _ _ c.loop.invariant.1 c.in-Ok.ensures.bytes.0,
+  grind (arith, common_steps),
+)
+
+pub returns-then-len-gt-MOST_BYTES-clause-too_long : goal.returns-then-len-gt-MOST_BYTES-clause-too_long
+returns-then-len-gt-MOST_BYTES-clause-too_long g c = λ is. (
+  c.loop.bytes.items ++ take c.in-Ok.count c.read.new.buf,
+  Consumes-trans _ _ _ _ _ c.loop.invariant.1 c.in-Ok.ensures.bytes.0,
+  grind (arith, common_steps),
+)
