@@ -2,6 +2,8 @@
 pub mod Growth
 -- the digits of an end
 pub mod AllDigits
+-- rules of few bytes
+pub mod FewBytes
 -- what is read from a text
 pub mod TextsRead
 -- texts behind spaces

@@ -3,9 +3,15 @@ use Rattle.std.proofs.Common.{◌≡◌, ◌↔◌, ℕ, Bool, true, false, List
 use Rattle.std.specs.Prelude.{IsTrue, MatchBool, filter}
 use Rattle.std.specs.declared.alloc.AllocError.{AllocError}
 use Rattle.icu_plurals.specs.declared.provider.rules.reference.Token.{Token}
+use Rattle.icu_plurals.specs.Lexer.{AreTokensOf}
 use Rattle.icu_plurals.specs.Samples.{TextIsRule}
 use Rattle.plural_checker.specs.TextChecks.{HasOrder, IsOutOfOrder, are_in_order, is_list_type}
-use Rattle.plural_checker.proofs.TextsRead.{HaveOneList}
+
+-- every text has exactly one list of tokens
+abbrev pub HaveOneList : Type 0
+HaveOneList =
+    (text : List ℕ)
+    → (tokens : List Token) × AreTokensOf text tokens × ((others : List Token) → AreTokensOf text others → others ≡ tokens)
 
 -- lists that are in order aren't out of order
 pub no_other_order : (text : List ℕ) → HaveOneList → HasOrder text true → ¬ (IsOutOfOrder text)

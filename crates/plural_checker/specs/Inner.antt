@@ -1,3 +1,5 @@
+-- texts that are read once
+pub mod TextReadings
 -- numbers that are checked by their operands alone
 pub mod ShortNumbers
 -- rules whose ranges are in order

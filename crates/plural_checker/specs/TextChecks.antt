@@ -84,11 +84,6 @@ abbrev pub HaveOtherTokens : List ℕ → List ℕ → Type 0
 HaveOtherTokens text other =
     (tokens others : List Token) × AreTokensOf text tokens × AreTokensOf other others × (tokens ≢ others)
 
--- the tree that a text is read as, or why it has none
-abbrev pub IsTreeOf : List ℕ → Result Rule RuleError → Type 0
-IsTreeOf text (Ok rule) = TextReads ReadsRule text rule
-IsTreeOf text (Err error) = TextGives text (Err error)
-
 -- the rule that a text is read as and that can be packed, or why it gives none
 abbrev pub IsReadAsRule : List ℕ → Result Rule RuleError → Type 0
 IsReadAsRule text (Ok rule) = TextReads ReadsRule text rule × ((packed : List PackedRelation) × TextGives text (Ok packed))

@@ -1,16 +1,18 @@
 //! The six texts of a language's rules.
 
-ghost use Rattle.std.specs.Prelude.{IfOk};
+ghost use Rattle.std.specs.Prelude.{◌≡◌, IfErr, IfOk, None, Some};
 ghost use Rattle.std.specs.Option.{option_copied};
+ghost use Rattle.icu_plurals.specs.FiveRules.{rules_of};
+ghost use Rattle.plural_checker.specs.Inner.TextReadings.{IfRefused, six};
 ghost use Rattle.plural_checker.specs.LanguageTexts.{six_texts};
 ghost use Rattle.plural_checker.specs.TextChecks.{AreFindingsOf, AreFindingsUnder, AreRulesIfRead};
 
 use crate::language_rules::LanguageRules;
+use crate::read_text::{NoRule, ReadText, packed_if_there, read_if_there};
 use crate::report::Report;
 use crate::text_check::check_if_there;
 use crate::texts::LanguageTexts;
 use icu_plurals::provider::PluralRulesData;
-use icu_plurals::provider::rules::runtime::ast::RuleError;
 use icu_plurals::{Five, PluralCategory};
 use plural_base::{for_five, make_five};
 use std::alloc::{AllocError, Global};
@@ -43,48 +45,60 @@ use std::alloc::{AllocError, Global};
 pub fn check_texts(alloc: Global, texts: &LanguageTexts<'_>) -> Result<Report, AllocError>
     ensures { IfOk result (λ report. AreFindingsOf (six_texts texts.now) report) }
 {
-    let rules = rules_of(alloc, texts)?;
-    check_all(alloc, rules.as_ref(), texts)
+    let five = read_five(alloc, texts)?;
+    let other = read_if_there(alloc, texts.other)?;
+    let rules = rules_of(alloc, &five)?;
+    check_all(alloc, rules.as_ref(), &five, &other)
 }
 
-// Returns the faults of the texts under these rules.
+// The five texts, each read once.
+fn read_five<'a>(
+    alloc: Global,
+    texts: &LanguageTexts<'a>,
+) -> Result<Five<Option<ReadText<'a>>>, AllocError>
+    ensures { IfOk result (λ five. five ≡ (six_texts texts.now).five) }
+{
+    Ok(make_five!(Five, texts, |text| read_if_there(alloc, *text)?))
+}
+
+// The faults of the texts under these rules.
 fn check_all(
     alloc: Global,
     rules: Option<&LanguageRules<'_>>,
-    texts: &LanguageTexts<'_>,
+    five: &Five<Option<ReadText<'_>>>,
+    other: &Option<ReadText<'_>>,
 ) -> Result<Report, AllocError>
-    ensures { IfOk result (λ report. AreFindingsUnder (option_copied rules.entry) (six_texts texts.now) report) }
+    ensures { IfOk result (λ report. AreFindingsUnder (option_copied rules.entry) (six five.now other.now) report) }
 {
     let mut report = Report::new(alloc);
-    for_five!(texts, |text, category| {
-        check_if_there(alloc, rules, category, *text, &mut report)?;
+    for_five!(five, |text, category| {
+        check_if_there(alloc, rules, category, text, &mut report)?;
     });
-    check_if_there(
-        alloc,
-        rules,
-        PluralCategory::Other,
-        texts.other,
-        &mut report,
-    )?;
+    check_if_there(alloc, rules, PluralCategory::Other, other, &mut report)?;
     Ok(report)
 }
 
-// Returns the rules of the five texts, or `None` if one is too long or gives no rule.
+// The rules of the five texts, or `None` if one is too long or gives no rule.
 fn rules_of(
     alloc: Global,
-    texts: &LanguageTexts<'_>,
+    five: &Five<Option<ReadText<'_>>>,
 ) -> Result<Option<LanguageRules<'static>>, AllocError>
-    ensures { IfOk result (λ rules. AreRulesIfRead (six_texts texts.now).five rules) }
+    ensures { IfOk result (λ rules. AreRulesIfRead five.now rules) }
 {
-    if texts.has_long() {
-        return Ok(None);
-    }
-    let five = make_five!(Five, texts, |text| *text);
-    match PluralRulesData::from_five(alloc, &five) {
+    match packed_rules(alloc, five) {
         Ok(data) => Ok(Some(LanguageRules::of(data)?)),
-        Err(refused) => match refused.error {
-            RuleError::Parse(_) | RuleError::StartLimit => Ok(None),
-            RuleError::Memory => Err(AllocError),
-        },
+        Err(NoRule::Refused) => Ok(None),
+        Err(NoRule::Memory) => Err(AllocError),
     }
+}
+
+// The packed rules of the five texts.
+fn packed_rules(
+    alloc: Global,
+    five: &Five<Option<ReadText<'_>>>,
+) -> Result<PluralRulesData<'static>, NoRule>
+    ensures ok { IfOk result (λ packed. AreRulesIfRead five.now (Some (rules_of packed))) }
+    ensures refused { IfErr result (λ why. IfRefused why (AreRulesIfRead five.now None)) }
+{
+    Ok(make_five!(PluralRulesData, five, |text| packed_if_there(alloc, text)?))
 }

@@ -18,6 +18,7 @@ mod ordered_relation;
 mod ordered_rules;
 mod printed_rule;
 mod range_check;
+mod read_text;
 mod reading;
 mod report;
 mod sample;

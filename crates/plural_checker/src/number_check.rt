@@ -1,9 +1,9 @@
 //! Checks the numbers of samples against the category whose text lists them.
 
-ghost use Rattle.std.specs.Prelude.{◌≡◌, ◌<◌, IfOk, IfSome, None, Some};
-ghost use Rattle.std.specs.Bool.{OnTrue};
+ghost use Rattle.std.specs.Prelude.{◌<◌, IfOk};
 ghost use Rattle.std.specs.Option.{option_copied};
 ghost use Rattle.icu_plurals.specs.DecimalChoice.{HasCategory};
+ghost use Rattle.plural_checker.specs.Inner.ShortNumbers.{IsVerdictOn};
 ghost use Rattle.plural_checker.specs.NumberChecks.{AreCheckedNumbers, IsCheckedBy, IsCheckedNumber, IsCheckedText};
 ghost use Rattle.plural_checker.specs.SampleNumbers.{count_of, number_at};
 
@@ -11,7 +11,7 @@ use crate::chooser::Chooser;
 use crate::fault::{NumberFault, SampleFault};
 use crate::reading::read_number;
 use crate::sample_range::SampleNumbers;
-use crate::short_number::fault_at;
+use crate::short_number::{Verdict, verdict_at};
 use icu_plurals::provider::rules::reference::ast::DecimalValue;
 use icu_plurals::{CompactDecimal, PluralCategory, PluralOperands};
 use plural_base::laws::kept_choice_is_exact;
@@ -27,42 +27,33 @@ pub(crate) fn check_numbers(
     ensures { IfOk result (λ fault. AreCheckedNumbers (option_copied rules.entry) category numbers.now fault) }
 {
     for index in 0..numbers.count() {
-        let known = fault_at(rules, category, numbers, index);
-        if is_known_right(&known) {
+        let verdict = verdict_at(rules, category, numbers, index);
+        if verdict.is_right() {
             continue;
         }
         let text = numbers.text(alloc, index)?;
-        if let Some(fault) = check_if_unknown(alloc, rules, category, &text, known)? {
+        if let Some(fault) = fault_by(alloc, rules, category, &text, verdict)? {
             return Ok(Some(SampleFault::Number(text, fault)));
         }
     }
     Ok(None)
 }
 
-// Returns whether it is known that there is no fault.
-fn is_known_right(known: &Option<Option<NumberFault>>) -> bool
-    ensures { OnTrue result (known.now ≡ Some None) }
-{
-    match known {
-        Some(None) => true,
-        _ => false,
-    }
-}
-
-// Returns the fault of a text that is listed under a category: the known one, else that of a check.
-fn check_if_unknown(
+// Returns the fault of a text that is listed under a category: that of the verdict, else of a check.
+fn fault_by(
     alloc: Global,
     rules: Option<&Chooser<'_, '_>>,
     category: PluralCategory,
     text: &DecimalValue,
-    known: Option<Option<NumberFault>>,
+    verdict: Verdict,
 ) -> Result<Option<NumberFault>, AllocError>
-    requires { IfSome known (λ fault. IsCheckedText (option_copied rules) category text.now fault) }
+    requires { IsVerdictOn (option_copied rules) category text.now verdict }
     ensures { IfOk result (λ fault. IsCheckedText (option_copied rules.entry) category text.now fault) }
 {
-    match known {
-        Some(fault) => Ok(fault),
-        None => check_text(alloc, rules, category, text),
+    match verdict {
+        Verdict::Right => Ok(None),
+        Verdict::Wrong(fault) => Ok(Some(fault)),
+        Verdict::Unknown => check_text(alloc, rules, category, text),
     }
 }
 

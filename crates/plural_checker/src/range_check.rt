@@ -13,7 +13,7 @@ use crate::number_check::check_numbers;
 use crate::reading::compact_text;
 use crate::report::Report;
 use crate::sample_range::SampleNumbers;
-use crate::short_number::single_fault;
+use crate::short_number::{Verdict, verdict_on_single};
 use icu_plurals::PluralCategory;
 use icu_plurals::provider::rules::reference::ast::{SampleList, SampleRange, Samples};
 use std::alloc::{AllocError, Global};
@@ -104,13 +104,13 @@ fn check_range(
     ensures { IfOk result (λ checked.
         IsCheckedRange (option_copied rules.entry) category range.now checked.0 checked.1) }
 {
-    match single_fault(alloc, rules, category, range) {
-        Some(None) => Ok((None, 1)),
-        Some(Some(fault)) => {
+    match verdict_on_single(alloc, rules, category, range) {
+        Verdict::Right => Ok((None, 1)),
+        Verdict::Wrong(fault) => {
             let text = compact_text(alloc, &range.lower_val)?;
             Ok((Some(SampleFault::Number(text, fault)), 1))
         }
-        None => check_by_text(alloc, rules, category, range),
+        Verdict::Unknown => check_by_text(alloc, rules, category, range),
     }
 }
 

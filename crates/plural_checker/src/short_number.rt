@@ -1,11 +1,11 @@
 //! Checks short numbers by their operands: those of ranges without a text, and other samples
 //! without a copy of theirs.
 
-ghost use Rattle.std.specs.Prelude.{◌≡◌, ◌+◌, ◌-◌, ◌/◌, ◌^◌, ◌≤◌, ◌<◌, ℕ, List, IfSome, None, Some};
+ghost use Rattle.std.specs.Prelude.{◌≡◌, ◌+◌, ◌-◌, ◌/◌, ◌^◌, ◌≤◌, ◌<◌, ℕ, List, IfSome, Some};
+ghost use Rattle.std.specs.Bool.{OnTrue};
 ghost use Rattle.std.specs.Int.{◌∣◌};
 ghost use Rattle.std.specs.Option.{option_copied};
-ghost use Rattle.plural_checker.specs.Inner.ShortNumbers.{WritesShortNumber};
-ghost use Rattle.plural_checker.specs.NumberChecks.{IsCheckedText};
+ghost use Rattle.plural_checker.specs.Inner.ShortNumbers.{IsVerdictOn, IsVerdictOnRange, WritesShortNumber};
 ghost use Rattle.plural_checker.specs.SampleNumbers.{number_at, number_text, text_with_c};
 
 use crate::chooser::Chooser;
@@ -23,37 +23,56 @@ const MOST_BYTES: usize = 16;
 // The least number of more than 18 digits.
 const LONG: u64 = 1_000_000_000_000_000_000;
 
-// Returns the fault under a category, or that there is none, of a sample that isn't a range and is
-// short; `None` for others.
-pub(crate) fn single_fault(
+// What is known of a number under a category, whose text isn't needed for it if it is short.
+#[derive(Drop)]
+pub(crate) enum Verdict {
+    // The number has no fault.
+    Right,
+    // The number has this fault.
+    Wrong(NumberFault),
+    // The number isn't short.
+    Unknown,
+}
+
+impl Verdict {
+    // Whether the number is known to have no fault.
+    pub(crate) fn is_right(&self) -> bool
+        ensures { OnTrue result (self.now ≡ Verdict.Right) }
+    {
+        match self {
+            Verdict::Right => true,
+            _ => false,
+        }
+    }
+}
+
+// The verdict on a sample; unknown on a range.
+pub(crate) fn verdict_on_single(
     alloc: Global,
     rules: Option<&Chooser<'_, '_>>,
     category: PluralCategory,
     range: &SampleRange,
-) -> Option<Option<NumberFault>>
-    ensures { IfSome result (λ fault. (range.now.upper_val ≡ None)
-        × IsCheckedText (option_copied rules.entry) category (text_with_c range.now.lower_val) fault) }
+) -> Verdict
+    ensures { IsVerdictOnRange (option_copied rules.entry) category range.now result }
 {
     match &range.upper_val {
-        Some(_) => None,
-        None => sample_fault(alloc, rules, category, &range.lower_val),
+        Some(_) => Verdict::Unknown,
+        None => verdict_on_sample(alloc, rules, category, &range.lower_val),
     }
 }
 
-// Returns the fault under a category, or that there is none, of a sample's text that is short;
-// `None` for others.
-fn sample_fault(
+// The verdict on the text of a sample.
+fn verdict_on_sample(
     alloc: Global,
     rules: Option<&Chooser<'_, '_>>,
     category: PluralCategory,
     sample: &DecimalValue,
-) -> Option<Option<NumberFault>>
-    ensures { IfSome result (λ fault.
-        IsCheckedText (option_copied rules.entry) category (text_with_c sample.now) fault) }
+) -> Verdict
+    ensures { IsVerdictOn (option_copied rules.entry) category (text_with_c sample.now) result }
 {
     match sample_operands(alloc, sample) {
-        Some(operands) => Some(fault_of(rules, category, operands)),
-        None => None,
+        Some(operands) => verdict_by(rules, category, operands),
+        None => Verdict::Unknown,
     }
 }
 
@@ -92,71 +111,65 @@ fn without_exponent(operands: PluralOperands) -> Option<PluralOperands>
     }
 }
 
-// Returns the fault under a category, or that there is none, of a number of a range that is short;
-// `None` for others.
-pub(crate) fn fault_at(
+// The verdict on a number of a range.
+pub(crate) fn verdict_at(
     rules: Option<&Chooser<'_, '_>>,
     category: PluralCategory,
     numbers: &SampleNumbers,
     index: u64,
-) -> Option<Option<NumberFault>>
-    ensures { IfSome result (λ fault.
-        IsCheckedText (option_copied rules.entry) category (number_at numbers.now index) fault) }
+) -> Verdict
+    ensures { IsVerdictOn (option_copied rules.entry) category (number_at numbers.now index) result }
 {
     match numbers {
-        SampleNumbers::Single(_) => None,
-        SampleNumbers::Stepped(steps) => step_fault(rules, category, steps, index),
+        SampleNumbers::Single(_) => Verdict::Unknown,
+        SampleNumbers::Stepped(steps) => verdict_on_step(rules, category, steps, index),
     }
 }
 
-// Returns the fault under a category, or that there is none, of a number of steps that is short;
-// `None` for others.
-fn step_fault(
+// The verdict on a number of steps.
+fn verdict_on_step(
     rules: Option<&Chooser<'_, '_>>,
     category: PluralCategory,
     steps: &Steps,
     index: u64,
-) -> Option<Option<NumberFault>>
+) -> Verdict
     ensures { let text = number_text steps.now.places (steps.now.first + index) steps.now.exponent in
-        IfSome result (λ fault. IsCheckedText (option_copied rules.entry) category text fault) }
+        IsVerdictOn (option_copied rules.entry) category text result }
 {
     match operands_at(steps, index) {
-        Some(operands) => Some(fault_of(rules, category, operands)),
-        None => None,
+        Some(operands) => verdict_by(rules, category, operands),
+        None => Verdict::Unknown,
     }
 }
 
-// Returns the fault of every short number of these operands under a category: without rules no
-// number is wrong.
-fn fault_of(
+// The verdict on every short number of these operands: without rules no number is wrong.
+fn verdict_by(
     rules: Option<&Chooser<'_, '_>>,
     category: PluralCategory,
     operands: PluralOperands,
-) -> Option<NumberFault>
-    ensures { (text : List ℕ) → WritesShortNumber text operands
-        → IsCheckedText (option_copied rules.entry) category text result }
+) -> Verdict
+    ensures { (text : List ℕ) → WritesShortNumber text operands → IsVerdictOn (option_copied rules.entry) category text result }
 {
     match rules {
-        Some(rules) => fault_by(rules, category, operands),
-        None => None,
+        Some(rules) => verdict_under(rules, category, operands),
+        None => Verdict::Right,
     }
 }
 
-// Returns the same under these rules.
-fn fault_by(
+// The same under these rules.
+fn verdict_under(
     rules: &Chooser<'_, '_>,
     category: PluralCategory,
     operands: PluralOperands,
-) -> Option<NumberFault>
-    ensures { (text : List ℕ) → WritesShortNumber text operands
-        → IsCheckedText (Some rules.now) category text result }
+) -> Verdict
+    ensures { (text : List ℕ) → WritesShortNumber text operands → IsVerdictOn (Some rules.now) category text result }
 {
     kept_choice_is_exact();
     let chosen = rules.category_for(operands);
     if chosen == category {
-        None
+        Verdict::Right
     } else {
-        Some(NumberFault::Category(chosen))
+        Verdict::Wrong(NumberFault::Category(chosen))
     }
 }
 

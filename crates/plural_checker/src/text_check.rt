@@ -1,25 +1,25 @@
 //! One text of a language's rules.
 
-ghost use Rattle.std.specs.Prelude.{◌≡◌, ◌≢◌, IfOk, IsTrue, List, OnOk, MatchBool};
+ghost use Rattle.std.specs.Prelude.{◌≡◌, ◌≢◌, IsTrue, List, OnOk, MatchBool};
 ghost use Rattle.icu_plurals.specs.Lexer.{AreTokensOf};
 ghost use Rattle.icu_plurals.specs.declared.provider.rules.reference.Token.{Token};
 ghost use Rattle.std.specs.Option.{option_copied};
 ghost use Rattle.plural_checker.specs.Findings.{AddsFindings, GrowsBy};
-ghost use Rattle.plural_checker.specs.TextChecks.{HaveOtherTokens, HaveSameTokens, IsReadAsRule, IsTreeOf};
-ghost use Rattle.plural_checker.specs.TextChecks.{condition_findings, IsFoundIn, IsFoundInReading, IsFoundInRule, IsFoundInCategoryText};
+ghost use Rattle.plural_checker.specs.Inner.TextReadings.{IsFoundInRead};
+ghost use Rattle.plural_checker.specs.TextChecks.{HaveOtherTokens, HaveSameTokens};
+ghost use Rattle.plural_checker.specs.TextChecks.{condition_findings, IsFoundIn, IsFoundInReading, IsFoundInCategoryText};
 
 use crate::fault::{Fault, TextFault};
 use crate::language_rules::LanguageRules;
 use crate::list_order::is_out_of_order;
 use crate::printed_rule::PrintedRule;
 use crate::range_check::check_samples;
+use crate::read_text::{ReadText, Reading};
 use crate::report::Report;
-use crate::texts::is_long;
 use icu_plurals::PluralCategory;
-use icu_plurals::laws::one_list_of_tokens;
+use icu_plurals::provider::rules::reference::Lexer;
 use icu_plurals::provider::rules::reference::ast::{Condition, Rule};
-use icu_plurals::provider::rules::reference::{Lexer, ReadError, parse};
-use icu_plurals::provider::rules::runtime::ast::{Rule as PackedRule, RuleError};
+use icu_plurals::provider::rules::runtime::ast::RuleError;
 use std::alloc::{AllocError, Global};
 
 // Adds the faults of a category's text, if it is present.
@@ -27,11 +27,10 @@ pub(crate) fn check_if_there(
     alloc: Global,
     rules: Option<&LanguageRules<'_>>,
     category: PluralCategory,
-    text: Option<&str>,
+    text: &Option<ReadText<'_>>,
     report: &mut Report,
 ) -> Result<(), AllocError>
-    ensures { OnOk result (AddsFindings
-        (IsFoundIn (option_copied rules.entry) category (option_copied text.entry)) report.old report.new) }
+    ensures { OnOk result (AddsFindings (IsFoundIn (option_copied rules.entry) category text.now) report.old report.new) }
 {
     match text {
         Some(text) => check_text(alloc, rules, category, text, report),
@@ -39,44 +38,43 @@ pub(crate) fn check_if_there(
     }
 }
 
-// Adds the faults of a category's text. A long text isn't read.
+// Adds the faults of a category's text.
 fn check_text(
     alloc: Global,
     rules: Option<&LanguageRules<'_>>,
     category: PluralCategory,
-    text: &str,
+    text: &ReadText<'_>,
     report: &mut Report,
 ) -> Result<(), AllocError>
     ensures { OnOk result (AddsFindings (IsFoundInCategoryText (option_copied rules.entry) category text.now) report.old report.new) }
 {
-    if is_long(text) {
-        let kind = TextFault::TooLong(text.len());
-        return report.add(Fault { category, kind });
+    match text.reading() {
+        Reading::Long => {
+            let kind = TextFault::TooLong(text.as_str().len());
+            report.add(Fault { category, kind })
+        }
+        Reading::Refused(fault) => {
+            let kind = TextFault::Unread(RuleError::Parse(*fault));
+            report.add(Fault { category, kind })
+        }
+        Reading::Rule(rule) => check_rule(alloc, rules, category, text.as_str(), rule, report),
     }
-    check_rule(alloc, rules, category, text, report)
 }
 
-// Adds the faults of a category's text, as a rule.
+// Adds the faults of a category's text that is read as this rule.
 fn check_rule(
     alloc: Global,
     rules: Option<&LanguageRules<'_>>,
     category: PluralCategory,
     text: &str,
+    rule: &Rule,
     report: &mut Report,
 ) -> Result<(), AllocError>
-    ensures { OnOk result (AddsFindings (IsFoundInRule (option_copied rules.entry) category text.now) report.old report.new) }
+    ensures { OnOk result (AddsFindings (IsFoundInRead (option_copied rules.entry) category text.now rule.now) report.old report.new) }
 {
-    match rule_of(alloc, text)? {
-        Ok(rule) => {
-            check_reading(alloc, category, text, &rule, report)?;
-            check_condition(category, &rule.condition, report)?;
-            check_samples(alloc, rules, category, &rule.samples, report)
-        }
-        Err(error) => {
-            let kind = TextFault::Unread(error);
-            report.add(Fault { category, kind })
-        }
-    }
+    check_reading(alloc, category, text, rule, report)?;
+    check_condition(category, &rule.condition, report)?;
+    check_samples(alloc, rules, category, &rule.samples, report)
 }
 
 // Adds a fault if part of the text isn't read, or if its lists of samples are out of order.
@@ -114,30 +112,6 @@ fn check_condition(
     }
     let kind = TextFault::Condition;
     report.add(Fault { category, kind })
-}
-
-// Returns the rule that a text is read as, or why it gives none.
-fn rule_of(alloc: Global, text: &str) -> Result<Result<Rule, RuleError>, AllocError>
-    ensures { IfOk result (λ answer. IsReadAsRule text.now answer) }
-{
-    match PackedRule::from_str(alloc, text).err() {
-        None => tree_of(alloc, text),
-        Some(RuleError::Parse(fault)) => Ok(Err(RuleError::Parse(fault))),
-        Some(RuleError::StartLimit) => Ok(Err(RuleError::StartLimit)),
-        Some(RuleError::Memory) => Err(AllocError),
-    }
-}
-
-// Returns the tree of a text, or why it has none.
-fn tree_of(alloc: Global, text: &str) -> Result<Result<Rule, RuleError>, AllocError>
-    ensures { IfOk result (λ answer. IsTreeOf text.now answer) }
-{
-    one_list_of_tokens();
-    match parse(alloc, text.as_bytes()) {
-        Ok(rule) => Ok(Ok(rule)),
-        Err(ReadError::Parse(fault)) => Ok(Err(RuleError::Parse(fault))),
-        Err(ReadError::Memory) => Err(AllocError),
-    }
 }
 
 // Returns whether two texts have the same tokens.

@@ -1,12 +1,10 @@
 //! The texts of a language's rules.
 
 ghost use Rattle.std.specs.Prelude.{◌≡◌};
-ghost use Rattle.icu_plurals.specs.FiveRules.{passes};
-ghost use Rattle.std.specs.Option.{option_copied};
-ghost use Rattle.plural_checker.specs.LanguageTexts.{has_long, has_rule, is_long, six_texts};
+ghost use Rattle.plural_checker.specs.LanguageTexts.{has_rule, is_long, six_texts};
 
 use icu_plurals::PluralCategory;
-use plural_base::{at_category, for_five};
+use plural_base::at_category;
 
 /// The most bytes that a text may have. The longest of CLDR 41 has 289.
 pub const MOST_TEXT_BYTES: usize = 1024;
@@ -36,28 +34,6 @@ impl<'a> LanguageTexts<'a> {
         ensures { result ≡ has_rule (six_texts self.now) category }
     {
         at_category!(self, category, |text| text.is_some(), true)
-    }
-
-    // Returns whether one of the five texts has more than the most bytes.
-    pub(crate) fn has_long(&self) -> bool
-        ensures { result ≡ has_long (six_texts self.now).five }
-    {
-        for_five!(self, |text| {
-            if is_long_if_there(*text) {
-                return true;
-            }
-        });
-        false
-    }
-}
-
-// Returns whether a text is present and has more than the most bytes.
-fn is_long_if_there(text: Option<&str>) -> bool
-    ensures { result ≡ passes is_long (option_copied text.entry) }
-{
-    match text {
-        Some(text) => is_long(text),
-        None => false,
     }
 }
 

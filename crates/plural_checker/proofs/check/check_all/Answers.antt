@@ -2,7 +2,7 @@ use Rattle.std.proofs.Common.{ap}
 use Rattle.std.specs.Option.{option_copied}
 use Rattle.icu_plurals.specs.declared.PluralCategory.TheVariants.{Zero, One, Two, Few, Many, Other}
 use Rattle.plural_checker.specs.Findings.{FindsBoth}
-use Rattle.plural_checker.specs.LanguageTexts.{six_texts}
+use Rattle.plural_checker.specs.Inner.TextReadings.{six}
 use Rattle.plural_checker.specs.TextChecks.{IsFoundIn}
 use Rattle.plural_checker.specs.declared.report.Report.{Report}
 use Rattle.plural_checker.proofs.Growth.{adds_both, reported}
@@ -11,7 +11,7 @@ use Rattle.plural_checker.proofs.check.check_all.Goals as goal
 pub returns : goal.returns
 returns c =
     let rules = option_copied c.args.rules in
-    let texts = six_texts c.args.texts.now in
+    let texts = six c.args.five.now c.args.other.now in
     let in_zero = IsFoundIn rules Zero texts.five.zero in
     let in_one = IsFoundIn rules One texts.five.one in
     let in_two = IsFoundIn rules Two texts.five.two in

@@ -1,17 +1,17 @@
 use Rattle.std.proofs.Common.{None, arith, below_more, subst}
-use Rattle.std.specs.Prelude.{IfSome}
 use Rattle.std.specs.Option.{option_copied}
+use Rattle.plural_checker.specs.Inner.ShortNumbers.{IsVerdictOn}
 use Rattle.plural_checker.specs.NumberChecks.{IsCheckedText}
 use Rattle.plural_checker.specs.SampleNumbers.{number_at}
 use Rattle.plural_checker.proofs.number_check.check_numbers.Goals as goal
 
-pub loop-index-preserved-then-is_known_right : goal.loop-index-preserved-then-is_known_right
-loop-index-preserved-then-is_known_right c =
+pub loop-index-preserved-then-is_right : goal.loop-index-preserved-then-is_right
+loop-index-preserved-then-is_right c =
     let rules = option_copied c.args.rules in
     let category = c.args.category in
     below_more (λ k. IsCheckedText rules category (number_at c.args.numbers.now k) None) c.loop-index.index c.loop-index.invariant
-    (subst (λ known. IfSome known (λ fault. IsCheckedText rules category (number_at c.args.numbers.now c.loop-index.index) fault))
-    c.if-is_known_right.ensures c.fault_at-known.ensures)
+    (subst (λ verdict. IsVerdictOn rules category (number_at c.args.numbers.now c.loop-index.index) verdict) c.if-is_right.ensures
+    c.verdict_at-verdict.ensures)
 
 pub loop-index-preserved : goal.loop-index-preserved
 loop-index-preserved c =

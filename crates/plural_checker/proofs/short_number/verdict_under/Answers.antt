@@ -1,6 +1,6 @@
 use Rattle.std.proofs.Common.{◌≡◌, rules, sym, ◌∙◌}
 use Rattle.plural_checker.proofs.ShortChecks.{right_by, wrong_by}
-use Rattle.plural_checker.proofs.short_number.fault_by.Goals as goal
+use Rattle.plural_checker.proofs.short_number.verdict_under.Goals as goal
 
 pub returns-then-eq : goal.returns-then-eq
 returns-then-eq c =
