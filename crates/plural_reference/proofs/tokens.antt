@@ -7,4 +7,5 @@ pub mod CutOnce
 pub mod Alone
 pub mod FirstBytes
 pub mod LargeNumbers
+pub mod OpenNumbers
 pub mod TokensFit
