@@ -13,6 +13,7 @@ mod finding;
 mod finding_place;
 mod form;
 mod found;
+mod kept_place;
 mod keys;
 mod languages;
 pub mod laws;

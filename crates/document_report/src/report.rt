@@ -17,6 +17,7 @@ use crate::document::{add_members_of, members_of};
 use crate::finding::Finding;
 use crate::finding_place::FindingPlace;
 use crate::found::Found;
+use crate::kept_place::KeptPlace;
 use crate::keys::PartCheck;
 use crate::languages::LanguageCheck;
 use crate::locales::locale_count;
@@ -178,20 +179,30 @@ impl<'a> Report<'a> {
 }
 
 // Appends the line of each finding.
-fn push_lines(alloc: Global, text: &mut String, findings: &[Finding<'_>]) -> Result<(), AllocError>
+fn push_lines<'a>(
+    alloc: Global,
+    text: &mut String,
+    findings: &[Finding<'a>],
+) -> Result<(), AllocError>
     ensures { OnOk result (string_bytes text.new ≡ string_bytes text.old ++ flat_map printed_finding (map finding_view findings.now)) }
 {
+    let mut kept = KeptPlace::of(alloc, FindingPlace::Document)?;
     for finding in findings {
-        push_line(alloc, text, finding)?;
+        push_line(alloc, text, &mut kept, finding)?;
     }
     Ok(())
 }
 
 // Appends the line of a finding, and a newline.
-fn push_line(alloc: Global, text: &mut String, finding: &Finding<'_>) -> Result<(), AllocError>
+fn push_line<'a>(
+    alloc: Global,
+    text: &mut String,
+    kept: &mut KeptPlace<'a>,
+    finding: &Finding<'a>,
+) -> Result<(), AllocError>
     ensures { OnOk result (string_bytes text.new ≡ string_bytes text.old ++ printed_finding (finding_view finding.now)) }
 {
-    text.push_str(finding.line(alloc)?.as_str())?;
+    text.push_str(kept.line(alloc, finding)?.as_str())?;
     text.push_str("\n")
 }
 

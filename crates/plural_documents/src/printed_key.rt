@@ -46,7 +46,7 @@ fn length_text(alloc: Global, key: &str) -> Result<String, AllocError>
 fn escaped_key(alloc: Global, key: &str) -> Result<String, AllocError>
     ensures { IfOk result (λ text. string_bytes text ≡ escaped_key key.now) }
 {
-    let mut text = String::new(alloc);
+    let mut text = String::with_capacity(alloc, key.len())?;
     push_key(&mut text, key)?;
     Ok(text)
 }
