@@ -29,7 +29,7 @@ impl Finding<'_> {
 }
 
 // Returns the line of a cause, given what is printed for the place.
-pub(crate) fn line_of(alloc: Global, place: &str, cause: &Cause) -> Result<String, AllocError>
+fn line_of(alloc: Global, place: &str, cause: &Cause) -> Result<String, AllocError>
     ensures { IfOk result (λ line. string_bytes line ≡ place.now ++ (codes ": " ++ cause_text cause.now)) }
 {
     format!(in alloc; "{place}: {cause}")

@@ -91,5 +91,9 @@ fn key_text(alloc: Global, locale: LocalePlace<'_>, key: &str) -> Result<String,
 fn named(alloc: Global, place: &str, name: &str) -> Result<String, AllocError>
     ensures { IfOk result (λ text. string_bytes text ≡ named place.now name.now) }
 {
-    format!(in alloc; "{place} {name}")
+    let mut text = String::with_capacity(alloc, place.len() + 1 + name.len())?;
+    text.push_str(place)?;
+    text.push_str(" ")?;
+    text.push_str(name)?;
+    Ok(text)
 }

@@ -1,13 +1,18 @@
 //! What is printed for a place, kept for the findings that follow one another there.
 
-ghost use Rattle.std.specs.Prelude.{◌≡◌, IfOk, string_bytes};
+ghost use Rattle.std.specs.Prelude.{◌≡◌, ◌++◌, codes, IfOk, OnOk, string_bytes};
 ghost use Rattle.std.specs.Bool.{OnTrue};
-ghost use Rattle.document_report.specs.DocumentFindings.{finding_line, finding_view};
+ghost use Rattle.document_report.specs.DocumentCauses.{cause_text};
+ghost use Rattle.document_report.specs.DocumentFindings.{finding_view};
 ghost use Rattle.document_report.specs.DocumentPlaces.{finding_place_view, locale_place_view};
+ghost use Rattle.document_report.specs.ReportText.{printed_finding};
+ghost use Rattle.plural_documents.specs.FirstLines.{ended_line};
 
-use crate::finding::{Finding, line_of};
+use crate::cause::Cause;
+use crate::finding::Finding;
 use crate::finding_place::{FindingPlace, LocalePlace};
 use std::alloc::{AllocError, Global};
+use std::fmt::Write;
 use std::marker::Model;
 
 // A place, and what is printed for it. Contracts see the place.
@@ -38,18 +43,29 @@ impl<'a> KeptPlace<'a> {
         Ok(KeptPlace { place, text })
     }
 
-    // The line of a finding, whose place is kept then.
-    pub(crate) fn line(
+    // Appends the line of a finding, and a newline; then its place is kept.
+    pub(crate) fn push_line(
         &mut self,
         alloc: Global,
+        text: &mut String,
         finding: &Finding<'a>,
-    ) -> Result<String, AllocError>
-        ensures { IfOk result (λ line. string_bytes line ≡ finding_line (finding_view finding.now)) }
+    ) -> Result<(), AllocError>
+        ensures { OnOk result (string_bytes text.new ≡ string_bytes text.old ++ printed_finding (finding_view finding.now)) }
     {
         if !is_same(&self.place, &finding.place) {
             *self = KeptPlace::of(alloc, finding.place)?;
         }
-        line_of(alloc, self.text.as_str(), &finding.cause)
+        push_line(text, self.text.as_str(), &finding.cause)
+    }
+}
+
+// Appends the line of a cause, given what is printed for the place, and a newline.
+fn push_line(text: &mut String, place: &str, cause: &Cause) -> Result<(), AllocError>
+    ensures { OnOk result (string_bytes text.new ≡ string_bytes text.old ++ ended_line (place.now ++ (codes ": " ++ cause_text cause.now))) }
+{
+    match write!(text, "{place}: {cause}\n") {
+        Ok(()) => Ok(()),
+        Err(_) => Err(AllocError),
     }
 }
 

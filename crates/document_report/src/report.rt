@@ -188,22 +188,9 @@ fn push_lines<'a>(
 {
     let mut kept = KeptPlace::of(alloc, FindingPlace::Document)?;
     for finding in findings {
-        push_line(alloc, text, &mut kept, finding)?;
+        kept.push_line(alloc, text, finding)?;
     }
     Ok(())
-}
-
-// Appends the line of a finding, and a newline.
-fn push_line<'a>(
-    alloc: Global,
-    text: &mut String,
-    kept: &mut KeptPlace<'a>,
-    finding: &Finding<'a>,
-) -> Result<(), AllocError>
-    ensures { OnOk result (string_bytes text.new ≡ string_bytes text.old ++ printed_finding (finding_view finding.now)) }
-{
-    text.push_str(kept.line(alloc, finding)?.as_str())?;
-    text.push_str("\n")
 }
 
 // Returns the line with these counts.
