@@ -1,8 +1,8 @@
 //! The words of the command line.
 
-ghost use Rattle.std.specs.Prelude.{◌≡◌, map, option_map};
+ghost use Rattle.std.specs.Prelude.{◌≡◌, ◌∷◌, [], map, option_map};
 ghost use Rattle.document_formats.specs.FormatWords.{format_in};
-ghost use Rattle.document_formats.specs.CheckWords.{asked_by, asked_by_format, asked_of_files, option_among};
+ghost use Rattle.document_formats.specs.CheckWords.{asked_by, asked_by_format, asked_by_word, asked_of_files, option_among};
 ghost use Rattle.document_formats.specs.Inner.WordViews.{asked_view, words_view};
 
 use crate::word_fault::WordFault;
@@ -40,11 +40,31 @@ pub fn asked_by<'w>(words: &'w [&'w str]) -> Result<Asked<'w>, WordFault<'w>>
     ensures { asked_view result ≡ asked_by (words_view words.now) }
 {
     match words {
-        [word] if *word == "--help" => Ok(Asked::Help),
-        [word] if *word == "--version" => Ok(Asked::Version),
-        [word] if *word == "--format" => Err(WordFault::NoFormat),
-        [option, word, files @ ..] if *option == "--format" => of_format(word, files),
-        files => of_files(Format::Text, files),
+        [] => of_files(Format::Text, words),
+        [word] => of_word(word, words),
+        [option, word, files @ ..] => {
+            if *option == "--format" {
+                of_format(word, files)
+            } else {
+                of_files(Format::Text, words)
+            }
+        }
+    }
+}
+
+// What is asked by a word that stands alone.
+fn of_word<'w>(word: &'w str, words: &'w [&'w str]) -> Result<Asked<'w>, WordFault<'w>>
+    requires { words_view words.now ≡ word.now ∷ [] }
+    ensures { asked_view result ≡ asked_by_word word.now }
+{
+    if word == "--help" {
+        Ok(Asked::Help)
+    } else if word == "--version" {
+        Ok(Asked::Version)
+    } else if word == "--format" {
+        Err(WordFault::NoFormat)
+    } else {
+        of_files(Format::Text, words)
     }
 }
 
