@@ -120,21 +120,14 @@ impl<'w> CheckWords<'w> {
         }
     }
 
-    // Takes an option and the first word behind it. Returns the words behind that.
-    fn take_with<'a>(
-        &mut self,
-        option: &'w str,
-        words: &'a [&'w str],
-    ) -> Result<&'a [&'w str], Unsaid<'w>> {
+    // Takes an option and the word behind it, if one is there.
+    fn take_with(&mut self, option: &'w str, word: Option<&&'w str>) -> Result<(), Unsaid<'w>> {
         if !has_word(option) {
             return Err(Unsaid::Word(WordFault::Option(option)));
         }
-        match words {
-            [] => Err(Unsaid::Word(WordFault::NoWord(option))),
-            [word, rest @ ..] => {
-                self.take(option, *word)?;
-                Ok(rest)
-            }
+        match word {
+            Some(word) => self.take(option, *word),
+            None => Err(Unsaid::Word(WordFault::NoWord(option))),
         }
     }
 
@@ -166,15 +159,18 @@ fn is_code(word: &str) -> bool {
 // What words say.
 pub(crate) fn said_by<'w>(alloc: Global, words: &[&'w str]) -> Result<CheckWords<'w>, Unsaid<'w>> {
     let mut said = CheckWords::new(alloc);
-    let mut rest = words;
-    while let [word, after @ ..] = rest {
-        rest = after;
-        if !word.starts_with("--") {
+    // Whether the word before is an option that this one belongs to.
+    let mut is_taken = false;
+    for (index, word) in words.iter().enumerate() {
+        if is_taken {
+            is_taken = false;
+        } else if !word.starts_with("--") {
             said.name(*word)?;
         } else if !said.names.is_empty() {
             return Err(Unsaid::Word(WordFault::Late(*word)));
         } else if !said.take_alone(word) {
-            rest = said.take_with(*word, after)?;
+            said.take_with(*word, words.get(index.saturating_add(1)))?;
+            is_taken = true;
         }
     }
     if said.names.is_empty() {

@@ -11,15 +11,13 @@ pub(crate) fn may_mean_exponents(numbers: &[&str]) -> bool {
 
 // Whether there is an `e` between two digits.
 fn has_mark(number: &[u8]) -> bool {
-    let mut rest = number;
-    while let [first, after @ ..] = rest {
-        if let [mark, last, ..] = after {
-            let is_mark = *mark == b'e' || *mark == b'E';
-            if is_mark && first.is_ascii_digit() && last.is_ascii_digit() {
-                return true;
-            }
-        }
-        rest = after;
+    number.windows(3).any(|part| is_mark(part))
+}
+
+// Whether these are an `e` between two digits.
+fn is_mark(part: &[u8]) -> bool {
+    match part {
+        [first, b'e' | b'E', last] => first.is_ascii_digit() && last.is_ascii_digit(),
+        _ => false,
     }
-    false
 }

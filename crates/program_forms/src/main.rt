@@ -57,17 +57,25 @@ fn help(rt: &HostRuntime) -> Result<Verdict, Failure> {
 
 // Writes the categories of the numbers, or of those in the input, and tells how an exponent is
 // written where one may be meant.
-fn category(rt: &HostRuntime, wanted: Wanted<'_>, numbers: &[&str]) -> Result<Verdict, Failure> {
-    let asked = if numbers.is_empty() {
-        Asked::Lines(wanted)
-    } else {
-        Asked::Numbers(wanted, numbers)
-    };
-    let verdict = answer(rt, wanted.file, asked)?;
+fn category<'a>(
+    rt: &HostRuntime,
+    wanted: Wanted<'a>,
+    numbers: &'a [&'a str],
+) -> Result<Verdict, Failure> {
+    let verdict = answer(rt, wanted.file, categories(wanted, numbers))?;
     if verdict == Verdict::Faults && may_mean_exponents(numbers) {
         let _ = eprintln!(rt; "{EXPONENT}");
     }
     Ok(verdict)
+}
+
+// What is asked of the numbers, or of those in the input.
+fn categories<'a>(wanted: Wanted<'a>, numbers: &'a [&'a str]) -> Asked<'a> {
+    if numbers.is_empty() {
+        Asked::Lines(wanted)
+    } else {
+        Asked::Numbers(wanted, numbers)
+    }
 }
 
 // Writes what files of messages lack.

@@ -82,41 +82,32 @@ fn fault_behind<'w>(command: &'w str, has_numbers: bool, words: &[&'w str]) -> W
 fn fault_of_options<'w>(has_numbers: bool, words: &[&'w str]) -> WordFault<'w> {
     let mut has_part = false;
     let mut has_rules = false;
-    let mut rest = words;
-    while let [word, after @ ..] = rest {
+    // Whether this word is the one behind `--rules`.
+    let mut is_taken = false;
+    // Whether this word stands behind a number.
+    let mut is_late = false;
+    for word in words {
         let is_part = *word == "--ordinal";
         let is_rules = *word == "--rules";
-        if is_part && has_part || is_rules && has_rules {
-            return WordFault::Twice(*word);
-        }
-        if !is_part && !is_rules {
-            return fault_of_word(has_numbers, *word, after);
-        }
-        rest = after;
-        if is_rules {
-            match after {
-                [] => return WordFault::NoWord(*word),
-                [_, behind @ ..] => rest = behind,
+        if is_taken {
+            is_taken = false;
+        } else if !word.starts_with("--") {
+            if !has_numbers {
+                return WordFault::Further(*word);
             }
-        }
-        has_part = has_part || is_part;
-        has_rules = has_rules || is_rules;
-    }
-    WordFault::NoCommand
-}
-
-// What is wrong with a word behind the options, or with one of those behind it.
-fn fault_of_word<'w>(has_numbers: bool, word: &'w str, rest: &[&'w str]) -> WordFault<'w> {
-    if word.starts_with("--") {
-        return WordFault::Option(word);
-    }
-    if !has_numbers {
-        return WordFault::Further(word);
-    }
-    for it in rest {
-        if it.starts_with("--") {
-            return WordFault::Option(*it);
+            is_late = true;
+        } else if is_late || !is_part && !is_rules {
+            return WordFault::Option(*word);
+        } else if is_part && has_part || is_rules && has_rules {
+            return WordFault::Twice(*word);
+        } else {
+            has_part = has_part || is_part;
+            has_rules = has_rules || is_rules;
+            is_taken = is_rules;
         }
     }
-    WordFault::Further(word)
+    match words.last() {
+        Some(last) if is_taken => WordFault::NoWord(*last),
+        _ => WordFault::NoCommand,
+    }
 }
