@@ -1,3 +1,5 @@
+mod LoopSteps
+mod LinePieces
 mod NoFloats
 -- the same as those of finding_formats
 mod PlainData

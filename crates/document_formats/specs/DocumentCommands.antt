@@ -10,20 +10,24 @@ use Rattle.finding_formats.specs.LocatedFindings.{Located, Notice, told_notice}
 use Rattle.document_formats.specs.DocumentCodes.{code_name, code_of}
 use Rattle.document_formats.specs.DocumentObjects.{input_name}
 
--- a text with a code, told of the document
-abbrev pub input_notice : List ℕ → List ℕ → Notice
-input_notice code text = record { file = input_name; severity = Error; code = code; text = text }
+-- a text with a code, told of a file
+abbrev pub file_notice : List ℕ → List ℕ → List ℕ → Notice
+file_notice file code text = record { file = file; severity = Error; code = code; text = text }
 
-abbrev pub input_located : List ℕ → List ℕ → Located
-input_located code text = record { line = None; placeholder = None; told = told_notice (input_notice code text) }
+abbrev pub file_located : List ℕ → List ℕ → List ℕ → Located
+file_located file code text = record { line = None; placeholder = None; told = told_notice (file_notice file code text) }
 
 -- its command
-abbrev pub input_command : List ℕ → List ℕ → List ℕ
-input_command code text = located_commands (input_located code text ∷ [])
+abbrev pub file_command : List ℕ → List ℕ → List ℕ → List ℕ
+file_command file code text = located_commands (file_located file code text ∷ [])
 
--- `::error file=-,title=no-other::cardinal ru: no other`
-abbrev pub finding_command : Finding → List ℕ
-finding_command f = input_command (code_name (code_of f.cause)) (finding_line f)
+-- `::error file=cldr.json,title=no-other::cardinal ru: no other`
+abbrev pub finding_command_in : List ℕ → Finding → List ℕ
+finding_command_in file f = file_command file (code_name (code_of f.cause)) (finding_line f)
 
+abbrev pub file_report_commands : List ℕ → Report → List ℕ
+file_report_commands file report = flat_map (finding_command_in file) (findings_in report)
+
+-- those of the document in standard input: `::error file=-,title=no-other::cardinal ru: no other`
 abbrev pub report_commands : Report → List ℕ
-report_commands report = flat_map finding_command (findings_in report)
+report_commands report = file_report_commands input_name report

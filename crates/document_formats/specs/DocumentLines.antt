@@ -5,7 +5,7 @@ use Rattle.serde_json.specs.Data.{Data}
 use Rattle.document_report.specs.ReportText.{counts_in, findings_in}
 use Rattle.document_report.specs.declared.report.Report.{Report}
 use Rattle.finding_formats.specs.JsonLines.{json_line}
-use Rattle.document_formats.specs.DocumentObjects.{counts_data, finding_data}
+use Rattle.document_formats.specs.DocumentObjects.{counts_data, counts_data_in, finding_data, finding_data_in}
 
 -- the findings in their order, and then the counts, whose line is the last one
 abbrev pub report_data : Report → List Data
@@ -13,3 +13,8 @@ report_data report = map finding_data (findings_in report) ++ (counts_data (coun
 
 abbrev pub report_lines : Report → List ℕ
 report_lines report = flat_map json_line (report_data report)
+
+-- the same of a file of this name
+abbrev pub file_report_lines : List ℕ → Report → List ℕ
+file_report_lines file report =
+    flat_map json_line (map (finding_data_in file) (findings_in report)) ++ json_line (counts_data_in file (counts_in report))

@@ -7,6 +7,7 @@ use Rattle.document_report.specs.DocumentFindings.{Finding, finding_line}
 use Rattle.document_report.specs.DocumentPlaces.{FindingPlace, finding_place_text}
 use Rattle.document_report.specs.ReportText.{findings_in}
 use Rattle.document_report.specs.declared.report.Report.{Report}
+use Rattle.finding_formats.specs.FileReferences.{file_reference}
 use Rattle.finding_formats.specs.JsonLines.{json_line}
 use Rattle.finding_formats.specs.SarifLog.{message_data, one_item, only}
 use Rattle.document_formats.specs.DocumentCodes.{all_codes, code_meaning, code_name, code_of, code_place}
@@ -24,11 +25,11 @@ tool_data =
     only (codes "driver") (object (member (codes "name") (string (codes "plurals_check"))
     (member (codes "rules") (array (items_of (map rule_data all_codes))) no_members)))
 
--- the document, and the place in it by its name
-abbrev pub location_data : FindingPlace → Data
-location_data place =
+-- the file of a document, and the place in it by its name
+abbrev pub location_data_in : List ℕ → FindingPlace → Data
+location_data_in file place =
     object (member (codes "logicalLocations") (one_item (only (codes "fullyQualifiedName") (string (finding_place_text place))))
-    (member (codes "physicalLocation") (only (codes "artifactLocation") (only (codes "uri") (string input_name))) no_members))
+    (member (codes "physicalLocation") (only (codes "artifactLocation") (only (codes "uri") (string (file_reference file)))) no_members))
 
 -- a result: its level, its location, what is printed of it, and its rule
 abbrev pub rule_result : Data → List ℕ → Code → Data
@@ -37,8 +38,8 @@ rule_result location text code =
     (member (codes "message") (message_data text) (member (codes "ruleId") (string (code_name code))
     (member (codes "ruleIndex") (number (unsigned (code_place code))) no_members)))))
 
-abbrev pub result_data : Finding → Data
-result_data f = rule_result (location_data f.place) (finding_line f) (code_of f.cause)
+abbrev pub result_data_in : List ℕ → Finding → Data
+result_data_in file f = rule_result (location_data_in file f.place) (finding_line f) (code_of f.cause)
 
 abbrev pub run_data : List Data → Data
 run_data results =
@@ -50,5 +51,9 @@ log_data results =
     (member (codes "runs") (one_item (run_data results)) (member (codes "version") (string (codes "2.1.0")) no_members)))
 
 -- the log on one line
+abbrev pub file_report_log : List ℕ → Report → List ℕ
+file_report_log file report = json_line (log_data (map (result_data_in file) (findings_in report)))
+
+-- that of the document in standard input
 abbrev pub report_log : Report → List ℕ
-report_log report = json_line (log_data (map result_data (findings_in report)))
+report_log report = file_report_log input_name report

@@ -1,6 +1,8 @@
 -- A document's finding as a JSON object, which has its place, its code and what is printed of it.
 --     finding_data finding      the object
+--     finding_data_in file finding      that of a finding in a file of this name
 --     counts_data counts      the object of the counts
+--     counts_data_in file counts      that of the counts of a file
 use Rattle.std.specs.Prelude.{ℕ, List, codes}
 use Rattle.serde_json.specs.Data.{Data, number, unsigned, string, object, Members, no_members, member}
 use Rattle.icu_plurals.specs.Categories.{name_of}
@@ -50,16 +52,29 @@ cause_data cause =
 
 -- ---- A finding
 
--- `{"cause":{..},"file":"-","place":{..},"severity":"fault","text":"cardinal ru few: .."}`
-abbrev pub finding_data : Finding → Data
-finding_data f =
-    object (member (codes "cause") (cause_data f.cause) (with_text (codes "file") input_name
+-- `{"cause":{..},"file":"cldr.json","place":{..},"severity":"fault","text":"cardinal ru few: .."}`
+abbrev pub finding_data_in : List ℕ → Finding → Data
+finding_data_in file f =
+    object (member (codes "cause") (cause_data f.cause) (with_text (codes "file") file
     (member (codes "place") (place_data f.place) (with_text (codes "severity") (codes "fault")
     (with_text (codes "text") (finding_line f) no_members)))))
 
+-- `{"cause":{..},"file":"-","place":{..},"severity":"fault","text":"cardinal ru few: .."}`
+abbrev pub finding_data : Finding → Data
+finding_data = finding_data_in input_name
+
+-- ---- Counts
+
+-- `{"faults":1,"locales":1,"numbers":17,"rules":2}`
+abbrev pub numbers_data : Counts → Data
+numbers_data counts =
+    object (member (codes "faults") (number (unsigned counts.faults)) (member (codes "locales") (number (unsigned counts.locales))
+    (member (codes "numbers") (number (unsigned counts.numbers)) (member (codes "rules") (number (unsigned counts.rules)) no_members))))
+
 -- `{"counts":{"faults":1,"locales":1,"numbers":17,"rules":2}}`
 abbrev pub counts_data : Counts → Data
-counts_data counts =
-    object (member (codes "counts") (object (member (codes "faults") (number (unsigned counts.faults))
-    (member (codes "locales") (number (unsigned counts.locales)) (member (codes "numbers") (number (unsigned counts.numbers))
-    (member (codes "rules") (number (unsigned counts.rules)) no_members))))) no_members)
+counts_data counts = object (member (codes "counts") (numbers_data counts) no_members)
+
+-- `{"counts":{..},"file":"cldr.json"}`
+abbrev pub counts_data_in : List ℕ → Counts → Data
+counts_data_in file counts = object (member (codes "counts") (numbers_data counts) (with_text (codes "file") file no_members))

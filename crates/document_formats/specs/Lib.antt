@@ -5,7 +5,11 @@ pub mod DocumentObjects
 pub mod DocumentLines
 pub mod DocumentLog
 pub mod DocumentCommands
+pub mod FileText
 pub mod DocumentFormats
 pub mod DocumentLineLaws
 -- words
 pub mod FormatWords
+pub mod CheckWords
+-- not definitions of the subject
+pub mod Inner

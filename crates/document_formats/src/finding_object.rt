@@ -1,7 +1,7 @@
 //! Findings as JSON objects.
 
 ghost use Rattle.std.specs.Prelude.{◌≡◌, IfOk, string_bytes};
-ghost use Rattle.document_formats.specs.DocumentObjects.{cause_data, counts_data, finding_data};
+ghost use Rattle.document_formats.specs.DocumentObjects.{cause_data, counts_data, counts_data_in, finding_data_in, numbers_data};
 ghost use Rattle.document_report.specs.DocumentCauses.{cause_text};
 ghost use Rattle.document_report.specs.DocumentFindings.{finding_view};
 ghost use Rattle.serde_json.specs.View.{view};
@@ -15,16 +15,20 @@ use std::alloc::{AllocError, Global};
 // The name of the document, standard input.
 pub(crate) const INPUT_NAME: &str = "-";
 
-// Returns the object of a finding.
-pub(crate) fn finding_value(alloc: Global, finding: &Finding<'_>) -> Result<Value, AllocError>
-    ensures { IfOk result (λ value. view value ≡ finding_data (finding_view finding.now)) }
+// Returns the object of a finding in a file.
+pub(crate) fn finding_value(
+    alloc: Global,
+    file: &str,
+    finding: &Finding<'_>,
+) -> Result<Value, AllocError>
+    ensures { IfOk result (λ value. view value ≡ finding_data_in file.now (finding_view finding.now)) }
 {
     let cause = cause_value(alloc, &finding.cause)?;
     let place = place_value(alloc, finding.place)?;
     let text = finding.line(alloc)?;
     json!(in alloc; {
         "cause": cause,
-        "file": INPUT_NAME,
+        "file": file,
         "place": place,
         "severity": "fault",
         "text": &text
@@ -46,14 +50,34 @@ fn cause_text(alloc: Global, cause: &Cause) -> Result<String, AllocError>
     format!(in alloc; "{cause}")
 }
 
-// Returns the object of counts.
+// Returns the object of the line with the counts.
 pub(crate) fn counts_value(alloc: Global, counts: Counts) -> Result<Value, AllocError>
     ensures { IfOk result (λ value. view value ≡ counts_data counts) }
 {
-    json!(in alloc; {"counts": {
+    let counts = numbers_value(alloc, counts)?;
+    json!(in alloc; {"counts": counts})
+}
+
+// Returns the same of a file.
+pub(crate) fn file_counts_value(
+    alloc: Global,
+    file: &str,
+    counts: Counts,
+) -> Result<Value, AllocError>
+    ensures { IfOk result (λ value. view value ≡ counts_data_in file.now counts) }
+{
+    let counts = numbers_value(alloc, counts)?;
+    json!(in alloc; {"counts": counts, "file": file})
+}
+
+// Returns the object of counts.
+fn numbers_value(alloc: Global, counts: Counts) -> Result<Value, AllocError>
+    ensures { IfOk result (λ value. view value ≡ numbers_data counts) }
+{
+    json!(in alloc; {
         "faults": counts.faults,
         "locales": counts.locales,
         "numbers": counts.numbers,
         "rules": counts.rules
-    }})
+    })
 }

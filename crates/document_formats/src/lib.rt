@@ -3,14 +3,17 @@
 
 mod code;
 mod commands;
+mod file_text;
 mod finding_object;
 mod json_lines;
 pub mod laws;
 mod log;
 mod place_object;
 mod printed;
+mod word_fault;
 mod words;
 
 pub use code::Code;
-pub use printed::{DocumentFormat, print};
-pub use words::format_of;
+pub use printed::{DocumentFormat, FileFormat, print, print_file};
+pub use word_fault::WordFault;
+pub use words::{Asked, asked_by, format_of};

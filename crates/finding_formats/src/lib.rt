@@ -34,5 +34,6 @@ pub use located::Located;
 pub use notice::Notice;
 pub use printed::print;
 pub use printed_located::print_located;
+pub use reference::file_reference;
 pub use told::Told;
 pub use totals::Totals;

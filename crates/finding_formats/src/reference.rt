@@ -11,8 +11,9 @@ use std::alloc::{AllocError, Global};
 // first segment it would end a scheme.
 const PATH_MARKS: &[u8] = b"-._~!$&'()*+,;=@/";
 
-// Returns the name of a file as a URI reference.
-pub(crate) fn file_reference(alloc: Global, name: &str) -> Result<String, AllocError>
+/// Returns the name of a file as a URI reference (RFC 3986, section 4.2), as a log of SARIF has it.
+/// It allocates; the only error is out of memory.
+pub fn file_reference(alloc: Global, name: &str) -> Result<String, AllocError>
     ensures { IfOk result (λ text. string_bytes text ≡ file_reference name.now) }
 {
     let bytes = name.as_bytes();

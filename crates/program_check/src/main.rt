@@ -1,52 +1,125 @@
-//! The program `plurals_check`: checks a document of plural rules and ranges.
+//! The program `plurals_check`: checks documents of plural rules and ranges.
 #![tactic(auto)]
 
-use document_formats::{DocumentFormat, format_of};
-use document_report::run::run_as;
+mod failure;
+mod report;
+
+use document_formats::{Asked, DocumentFormat, FileFormat, WordFault, asked_by};
 use document_report::{CheckError, Verdict};
+use failure::{EXAMPLES, Failure, NOT_TEXT, USAGE, VERSION};
 use finding_formats::Format;
 use plural_commands::RunError;
 use plural_commands::arguments::arguments;
+use plural_documents::write_output;
+use report::write_report;
+use std::fs::File;
 use std::process::ExitCode;
 
-// The format that the words of the command line name.
-fn asked_format(rt: &HostRuntime) -> Result<Format, CheckError> {
+// The name of standard input.
+const INPUT: &str = "-";
+
+// Answers the words of the command line. Returns the status.
+fn answer(rt: &HostRuntime) -> Result<u8, Failure> {
     let owned = match arguments(rt.alloc(), rt) {
         Ok(owned) => owned,
-        Err(RunError::Memory) => return Err(CheckError::Memory),
-        Err(_) => return Err(CheckError::Usage),
+        Err(RunError::Memory) => return Err(Failure::from(CheckError::Memory)),
+        Err(_) => return Ok(tell_usage(rt, NOT_TEXT)),
     };
     let Ok(words) = owned
         .iter()
         .map(|word| word.as_str())
         .collect::<Vec<&str>>(rt.alloc())
     else {
-        return Err(CheckError::Memory);
+        return Err(Failure::from(CheckError::Memory));
     };
-    match format_of(words.as_slice()) {
-        Some(format) => Ok(format),
-        None => Err(CheckError::Usage),
+    match asked_by(words.as_slice()) {
+        Ok(asked) => answer_asked(rt, asked),
+        Err(fault) => tell_fault(rt, fault),
     }
 }
 
+// Answers what is asked.
+fn answer_asked(rt: &HostRuntime, asked: Asked<'_>) -> Result<u8, Failure> {
+    match asked {
+        Asked::Help => help(rt),
+        Asked::Version => print(rt, VERSION),
+        Asked::Reports(format, []) => report_input(rt, format),
+        Asked::Reports(format, files) => Ok(report_files(rt, format, files)),
+    }
+}
+
+// Writes how the program is used, with examples.
+fn help(rt: &HostRuntime) -> Result<u8, Failure> {
+    print(rt, USAGE)?;
+    print(rt, EXAMPLES)
+}
+
+// Writes a text.
+fn print(rt: &HostRuntime, text: &str) -> Result<u8, Failure> {
+    match write_output(&mut rt.stdout(), text.as_bytes()) {
+        Ok(()) => Ok(0),
+        Err(_) => Err(Failure::from(CheckError::Write)),
+    }
+}
+
+// Says which word is wrong, and how the program is used.
+fn tell_fault(rt: &HostRuntime, fault: WordFault<'_>) -> Result<u8, Failure> {
+    match format!(in rt.alloc(); "{fault}") {
+        Ok(text) => Ok(tell_usage(rt, text.as_str())),
+        Err(_) => Err(Failure::from(CheckError::Memory)),
+    }
+}
+
+// Says what is wrong with the words, and how the program is used.
+fn tell_usage(rt: &HostRuntime, text: &str) -> u8 {
+    let _ = eprintln!(rt; "plurals_check: {text}\n{USAGE}");
+    2
+}
+
 // Writes the report of the document in standard input.
-fn check(rt: &HostRuntime) -> Result<Verdict, CheckError> {
-    let printer = DocumentFormat(asked_format(rt)?);
-    run_as(
-        rt.alloc(),
-        false,
-        &printer,
-        &mut rt.stdin(),
-        &mut rt.stdout(),
-    )
+fn report_input(rt: &HostRuntime, format: Format) -> Result<u8, Failure> {
+    let verdict = write_report(rt, &DocumentFormat(format), &mut rt.stdin())?;
+    Ok(verdict.status())
+}
+
+// Writes the report of each file, and says which of them have none. Returns the highest status.
+fn report_files(rt: &HostRuntime, format: Format, files: &[&str]) -> u8 {
+    let mut status = 0;
+    for file in files {
+        status = status.max(report_file(rt, format, *file));
+    }
+    status
+}
+
+// Writes the report of a file, or says why there is none. Returns the status.
+fn report_file(rt: &HostRuntime, format: Format, file: &str) -> u8 {
+    match report_of_file(rt, format, file) {
+        Ok(verdict) => verdict.status(),
+        Err(failure) => {
+            let _ = eprintln!(rt; "plurals_check: {file}: {failure}");
+            2
+        }
+    }
+}
+
+// Writes the report of a file.
+fn report_of_file(rt: &HostRuntime, format: Format, file: &str) -> Result<Verdict, Failure> {
+    let printer = FileFormat { file, format };
+    if file == INPUT {
+        return write_report(rt, &printer, &mut rt.stdin());
+    }
+    match File::open(rt, file) {
+        Ok(mut opened) => write_report(rt, &printer, &mut opened),
+        Err(_) => Err(Failure::Open),
+    }
 }
 
 fn main(rt: HostRuntime) -> ExitCode {
-    match check(&rt) {
-        Ok(verdict) => ExitCode::from(verdict.status()),
-        Err(fault) => {
-            let _ = eprintln!(rt; "plurals_check: {fault}");
-            ExitCode::from(fault.status())
+    match answer(&rt) {
+        Ok(status) => ExitCode::from(status),
+        Err(failure) => {
+            let _ = eprintln!(rt; "plurals_check: {failure}");
+            ExitCode::from(2)
         }
     }
 }

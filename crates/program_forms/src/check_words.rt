@@ -1,8 +1,18 @@
 //! The words behind `check`, where files of any kind may be named.
 
+use crate::word_fault::WordFault;
 use finding_formats::Format;
 use form_commands::Checking;
-use std::alloc::{AllocError, Global};
+use std::alloc::Global;
+
+// Why words behind `check` say nothing.
+#[derive(Clone, Copy)]
+pub(crate) enum Unsaid<'w> {
+    // A word is wrong.
+    Word(WordFault<'w>),
+    // Out of memory.
+    Memory,
+}
 
 // What the words behind `check` say.
 #[derive(Drop)]
@@ -62,20 +72,63 @@ impl<'w> CheckWords<'w> {
         self.has_lines || (self.locale.is_some() || !self.ignored.is_empty())
     }
 
-    // Takes an option and the word behind it. Returns whether there is such an option, and the word
-    // fits.
-    fn take(&mut self, option: &str, word: &'w str) -> Result<bool, AllocError> {
+    // Whether an option that is given once was given.
+    fn has(&self, option: &str) -> bool {
         match option {
-            "--rules" if self.rules.is_none() => self.rules = Some(word),
-            "--locale" if self.locale.is_none() => self.locale = Some(word),
-            "--ignore" if is_code(word) => self.ignored.push(word)?,
-            "--format" if self.format.is_none() => {
-                self.format = Format::from_word(word);
-                return Ok(self.format.is_some());
-            }
-            _ => return Ok(false),
+            "--rules" => self.rules.is_some(),
+            "--locale" => self.locale.is_some(),
+            "--format" => self.format.is_some(),
+            _ => false,
         }
-        Ok(true)
+    }
+
+    // Takes an option and the word behind it, if there is such an option, and the word fits.
+    fn take(&mut self, option: &'w str, word: &'w str) -> Result<(), Unsaid<'w>> {
+        if self.has(option) {
+            return Err(Unsaid::Word(WordFault::Twice(option)));
+        }
+        match option {
+            "--rules" => self.rules = Some(word),
+            "--locale" => self.locale = Some(word),
+            "--ignore" => return self.ignore(word),
+            _ => {
+                self.format = Format::from_word(word);
+                if self.format.is_none() {
+                    return Err(Unsaid::Word(WordFault::Format(word)));
+                }
+            }
+        }
+        Ok(())
+    }
+
+    // Takes a code of what isn't told.
+    fn ignore(&mut self, word: &'w str) -> Result<(), Unsaid<'w>> {
+        if !is_code(word) {
+            return Err(Unsaid::Word(WordFault::Code(word)));
+        }
+        match self.ignored.push(word) {
+            Ok(()) => Ok(()),
+            Err(_) => Err(Unsaid::Memory),
+        }
+    }
+
+    // Takes the name of a file.
+    fn name(&mut self, word: &'w str) -> Result<(), Unsaid<'w>> {
+        match self.names.push(word) {
+            Ok(()) => Ok(()),
+            Err(_) => Err(Unsaid::Memory),
+        }
+    }
+
+    // Takes an option and the word behind it, if one is there.
+    fn take_with(&mut self, option: &'w str, word: Option<&&'w str>) -> Result<(), Unsaid<'w>> {
+        if !has_word(option) {
+            return Err(Unsaid::Word(WordFault::Option(option)));
+        }
+        match word {
+            Some(word) => self.take(option, *word),
+            None => Err(Unsaid::Word(WordFault::NoWord(option))),
+        }
     }
 
     // Takes an option alone. Returns whether there is such an option.
@@ -89,6 +142,11 @@ impl<'w> CheckWords<'w> {
     }
 }
 
+// Whether a word follows this option.
+fn has_word(option: &str) -> bool {
+    matches!(option, "--rules" | "--locale" | "--ignore" | "--format")
+}
+
 // Whether a word is spelled as a code.
 fn is_code(word: &str) -> bool {
     !word.is_empty()
@@ -98,11 +156,8 @@ fn is_code(word: &str) -> bool {
             .all(|it| it.is_ascii_lowercase() || *it == b'-')
 }
 
-// What words say; none, if they are wrong.
-pub(crate) fn said_by<'w>(
-    alloc: Global,
-    words: &[&'w str],
-) -> Result<Option<CheckWords<'w>>, AllocError> {
+// What words say.
+pub(crate) fn said_by<'w>(alloc: Global, words: &[&'w str]) -> Result<CheckWords<'w>, Unsaid<'w>> {
     let mut said = CheckWords::new(alloc);
     // Whether the word before is an option that this one belongs to.
     let mut is_taken = false;
@@ -110,22 +165,16 @@ pub(crate) fn said_by<'w>(
         if is_taken {
             is_taken = false;
         } else if !word.starts_with("--") {
-            said.names.push(*word)?;
+            said.name(*word)?;
         } else if !said.names.is_empty() {
-            return Ok(None);
+            return Err(Unsaid::Word(WordFault::Late(*word)));
         } else if !said.take_alone(word) {
-            let Some(value) = words.get(index.saturating_add(1)) else {
-                return Ok(None);
-            };
-            if !said.take(word, *value)? {
-                return Ok(None);
-            }
+            said.take_with(*word, words.get(index.saturating_add(1)))?;
             is_taken = true;
         }
     }
-    Ok(if said.names.is_empty() {
-        None
-    } else {
-        Some(said)
-    })
+    if said.names.is_empty() {
+        return Err(Unsaid::Word(WordFault::NoFile));
+    }
+    Ok(said)
 }

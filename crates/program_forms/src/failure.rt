@@ -1,7 +1,10 @@
 //! Why the program fails.
 
+use crate::rules_text::RulesFault;
+use crate::word_fault::WordFault;
 use form_commands::{FormsError, Verdict};
 use plural_commands::RunError;
+use std::alloc::Global;
 use thiserror::Error;
 
 // How the program is used.
@@ -41,17 +44,18 @@ pub(crate) enum MessagesFault {
     // It has more than 4194304 bytes.
     #[error("messages too long")]
     TooLong,
-    // It is no JSON text.
-    #[error("messages are not JSON")]
-    Json,
+    // It is no JSON text, from this line and column on.
+    #[error("messages are not JSON: line {0} column {1}")]
+    Json(usize, usize),
 }
 
 // Why the program fails.
 #[derive(Debug, Drop, Error)]
 pub(crate) enum Failure {
-    // The words ask nothing, or numbers and rules would both be in standard input.
-    #[error("{}", USAGE)]
-    Usage,
+    // The words ask nothing, or numbers and rules would both be in standard input: what is wrong,
+    // and how the program is used.
+    #[error("{0}")]
+    Usage(String),
     // The variable `PLURALS_RULES` isn't UTF-8.
     #[error("PLURALS_RULES: not UTF-8")]
     Variable,
@@ -67,6 +71,12 @@ pub(crate) enum Failure {
     // The rules in standard input have a fault.
     #[error("standard input: {0}")]
     Input(FormsError),
+    // The rules in this file are no JSON text, from this line and column on.
+    #[error("{0}: rules are not JSON: line {1} column {2}")]
+    FileJson(String, usize, usize),
+    // The rules in standard input are none.
+    #[error("standard input: rules are not JSON: line {0} column {1}")]
+    InputJson(usize, usize),
     // Something else.
     #[error("{0}")]
     Other(FormsError),
@@ -79,24 +89,29 @@ pub(crate) enum Failure {
 }
 
 impl Failure {
-    // Passes an answer on that has rules from this file.
-    pub(crate) fn of_file(
-        name: String,
-        answer: Result<Verdict, FormsError>,
+    // Passes an answer on that has rules from this file, or from standard input.
+    pub(crate) fn of_rules(
+        name: Option<String>,
+        answer: Result<Verdict, RulesFault>,
     ) -> Result<Verdict, Failure> {
         match answer {
             Ok(verdict) => Ok(verdict),
-            Err(error) if error.is_of_rules() => Err(Failure::File(name, error)),
-            Err(error) => Err(Failure::Other(error)),
+            Err(RulesFault::Json(line, column)) => Err(match name {
+                Some(name) => Failure::FileJson(name, line, column),
+                None => Failure::InputJson(line, column),
+            }),
+            Err(RulesFault::Other(error)) => Err(Failure::of_error(name, error)),
         }
     }
 
-    // Passes an answer on that has rules from standard input.
-    pub(crate) fn of_input(answer: Result<Verdict, FormsError>) -> Result<Verdict, Failure> {
-        match answer {
-            Ok(verdict) => Ok(verdict),
-            Err(error) if error.is_of_rules() => Err(Failure::Input(error)),
-            Err(error) => Err(Failure::Other(error)),
+    // Why there is no answer by rules from this file, or from standard input.
+    fn of_error(name: Option<String>, error: FormsError) -> Failure {
+        if !error.is_of_rules() {
+            return Failure::Other(error);
+        }
+        match name {
+            Some(name) => Failure::File(name, error),
+            None => Failure::Input(error),
         }
     }
 
@@ -106,7 +121,9 @@ impl Failure {
             Failure::File(_, error) | Failure::Input(error) | Failure::Other(error) => {
                 error.status()
             }
-            Failure::Usage
+            Failure::Usage(_)
+            | Failure::FileJson(_, _, _)
+            | Failure::InputJson(_, _)
             | Failure::Variable
             | Failure::Open(_)
             | Failure::Messages(_, _)
@@ -116,11 +133,18 @@ impl Failure {
     }
 }
 
-impl From<RunError> for Failure {
-    fn from(error: RunError) -> Failure {
-        match error {
-            RunError::Memory => Failure::Memory,
-            _ => Failure::Usage,
-        }
+// What is wrong with a word, and how the program is used.
+pub(crate) fn of_word(alloc: Global, fault: WordFault<'_>) -> Failure {
+    match format!(in alloc; "{fault}\n{USAGE}") {
+        Ok(text) => Failure::Usage(text),
+        Err(_) => Failure::Memory,
+    }
+}
+
+// What is wrong with the words of the command line as bytes.
+pub(crate) fn of_words(alloc: Global, error: RunError) -> Failure {
+    match error {
+        RunError::Memory => Failure::Memory,
+        _ => of_word(alloc, WordFault::NotText),
     }
 }

@@ -4,22 +4,33 @@
 
 mod answers;
 mod check_words;
+mod exponents;
 mod failure;
 mod opened;
 mod rules;
+mod rules_text;
+mod word_fault;
 
 use answers::{Asked, print, write_answer};
-use check_words::{CheckWords, said_by};
-use failure::{EXAMPLES, Failure, USAGE, VERSION};
-use form_commands::{Question, TranslationFile, Verdict, Wanted, question_of};
+use check_words::{CheckWords, Unsaid, said_by};
+use exponents::{EXPONENT, may_mean_exponents};
+use failure::{EXAMPLES, Failure, USAGE, VERSION, of_word, of_words};
+use form_commands::{FormsError, Question, TranslationFile, Verdict, Wanted, question_of};
 use opened::{Opened, documents_of, has_input, have_translations, open_all, translations_of};
 use plural_commands::arguments::arguments;
+use plural_documents::read_input;
 use rules::{open, rules_name};
+use rules_text::{RulesFault, fault_in};
+use std::io::Read;
 use std::process::ExitCode;
+use word_fault::{WordFault, fault_of};
 
 // Writes the answer to the words of the command line.
 fn answer_words(rt: &HostRuntime) -> Result<Verdict, Failure> {
-    let owned = arguments(rt.alloc(), rt)?;
+    let owned = match arguments(rt.alloc(), rt) {
+        Ok(owned) => owned,
+        Err(error) => return Err(of_words(rt.alloc(), error)),
+    };
     let Ok(words) = owned
         .iter()
         .map(|word| word.as_str())
@@ -44,28 +55,39 @@ fn help(rt: &HostRuntime) -> Result<Verdict, Failure> {
     print(&mut output, EXAMPLES)
 }
 
-// Writes the categories of the numbers, or of those in the input.
-fn category(rt: &HostRuntime, wanted: Wanted<'_>, numbers: &[&str]) -> Result<Verdict, Failure> {
-    let asked = if numbers.is_empty() {
+// Writes the categories of the numbers, or of those in the input, and tells how an exponent is
+// written where one may be meant.
+fn category<'a>(
+    rt: &HostRuntime,
+    wanted: Wanted<'a>,
+    numbers: &'a [&'a str],
+) -> Result<Verdict, Failure> {
+    let verdict = answer(rt, wanted.file, categories(wanted, numbers))?;
+    if verdict == Verdict::Faults && may_mean_exponents(numbers) {
+        let _ = eprintln!(rt; "{EXPONENT}");
+    }
+    Ok(verdict)
+}
+
+// What is asked of the numbers, or of those in the input.
+fn categories<'a>(wanted: Wanted<'a>, numbers: &'a [&'a str]) -> Asked<'a> {
+    if numbers.is_empty() {
         Asked::Lines(wanted)
     } else {
         Asked::Numbers(wanted, numbers)
-    };
-    answer(rt, wanted.file, asked)
+    }
 }
 
 // Writes what files of messages lack.
 fn check(rt: &HostRuntime, words: &[&str]) -> Result<Verdict, Failure> {
-    let [command, rest @ ..] = words else {
-        return Err(Failure::Usage);
+    let rest = match words {
+        [command, rest @ ..] if *command == "check" => rest,
+        _ => return Err(of_word(rt.alloc(), fault_of(words))),
     };
-    if *command != "check" {
-        return Err(Failure::Usage);
-    }
     match said_by(rt.alloc(), rest) {
-        Ok(Some(said)) => check_said(rt, &said),
-        Ok(None) => Err(Failure::Usage),
-        Err(_) => Err(Failure::Memory),
+        Ok(said) => check_said(rt, &said),
+        Err(Unsaid::Word(fault)) => Err(of_word(rt.alloc(), fault)),
+        Err(Unsaid::Memory) => Err(Failure::Memory),
     }
 }
 
@@ -73,7 +95,7 @@ fn check(rt: &HostRuntime, words: &[&str]) -> Result<Verdict, Failure> {
 fn check_said(rt: &HostRuntime, said: &CheckWords<'_>) -> Result<Verdict, Failure> {
     let names = said.names.as_slice();
     if has_input(names) && rules_name(rt, said.rules)?.is_none() {
-        return Err(Failure::Usage);
+        return Err(of_word(rt.alloc(), WordFault::Messages));
     }
     let all = open_all(rt, names)?;
     if said.has_more() || have_translations(all.as_slice()) {
@@ -109,30 +131,43 @@ fn translations<'a>(said: &'a CheckWords<'a>, files: &'a [TranslationFile<'a>]) 
 // Writes the answer by the rules in a file, or by those in the input. Then the numbers can't be
 // there.
 fn answer(rt: &HostRuntime, file: Option<&str>, asked: Asked<'_>) -> Result<Verdict, Failure> {
+    let Some(name) = rules_name(rt, file)? else {
+        if asked.has_input() {
+            return Err(of_word(rt.alloc(), WordFault::Numbers));
+        }
+        let answer = answer_by(rt, asked, &mut rt.stdin());
+        return Failure::of_rules(None, answer);
+    };
+    let mut rules = open(rt, &name)?;
+    let answer = answer_by(rt, asked, &mut rules);
+    Failure::of_rules(Some(name), answer)
+}
+
+// Writes the answer by the rules in a reader.
+fn answer_by<R: Read>(
+    rt: &HostRuntime,
+    asked: Asked<'_>,
+    rules: &mut R,
+) -> Result<Verdict, RulesFault> {
+    match read_input(rt.alloc(), rules) {
+        Ok(bytes) => answer_in(rt, asked, bytes.as_slice()),
+        Err(fault) => Err(RulesFault::Other(FormsError::from(fault))),
+    }
+}
+
+// Writes the answer by the rules in these bytes.
+fn answer_in(rt: &HostRuntime, asked: Asked<'_>, bytes: &[u8]) -> Result<Verdict, RulesFault> {
     let (alloc, mut input, mut output, mut notes) = (
         rt.alloc(),
         rt.stdin(),
         rt.stdout(),
         rt.stderr(),
     );
-    let Some(name) = rules_name(rt, file)? else {
-        if asked.has_input() {
-            return Err(Failure::Usage);
-        }
-        let mut none: &[u8] = b"";
-        let answer = write_answer(alloc, asked, &mut input, &mut none, &mut output, &mut notes);
-        return Failure::of_input(answer);
-    };
-    let mut rules = open(rt, &name)?;
-    let answer = write_answer(
-        alloc,
-        asked,
-        &mut rules,
-        &mut input,
-        &mut output,
-        &mut notes,
-    );
-    Failure::of_file(name, answer)
+    let mut rest = bytes;
+    match write_answer(alloc, asked, &mut rest, &mut input, &mut output, &mut notes) {
+        Ok(verdict) => Ok(verdict),
+        Err(error) => Err(fault_in(alloc, bytes, error)),
+    }
 }
 
 fn main(rt: HostRuntime) -> ExitCode {

@@ -1,6 +1,7 @@
 //! The files that are to be checked, and what is in them.
 
 use crate::failure::{Failure, MessagesFault};
+use crate::rules_text::json_place;
 use form_commands::{Content, TranslationFile};
 use message_report::MessageFile;
 use plural_documents::{InputError, JsonTextError, json_value, read_input};
@@ -148,11 +149,17 @@ pub(crate) fn documents_of<'a>(
     Ok(files)
 }
 
+// Why bytes are no document of messages: where they are no JSON text.
+fn no_json(alloc: Global, bytes: &[u8]) -> Option<MessagesFault> {
+    let place = json_place(alloc, bytes);
+    Some(MessagesFault::Json(place.line, place.column))
+}
+
 // The document in a file.
 fn document_in<'a>(alloc: Global, opened: &'a Opened<'a>) -> Result<&'a Value, Failure> {
     let fault = match &opened.held {
         Held::Document(value, _) => return Ok(value),
-        Held::BrokenJson(_) | Held::Translations(_) => Some(MessagesFault::Json),
+        Held::BrokenJson(bytes) | Held::Translations(bytes) => no_json(alloc, bytes.as_slice()),
         Held::Unread(fault) => Some(*fault),
         Held::Unopened => None,
     };

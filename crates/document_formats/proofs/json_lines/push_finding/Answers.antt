@@ -5,4 +5,4 @@ use Rattle.document_report.specs.DocumentFindings.{finding_view}
 use Rattle.serde_json.specs.Written.{has_float}
 
 pub push_line-requires : goal.push_line-requires
-push_line-requires c = ap has_float c.in_ok-value.ensures ∙ finding_without (finding_view c.args.finding.now)
+push_line-requires c = ap has_float c.in_ok-value.ensures ∙ finding_without c.args.file.now (finding_view c.args.finding.now)
