@@ -2,7 +2,5 @@
 pub mod TextReadings
 -- numbers that are checked by their operands alone
 pub mod ShortNumbers
--- rules whose ranges are in order
-pub mod OrderedRules
 -- the words of a text
 pub mod SampleSteps
