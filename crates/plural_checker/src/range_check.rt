@@ -62,9 +62,10 @@ fn asked_for<'a>(
         return Ok(None);
     };
     let mut asked = AskedRules::of(rules.as_borrowed());
-    if !rules.has_few_ranges() {
-        asked.put_in_order(alloc, number_count(samples))?;
+    if rules.has_few_ranges() {
+        return Ok(Some(asked));
     }
+    asked.put_in_order(alloc, number_count(samples))?;
     Ok(Some(asked))
 }
 
