@@ -8,6 +8,5 @@ pub mod ListedTexts
 pub mod NeededRules
 pub mod NumberBranches
 pub mod OwnForms
-pub mod SeenNumbers
 pub mod ToldFindings
 pub mod ToldKeys

@@ -21,3 +21,7 @@ pub mod OrderedLists
 pub mod OrderedTruth
 -- the words of a text
 pub mod SampleLemmas
+-- the least numbers of each category
+pub mod SeenNumbers
+pub mod ToldLists
+pub mod Soughts

@@ -6,3 +6,6 @@ pub mod ShortNumbers
 pub mod OrderedRules
 -- the words of a text
 pub mod SampleSteps
+-- the least numbers of each category
+pub mod SoughtNumbers
+pub mod ToldRemainders
