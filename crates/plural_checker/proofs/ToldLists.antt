@@ -71,9 +71,9 @@ module _ (bytes : List ℕ) (marks : List Bool) (k : ℕ) (within : k < length m
           so_far.at r small (sym (get_or-set_other marks k r (is_some told) false (λ same. omega arith)) ∙ marked)
 
 -- of numbers that have two of each remainder before them
-pub marked_told : (rules : FiveRules) (bytes : List ℕ) (marks : List Bool) (start from : ℕ) → IsTableOf rules bytes
-    → AreMarked bytes marks → ((n : ℕ) → from ≤ n → n < 10000 → (328 ≤ n) × (start + 200 ≤ n)) → AreToldFrom rules start from marks
-marked_told rules bytes marks start from of marked high = record { at = λ n after below is. by n ((n + 72) % 100) after below refl is }
+pub marked_told : (rules : FiveRules) (bytes table : List ℕ) (marks : List Bool) (start from : ℕ) → IsTableOf rules bytes
+    → table ≡ bytes → AreMarked table marks → ((n : ℕ) → from ≤ n → n < 10000 → (328 ≤ n) × (start + 200 ≤ n)) → AreToldFrom rules start from marks
+marked_told rules bytes table marks start from of same marked high = record { at = λ n after below is. by n ((n + 72) % 100) after below refl is }
   where
     by : (n r : ℕ) → from ≤ n → n < 10000 → (n + 72) % 100 ≡ r → IsTrue (get_or marks r false) → IsAsBefore rules start n
     by n r after below left is =
@@ -81,7 +81,7 @@ marked_told rules bytes marks start from of marked high = record { at = λ n aft
         let up_0 = up.0 in
         let up_1 = up.1 in
         let small : r < 100 = omega arith in
-        let told = marked.at r small is in
+        let told = (subst (λ (bs : List ℕ). AreMarked bs marks) same marked).at r small is in
         let has : (m : ℕ) → 128 + r ≤ m → m % 100 ≡ (128 + r) % 100 → HasWhole rules told.0 m =
         later_told rules bytes of (128 + r) (omega arith) told.0 told.1 in
         let before : (n - 200) + 200 ≡ n = omega arith in record {
