@@ -9,6 +9,5 @@ pub mod MessageSums
 pub mod NeededRules
 pub mod NumberBranches
 pub mod OwnForms
-pub mod SeenNumbers
 pub mod ToldFindings
 pub mod ToldKeys

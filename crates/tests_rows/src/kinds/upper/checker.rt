@@ -7,8 +7,8 @@ use icu_plurals::provider::rules::reference::ast::{DecimalValue, SampleRange};
 use icu_plurals::{PluralCategory, PluralElements, PluralRules};
 use message_report::category_set;
 use plural_checker::{
-    CategorySet, Coverage, LanguageTexts, RangeFault, Sample, SampleNumbers, check_texts,
-    first_samples, least_from, two_least,
+    CategorySet, Coverage, LanguageTexts, LeastNumbers, RangeFault, Sample, SampleNumbers,
+    check_texts, first_samples, least_from, least_of_each, two_least, two_least_of_each,
 };
 use std::fmt::Write;
 
@@ -34,6 +34,8 @@ fn of_rules(kind: &str, call: &mut Call) -> bool {
         "set_without" => set_without(call),
         "least_number" => least_number(call),
         "two_least_numbers" => two_least_numbers(call),
+        "least_of_each" => of_each(call, false),
+        "two_least_of_each" => of_each(call, true),
         "two_first_samples" => two_first_samples(call),
         _ => return false,
     }
@@ -199,6 +201,40 @@ fn two_least_numbers(call: &mut Call) {
     print_whole(call, first);
     call.print(" ");
     print_whole(call, second);
+}
+
+// The least whole number of each category from a start, or the two least.
+fn of_each(call: &mut Call, are_two: bool) {
+    let rules = PluralRules::from_data(call.rules());
+    let start = call.number();
+    match u16::try_from(start) {
+        Ok(start) if are_two => print_each(call, &two_least_of_each(&rules, start), true),
+        Ok(start) => print_each(call, &least_of_each(&rules, start), false),
+        Err(_) => call.not("a number of 16 bits"),
+    }
+}
+
+// Prints the numbers of each category, from zero to other.
+fn print_each(call: &mut Call, least: &LeastNumbers, are_two: bool) {
+    let categories = [
+        PluralCategory::Zero,
+        PluralCategory::One,
+        PluralCategory::Two,
+        PluralCategory::Few,
+        PluralCategory::Many,
+        PluralCategory::Other,
+    ];
+    let mut mark = "";
+    for category in categories {
+        let two = least.at(category);
+        call.print(mark);
+        print_whole(call, two.first);
+        if are_two {
+            call.print(" ");
+            print_whole(call, two.second);
+        }
+        mark = ", ";
+    }
 }
 
 // The first two samples of a text that have a category.
