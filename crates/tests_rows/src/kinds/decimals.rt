@@ -1,7 +1,7 @@
 //! Numbers: read from texts, made of integers, shifted, and their digits.
 
-use crate::call::Call;
 use fixed_decimal::{CompactDecimal, Decimal, DecimalError, RoundingMode, UnsignedDecimal};
+use row_calls::call::Call;
 use std::alloc::Global;
 use std::fmt::Write;
 
@@ -62,16 +62,6 @@ pub fn next_decimal(call: &mut Call) -> Option<Decimal> {
     let number = Decimal::from_str(call.alloc, text.as_str()).ok();
     if number.is_none() {
         call.not("a decimal");
-    }
-    number
-}
-
-/// Returns the next argument as a compact decimal, which its text has to write.
-pub fn next_compact(call: &mut Call) -> Option<CompactDecimal> {
-    let text = call.text();
-    let number = CompactDecimal::from_str(call.alloc, text.as_str()).ok();
-    if number.is_none() {
-        call.not("a compact decimal");
     }
     number
 }
@@ -358,7 +348,7 @@ fn shown_decimal(call: &mut Call) {
 
 // The text that a compact decimal prints.
 fn shown_compact(call: &mut Call) {
-    if let Some(number) = next_compact(call) {
+    if let Some(number) = call.compact() {
         let _ = write!(call, "{number}");
     }
 }
