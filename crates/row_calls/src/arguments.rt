@@ -272,8 +272,8 @@ pub fn has_names(value: &Value, names: &[&str]) -> bool {
     true
 }
 
-// Whether a name is one of these.
-fn is_one_of(name: &str, names: &[&str]) -> bool {
+/// Returns whether a name is one of these.
+pub fn is_one_of(name: &str, names: &[&str]) -> bool {
     for known in names {
         if *known == name {
             return true;
