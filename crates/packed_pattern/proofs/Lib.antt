@@ -3,3 +3,4 @@ pub mod BlockItems
 pub mod BlockFaults
 pub mod PartsPacked
 pub mod Joined
+pub mod BehindPlaces

@@ -5,9 +5,11 @@ mod block;
 mod error;
 mod item;
 pub mod laws;
+mod order;
 mod packing;
 mod parts;
-mod skips;
+mod place_bytes;
+mod places;
 mod source;
 
 pub use block::PackedPattern;
