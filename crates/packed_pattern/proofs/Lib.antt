@@ -1,4 +1,5 @@
 pub mod PartBytes
+pub mod PartPlaceNumbers
 pub mod BlockItems
 pub mod BlockFaults
 pub mod PartsPacked

@@ -1,5 +1,5 @@
 -- Where an argument ends, and where its branches are, counted in parts from the part on that says so.
-use Rattle.std.specs.Prelude.{ℕ, ◌+◌, List, [], ◌∷◌, Bool, true, false, ◌||◌, nat_lt, nat_eq, bytes_eq, codes, if◌then◌else◌}
+use Rattle.std.specs.Prelude.{◌≡◌, ℕ, ◌+◌, List, [], ◌∷◌, Bool, true, false, ◌||◌, nat_lt, nat_eq, bytes_eq, slice_get, drop, Some, codes, if◌then◌else◌}
 use Rattle.message_pattern.specs.declared.part.ArgumentKind.{ArgumentKind}
 use Rattle.message_pattern.specs.declared.part.ArgumentKind.TheVariants.{Plural, Ordinal, Select}
 use Rattle.message_pattern.specs.PatternParts.{Part, PatternPiece, Selector, Exactly, Keyword, Begin, Branch}
@@ -72,3 +72,13 @@ abbrev pub places_of : ℕ → PatternPiece → List Part → List ℕ
 places_of depth (Begin kind name offset) rest = argument_places kind depth rest
 places_of depth (Branch selector) rest = selector_places selector depth rest
 places_of depth _ rest = []
+
+-- a part, with its places
+pub record PlacedPart : Type 0 where
+  pub part : Part
+  pub places : List ℕ
+
+-- the part at a place of a list of parts, with its places
+pub record IsPlaced (placed : PlacedPart) (parts : List Part) (index : ℕ) : Type 0 where
+  pub part : slice_get parts index ≡ Some placed.part
+  pub places : placed.places ≡ places_of placed.part.depth placed.part.piece (drop (index + 1) parts)

@@ -1,8 +1,9 @@
 //! A packed pattern.
 
-ghost use Rattle.std.specs.Prelude.{◌≡◌, ◌↔◌, ◌≤◌, ◌<◌, ◌+◌, ℕ, List, map, drop, length, slice_get, option_map, IfOk, Ok, Err, Some};
+ghost use Rattle.std.specs.Prelude.{◌≡◌, ◌↔◌, ◌≤◌, ◌<◌, ◌+◌, ℕ, List, map, drop, length, slice_get, option_map, IfOk, MatchOption, Ok, Err, Some, None};
 ghost use Rattle.message_pattern.specs.PatternParts.{Part as SpecPart, part_view, parts_view};
 ghost use Rattle.message_pattern.specs.PatternPrinting.{PrintsExactly};
+ghost use Rattle.packed_pattern.specs.PartPlaces.{IsPlaced};
 ghost use Rattle.packed_pattern.specs.PatternBlocks.{HasBlockFault, PatternBlock, first_item_fault, item_fault, items_fault};
 ghost use Rattle.packed_pattern.specs.Inner.PartReading.{part_in};
 
@@ -10,6 +11,7 @@ use crate::error::BlockError;
 use crate::item::{is_item_of, is_packable, part_in, places_in};
 use crate::order::first_misplaced;
 use crate::parts::ItemParts;
+use crate::placed::PlacedPart;
 use crate::places::places_of;
 use crate::source::PartSource;
 use message_pattern::{Part, Pattern};
@@ -80,6 +82,15 @@ impl<'a> PackedPattern<'a> {
     {
         let item = self.list.get(index)?;
         Some(part_in(item))
+    }
+
+    /// Returns the part at a place, with its places.
+    #[inline]
+    pub fn placed(&self, index: usize) -> Option<PlacedPart<'a>>
+        ensures { MatchOption result (slice_get self.now index ≡ None) (λ placed. IsPlaced placed self.now index) }
+    {
+        let item = self.list.get(index)?;
+        Some(PlacedPart { item })
     }
 
     /// Returns the pattern, as a list of parts. It allocates the list; the error is out of memory.

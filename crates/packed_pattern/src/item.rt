@@ -1,9 +1,9 @@
 //! The item of a part.
 
-ghost use Rattle.std.specs.Prelude.{◌≡◌, ◌∷◌, ◌++◌, ◌↔◌, take, drop, bytes_eq, length, IsTrue};
+ghost use Rattle.std.specs.Prelude.{◌≡◌, ◌∷◌, ◌++◌, ◌↔◌, ◌≤◌, take, drop, bytes_eq, length, IsTrue};
 ghost use Rattle.message_pattern.specs.PatternParts.{part_view, piece_view, selector_view, offset_view};
 ghost use Rattle.packed_pattern.specs.PackedParts.{has_digits, is_packable, is_packable_piece, item_bytes, kind_tag, offset_digits, own_bytes, piece_tag, selector_bytes};
-ghost use Rattle.packed_pattern.specs.Inner.PartReading.{begin_in, kind_in, offset_in, part_in, piece_in, place_room, places_in};
+ghost use Rattle.packed_pattern.specs.Inner.PartReading.{begin_in, kind_in, offset_in, part_in, piece_in, place_count, place_room, places_in};
 
 use message_pattern::{ArgumentKind, DEPTH_LIMIT, Part, Piece, Selector};
 
@@ -114,14 +114,15 @@ fn begin_in(kind: ArgumentKind, content: &[u8]) -> Piece<'_>
     }
 }
 
-// How many bytes the places of a form take.
-fn place_room(tag: u8) -> usize
-    ensures { result ≡ place_room tag }
+// How many places a form has.
+pub(crate) fn place_count(tag: u8) -> usize
+    ensures count { result ≡ place_count tag }
+    ensures few { result ≤ 8 }
 {
     match tag {
-        3 | 4 => 16,
-        5 | 7 => 4,
-        6 => 2,
+        3 | 4 => 8,
+        5 | 7 => 2,
+        6 => 1,
         _ => 0,
     }
 }
@@ -146,7 +147,7 @@ fn split_places(tag: u8, content: &[u8]) -> (&[u8], &[u8])
     ensures places { result.0.now ≡ take (place_room tag) content.now }
     ensures own { result.1.now ≡ drop (place_room tag) content.now }
 {
-    content.split_at(place_room(tag).min(content.len()))
+    content.split_at((2 * place_count(tag)).min(content.len()))
 }
 
 // The part that an item holds, if it is one.

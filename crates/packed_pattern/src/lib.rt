@@ -9,9 +9,11 @@ mod order;
 mod packing;
 mod parts;
 mod place_bytes;
+mod placed;
 mod places;
 mod source;
 
 pub use block::PackedPattern;
 pub use error::{BlockError, PackPatternError};
 pub use packing::pack;
+pub use placed::PlacedPart;

@@ -1,7 +1,8 @@
 -- The part that an item holds, for the view of a block and private contracts. Not a definition of
 -- the subject.
-use Rattle.std.specs.Prelude.{◌≡◌, ℕ, ◌==◌, List, [], ◌∷◌, map, take, drop, Bool, IsTrue, Option, Some, None, if◌then◌else◌}
+use Rattle.std.specs.Prelude.{◌≡◌, ℕ, ◌*◌, ◌==◌, List, [], ◌∷◌, map, take, drop, Bool, IsTrue, Option, Some, None, if◌then◌else◌}
 use Rattle.std.specs.List.{list_all}
+use Rattle.packed_list.specs.Inner.ListReading.{numbers}
 use Rattle.message_pattern.specs.declared.part.ArgumentKind.{ArgumentKind}
 use Rattle.message_pattern.specs.declared.part.ArgumentKind.TheVariants.{Plural, Ordinal, Select}
 use Rattle.message_pattern.specs.PatternParts.{Part, PatternPiece, Exactly, Keyword, Text, Hash, Argument, Begin, Branch, End}
@@ -22,15 +23,19 @@ abbrev pub begin_in : ArgumentKind → List ℕ → PatternPiece
 begin_in kind [] = End
 begin_in kind (count ∷ s) = Begin kind (take count s) (offset_in (drop count s))
 
--- how many bytes the places of a form take
-abbrev pub place_room : ℕ → ℕ
-place_room tag =
-    if tag == 3 then 16
-    else if tag == 4 then 16
-    else if tag == 5 then 4
-    else if tag == 6 then 2
-    else if tag == 7 then 4
+-- how many places a form has
+abbrev pub place_count : ℕ → ℕ
+place_count tag =
+    if tag == 3 then 8
+    else if tag == 4 then 8
+    else if tag == 5 then 2
+    else if tag == 6 then 1
+    else if tag == 7 then 2
     else 0
+
+-- how many bytes they take
+abbrev pub place_room : ℕ → ℕ
+place_room tag = 2 * place_count tag
 
 -- the piece of a form in what it has of its own
 abbrev pub piece_in : ℕ → List ℕ → PatternPiece
@@ -52,6 +57,11 @@ part_in _ = record { depth = 0; piece = End }
 abbrev pub places_in : List ℕ → List ℕ
 places_in (tag ∷ depth ∷ content) = take (place_room tag) content
 places_in _ = []
+
+-- the places that an item has
+abbrev pub item_places : List ℕ → List ℕ
+item_places (tag ∷ depth ∷ content) = numbers (place_count tag) content
+item_places _ = []
 
 -- the items are those of the parts that they hold
 pub record IsBlock (items : List (List ℕ)) : Type 0 where
