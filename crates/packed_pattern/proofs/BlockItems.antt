@@ -1,6 +1,6 @@
 -- The items of a block, and the fault of the first bad one.
 use Rattle.std.proofs.Common.{◌≡◌, ◌∙◌, ℕ, ◌+◌, ◌<◌, List, [], ◌∷◌, drop, get_or, length, map, refl, ap, sym, subst, true, false, Bool, Some, None}
-use Rattle.std.specs.Prelude.{Option, bytes_eq, not, if◌then◌else◌, is_some, slice_get}
+use Rattle.std.specs.Prelude.{Option, not, if◌then◌else◌, is_some, slice_get}
 use Rattle.std.specs.List.{list_all}
 use Rattle.std.specs.Cmp.{first_so, second_so}
 use Rattle.std.specs.Cmp.Derive.{both_true}

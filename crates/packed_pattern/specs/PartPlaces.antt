@@ -1,7 +1,7 @@
 -- Where an argument ends, and where its branches are, counted in parts from the part on that says so.
 use Rattle.std.specs.Prelude.{◌≡◌, ℕ, ◌+◌, List, [], ◌∷◌, Bool, true, false, ◌||◌, nat_lt, nat_eq, bytes_eq, slice_get, drop, Some, codes, if◌then◌else◌}
 use Rattle.message_pattern.specs.declared.part.ArgumentKind.{ArgumentKind}
-use Rattle.message_pattern.specs.declared.part.ArgumentKind.TheVariants.{Plural, Ordinal, Select}
+use Rattle.message_pattern.specs.declared.part.ArgumentKind.TheVariants.{Select}
 use Rattle.message_pattern.specs.PatternParts.{Part, PatternPiece, Selector, Exactly, Keyword, Begin, Branch}
 use Rattle.packed_pattern.specs.PartOrder.{is_selector}
 

@@ -1,6 +1,6 @@
 -- The part that an item holds, for the view of a block and private contracts. Not a definition of
 -- the subject.
-use Rattle.std.specs.Prelude.{◌≡◌, ℕ, ◌*◌, ◌==◌, List, [], ◌∷◌, map, take, drop, Bool, IsTrue, Option, Some, None, if◌then◌else◌}
+use Rattle.std.specs.Prelude.{◌≡◌, ℕ, ◌*◌, ◌==◌, List, [], ◌∷◌, map, take, drop, IsTrue, Option, Some, None, if◌then◌else◌}
 use Rattle.std.specs.List.{list_all}
 use Rattle.packed_list.specs.Inner.ListReading.{numbers}
 use Rattle.message_pattern.specs.declared.part.ArgumentKind.{ArgumentKind}

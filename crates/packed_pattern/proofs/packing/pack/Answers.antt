@@ -1,4 +1,4 @@
-use Rattle.std.proofs.Common.{◌≡◌, ◌∙◌, ◌<◌, arith, length, refl, ap, sym}
+use Rattle.std.proofs.Common.{◌∙◌, ◌<◌, arith, length, refl, ap, sym}
 use Rattle.std.specs.Prelude.{Err}
 use Rattle.std.proofs.lemmas.List.{length-map}
 use Rattle.message_pattern.specs.PatternParts.{part_view, parts_view}

@@ -1,4 +1,4 @@
-use Rattle.std.proofs.Common.{◌∙◌, sym, arith}
+use Rattle.std.proofs.Common.{sym, arith}
 use Rattle.packed_pattern.proofs.PartPlaceNumbers.{no_number, number_there}
 use Rattle.packed_pattern.proofs.placed.number_at.Goals as goal
 
