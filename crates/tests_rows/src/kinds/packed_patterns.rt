@@ -2,7 +2,7 @@
 
 use crate::kinds::patterns::{print_back_text, print_parts};
 use message_pattern::Pattern;
-use packed_pattern::{PackedPattern, pack};
+use packed_pattern::{PackedPattern, PlacedPart, pack};
 use row_calls::call::Call;
 use std::fmt::Write;
 
@@ -12,6 +12,7 @@ pub fn make(kind: &str, call: &mut Call) -> bool {
         "packed_pattern" => packed_pattern(call),
         "packed_pattern_size" => packed_pattern_size(call),
         "packed_parts" => packed_parts(call),
+        "packed_places" => packed_places(call),
         "packed_pattern_print" => packed_pattern_print(call),
         "packed_pattern_error" => packed_pattern_error(call),
         "packed_pattern_beginnings" => packed_pattern_beginnings(call),
@@ -74,6 +75,40 @@ fn packed_parts(call: &mut Call) {
             Err(_) => call.out_of_memory(),
         },
         Err(error) => call.print_error(&error),
+    }
+}
+
+// The places of the parts of a pattern that have some.
+fn packed_places(call: &mut Call) {
+    if let Some(bytes) = block(call) {
+        match PackedPattern::parse_bytes(&bytes) {
+            Ok(pattern) => {
+                for index in 0..pattern.len() {
+                    if let Some(placed) = pattern.placed(index) {
+                        print_places(call, index, &placed);
+                    }
+                }
+                call.print_none_if_empty();
+            }
+            Err(error) => call.print_error(&error),
+        }
+    }
+}
+
+// The places of a part up to the last that isn't 0, and its depth, if it has such a place.
+fn print_places(call: &mut Call, index: usize, placed: &PlacedPart<'_>) {
+    let mut count = 9;
+    while count > 0 && placed.place(count - 1) == 0 {
+        count -= 1;
+    }
+    if count > 0 {
+        call.separate(" ");
+        let depth = placed.part().depth;
+        let _ = write!(call, "{index}:{depth}");
+        for which in 0..count {
+            let place = placed.place(which);
+            let _ = write!(call, ",{place}");
+        }
     }
 }
 

@@ -1,6 +1,6 @@
 use Rattle.std.proofs.Common.{◌≡◌, ◌+◌, ◌≤◌, length}
-use Rattle.packed_pattern.specs.PackedParts.{branch_length}
-use Rattle.packed_pattern.proofs.skips.branch_length.Given as goal
+use Rattle.packed_pattern.specs.PartPlaces.{branch_length}
+use Rattle.packed_pattern.proofs.places.branch_length.Given as goal
 
 -- What is counted and what is left are the length of all.
 abbrev pub invariant-loop-part : goal.invariant-loop-part
