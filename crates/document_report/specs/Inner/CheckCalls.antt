@@ -14,7 +14,7 @@ use Rattle.document_report.specs.DocumentFindings.{Finding}
 use Rattle.document_report.specs.DocumentPlaces.{LocalePlace}
 use Rattle.document_report.specs.DocumentReport.{text_finding}
 use Rattle.plural_documents.specs.FirstLines.{most_told}
-use Rattle.plural_documents.specs.Inputs.{IsFaultOf}
+use Rattle.plural_documents.specs.Inputs.{GivesBy, GivesByReading, IsFaultOf}
 
 -- ---- Values
 
@@ -43,8 +43,7 @@ GivesFault IsFault fault = IsFaultOf (check_origin fault) (IsFault fault)
 
 -- the result, in the words of the definitions, or out of memory
 abbrev pub Gives : {A B : Type 0} → (A → B) → (Result B CheckError → Type 0) → Result A CheckError → Type 0
-Gives seen IsAnswer (Ok x) = IsAnswer (Ok (seen x))
-Gives seen IsAnswer (Err e) = GivesFault (λ fault. IsAnswer (Err fault)) e
+Gives seen = GivesBy check_origin seen
 
 -- the same if there is only one result
 abbrev pub GivesOnly : {A B : Type 0} → (A → B) → Result B CheckError → Result A CheckError → Type 0
@@ -52,8 +51,7 @@ GivesOnly seen value = Gives seen (λ answer. value ≡ answer)
 
 -- the result of a call that reads, which may fail
 abbrev pub GivesAfterReading : (Result Answer CheckError → Type 0) → Result CodeAnswer CheckError → Type 0
-GivesAfterReading IsAnswer (Err Read) = ⊤
-GivesAfterReading IsAnswer result = Gives answer_view IsAnswer result
+GivesAfterReading = GivesByReading check_origin answer_view
 
 -- the finding of a fault, if few enough of the same text come before it
 abbrev pub told_after : LocalePlace → ℕ → Fault → List Finding
