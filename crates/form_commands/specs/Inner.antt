@@ -9,5 +9,4 @@ pub mod LineSteps
 pub mod StreamSteps
 pub mod NoteSteps
 pub mod ConditionSteps
-pub mod ChooserRules
 pub mod TranslationSteps

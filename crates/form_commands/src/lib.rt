@@ -2,7 +2,6 @@
 #![tactic(auto)]
 
 mod c_condition;
-mod chooser;
 mod error;
 mod gettext;
 mod joined;

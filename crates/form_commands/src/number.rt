@@ -1,15 +1,13 @@
 //! The categories of numbers.
 
 ghost use Rattle.std.specs.Prelude.{◌≡◌, IfOk, OnOk};
-ghost use Rattle.form_commands.specs.Inner.ChooserRules.{chooser_rules};
 ghost use Rattle.form_commands.specs.Inner.PrintedSteps.{AddsPrinted};
 ghost use Rattle.form_commands.specs.Inner.QuestionViews.{words_view};
 ghost use Rattle.form_commands.specs.NumberAnswers.{AreNumberAnswers, IsAnswerAt, IsCategoryOf, IsShortCategoryOf, answer_text, next_place};
 ghost use Rattle.form_commands.specs.PrintedTexts.{both_printed};
 
-use crate::chooser::Chooser;
 use crate::printed::{NumberFault, Place, Printed};
-use icu_plurals::{DecimalError, PluralCategory, PluralRules};
+use icu_plurals::{AskedRules, DecimalError, PluralCategory, PluralRules};
 use std::alloc::{AllocError, Global};
 use std::str;
 
@@ -24,12 +22,18 @@ pub(crate) fn numbers_text(
 ) -> Result<Printed, AllocError>
     ensures { IfOk result (λ printed. AreNumberAnswers rules.now (words_view numbers.now) printed) }
 {
-    numbers_by(alloc, &Chooser::of(rules), numbers)
+    let mut asked = AskedRules::of(rules.as_borrowed());
+    asked.prepare(numbers.len() as u64);
+    numbers_by(alloc, &asked, numbers)
 }
 
-// Returns the lines of numbers by what chooses their categories.
-fn numbers_by(alloc: Global, chooser: &Chooser<'_>, numbers: &[&str]) -> Result<Printed, AllocError>
-    ensures { IfOk result (λ printed. AreNumberAnswers (chooser_rules chooser.now) (words_view numbers.now) printed) }
+// Returns the lines of numbers by these rules.
+fn numbers_by(
+    alloc: Global,
+    rules: &AskedRules<'_>,
+    numbers: &[&str],
+) -> Result<Printed, AllocError>
+    ensures { IfOk result (λ printed. AreNumberAnswers rules.now (words_view numbers.now) printed) }
 {
     let mut printed = Printed::new(alloc);
     let mut place = 1;
@@ -37,7 +41,7 @@ fn numbers_by(alloc: Global, chooser: &Chooser<'_>, numbers: &[&str]) -> Result<
     while let [number, after @ ..] = rest {
         push_answer(
             alloc,
-            chooser,
+            rules,
             Place::Number(place),
             number.as_bytes(),
             &mut printed,
@@ -59,14 +63,14 @@ pub(crate) fn next_place(place: u64) -> u64
 // Appends the line of a number.
 pub(crate) fn push_answer(
     alloc: Global,
-    chooser: &Chooser<'_>,
+    rules: &AskedRules<'_>,
     place: Place,
     number: &[u8],
     printed: &mut Printed,
 ) -> Result<(), AllocError>
-    ensures { OnOk result (AddsPrinted (IsAnswerAt (chooser_rules chooser.now) place number.now) printed.old printed.new) }
+    ensures { OnOk result (AddsPrinted (IsAnswerAt rules.now place number.now) printed.old printed.new) }
 {
-    let answer = category_of(alloc, chooser, number)?;
+    let answer = category_of(alloc, rules, number)?;
     push_line(alloc, place, answer, printed)
 }
 
@@ -74,14 +78,14 @@ pub(crate) fn push_answer(
 #[inline]
 pub(crate) fn push_text_answer(
     alloc: Global,
-    chooser: &Chooser<'_>,
+    rules: &AskedRules<'_>,
     place: Place,
     number: &str,
     printed: &mut Printed,
 ) -> Result<(), AllocError>
-    ensures { OnOk result (AddsPrinted (IsAnswerAt (chooser_rules chooser.now) place number.now) printed.old printed.new) }
+    ensures { OnOk result (AddsPrinted (IsAnswerAt rules.now place number.now) printed.old printed.new) }
 {
-    let answer = category_of_text(alloc, chooser, number)?;
+    let answer = category_of_text(alloc, rules, number)?;
     push_line(alloc, place, answer, printed)
 }
 
@@ -104,16 +108,16 @@ fn push_line(
 // Returns the category of a number, or why it has none.
 fn category_of(
     alloc: Global,
-    chooser: &Chooser<'_>,
+    rules: &AskedRules<'_>,
     number: &[u8],
 ) -> Result<Result<PluralCategory, NumberFault>, AllocError>
-    ensures { IfOk result (λ answer. IsCategoryOf (chooser_rules chooser.now) number.now answer) }
+    ensures { IfOk result (λ answer. IsCategoryOf rules.now number.now answer) }
 {
     if number.len() > MOST_NUMBER_BYTES {
         return Ok(Err(NumberFault::TooLong));
     }
     match str::from_utf8(number) {
-        Ok(text) => category_of_short_text(alloc, chooser, text),
+        Ok(text) => category_of_short_text(alloc, rules, text),
         Err(_) => Ok(Err(NumberFault::NotText)),
     }
 }
@@ -122,13 +126,13 @@ fn category_of(
 #[inline]
 fn category_of_text(
     alloc: Global,
-    chooser: &Chooser<'_>,
+    rules: &AskedRules<'_>,
     text: &str,
 ) -> Result<Result<PluralCategory, NumberFault>, AllocError>
-    ensures { IfOk result (λ answer. IsCategoryOf (chooser_rules chooser.now) text.now answer) }
+    ensures { IfOk result (λ answer. IsCategoryOf rules.now text.now answer) }
 {
     if text.len() <= MOST_NUMBER_BYTES {
-        return category_of_short_text(alloc, chooser, text);
+        return category_of_short_text(alloc, rules, text);
     }
     Ok(Err(NumberFault::TooLong))
 }
@@ -137,12 +141,12 @@ fn category_of_text(
 #[inline]
 fn category_of_short_text(
     alloc: Global,
-    chooser: &Chooser<'_>,
+    rules: &AskedRules<'_>,
     text: &str,
 ) -> Result<Result<PluralCategory, NumberFault>, AllocError>
-    ensures { IfOk result (λ answer. IsShortCategoryOf (chooser_rules chooser.now) text.now answer) }
+    ensures { IfOk result (λ answer. IsShortCategoryOf rules.now text.now answer) }
 {
-    match chooser.category_for_text(alloc, text) {
+    match rules.category_for_text(alloc, text) {
         Ok(category) => Ok(Ok(category)),
         Err(DecimalError::Syntax) => Ok(Err(NumberFault::Syntax)),
         Err(DecimalError::Limit) => Ok(Err(NumberFault::Limit)),

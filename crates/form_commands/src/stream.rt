@@ -4,16 +4,14 @@ ghost use Rattle.std.specs.Prelude.{◌≡◌, ◌∷◌, ◌++◌, [], IfErr, O
 ghost use Rattle.std.specs.Io.KnownBytes.{Appends};
 ghost use Rattle.form_commands.specs.FormsAnswers.{IsStreamed};
 ghost use Rattle.form_commands.specs.InputLines.{HasNoEnd};
-ghost use Rattle.form_commands.specs.Inner.ChooserRules.{chooser_rules};
 ghost use Rattle.form_commands.specs.Inner.LineSteps.{EndsLine, Forgets, KeepsBytes, TakesBytes};
 ghost use Rattle.form_commands.specs.Inner.StreamSteps.{FinishesLines, TakesAndWrites};
 ghost use Rattle.plural_documents.specs.Inputs.{IsPartWritten};
 
-use crate::chooser::Chooser;
 use crate::error::{FormsError, Verdict};
 use crate::number::{MOST_NUMBER_BYTES, next_place, push_answer, push_text_answer};
 use crate::printed::{Place, Printed};
-use icu_plurals::PluralRules;
+use icu_plurals::{AskedRules, PluralRules};
 use plural_documents::write_output;
 use std::alloc::{AllocError, Global};
 use std::io::{ErrorKind, Read, Write};
@@ -42,16 +40,16 @@ pub(crate) fn answer_input<N: Read, W: Write>(
         place: 1,
         printed: Printed::new(alloc),
     };
-    let mut chooser = Chooser::of(rules);
+    let mut asked = AskedRules::of(rules.as_borrowed());
     let mut chunk = [0u8; 4096];
     for _ in 0..u64::MAX {
         match numbers.read(&mut chunk) {
-            Ok(0) => return last_line(alloc, &chooser, &mut lines, writer),
+            Ok(0) => return last_line(alloc, &asked, &mut lines, writer),
             Ok(count) => {
-                chooser.prepare(rules, lines.place);
+                asked.prepare(numbers_after(lines.place, count));
                 if let Err(error) = answer_bytes(
                     alloc,
-                    &chooser,
+                    &asked,
                     &chunk[..count],
                     &mut lines,
                     writer,
@@ -69,17 +67,23 @@ pub(crate) fn answer_input<N: Read, W: Write>(
     Err(FormsError::Numbers)
 }
 
+// Returns how many numbers are asked for up to the end of a read that begins at a place: a line has
+// eight bytes or so.
+fn numbers_after(place: u64, bytes: usize) -> u64 {
+    place.saturating_add(bytes as u64 / 8)
+}
+
 // Writes the answers to the lines that end in these bytes.
 fn answer_bytes<W: Write>(
     alloc: Global,
-    chooser: &Chooser<'_>,
+    rules: &AskedRules<'_>,
     bytes: &[u8],
     lines: &mut Lines,
     writer: &mut W,
 ) -> Result<(), FormsError>
-    ensures { TakesAndWrites (chooser_rules chooser.now) bytes.now lines.old lines.new (W.contents writer.old) (W.contents writer.new) result }
+    ensures { TakesAndWrites rules.now bytes.now lines.old lines.new (W.contents writer.old) (W.contents writer.new) result }
 {
-    match take_bytes(alloc, chooser, bytes, lines) {
+    match take_bytes(alloc, rules, bytes, lines) {
         Ok(()) => write_printed(lines, writer),
         Err(_) => Err(FormsError::Memory),
     }
@@ -103,16 +107,16 @@ fn write_printed<W: Write>(lines: &mut Lines, writer: &mut W) -> Result<(), Form
 // Writes the answer to a last line that has no end.
 fn last_line<W: Write>(
     alloc: Global,
-    chooser: &Chooser<'_>,
+    rules: &AskedRules<'_>,
     lines: &mut Lines,
     writer: &mut W,
 ) -> Result<Verdict, FormsError>
-    ensures { FinishesLines (chooser_rules chooser.now) lines.old (W.contents writer.old) (W.contents writer.new) result }
+    ensures { FinishesLines rules.now lines.old (W.contents writer.old) (W.contents writer.new) result }
 {
     if lines.line.is_empty() {
         return Ok(lines.printed.verdict());
     }
-    match end_line(alloc, chooser, lines) {
+    match end_line(alloc, rules, lines) {
         Ok(()) => lines.printed.write_to(writer),
         Err(_) => Err(FormsError::Memory),
     }
@@ -121,30 +125,30 @@ fn last_line<W: Write>(
 // Takes bytes: those of a text line by line, others one after the other.
 fn take_bytes(
     alloc: Global,
-    chooser: &Chooser<'_>,
+    rules: &AskedRules<'_>,
     bytes: &[u8],
     lines: &mut Lines,
 ) -> Result<(), AllocError>
-    ensures { OnOk result (TakesBytes (chooser_rules chooser.now) bytes.now lines.old lines.new) }
+    ensures { OnOk result (TakesBytes rules.now bytes.now lines.old lines.new) }
 {
     match str::from_utf8(bytes) {
-        Ok(text) => take_text(alloc, chooser, text, lines),
-        Err(_) => take_each(alloc, chooser, bytes, lines),
+        Ok(text) => take_text(alloc, rules, text, lines),
+        Err(_) => take_each(alloc, rules, bytes, lines),
     }
 }
 
 // Takes a text, line by line.
 fn take_text(
     alloc: Global,
-    chooser: &Chooser<'_>,
+    rules: &AskedRules<'_>,
     text: &str,
     lines: &mut Lines,
 ) -> Result<(), AllocError>
-    ensures { OnOk result (TakesBytes (chooser_rules chooser.now) text.now lines.old lines.new) }
+    ensures { OnOk result (TakesBytes rules.now text.now lines.old lines.new) }
 {
     let mut rest = text;
     while let Some((line, after)) = rest.split_once('\n') {
-        take_line(alloc, chooser, line, lines)?;
+        take_line(alloc, rules, line, lines)?;
         rest = after;
     }
     lines.keep(rest.as_bytes())
@@ -154,31 +158,31 @@ fn take_text(
 #[inline]
 fn take_line(
     alloc: Global,
-    chooser: &Chooser<'_>,
+    rules: &AskedRules<'_>,
     line: &str,
     lines: &mut Lines,
 ) -> Result<(), AllocError>
     requires { HasNoEnd line.now }
-    ensures { OnOk result (TakesBytes (chooser_rules chooser.now) (line.now ++ 10 ∷ []) lines.old lines.new) }
+    ensures { OnOk result (TakesBytes rules.now (line.now ++ 10 ∷ []) lines.old lines.new) }
 {
     if lines.line.is_empty() {
-        return answer_line(alloc, chooser, line, lines);
+        return answer_line(alloc, rules, line, lines);
     }
     lines.keep(line.as_bytes())?;
-    end_line(alloc, chooser, lines)
+    end_line(alloc, rules, lines)
 }
 
 // Takes bytes, one after the other.
 fn take_each(
     alloc: Global,
-    chooser: &Chooser<'_>,
+    rules: &AskedRules<'_>,
     bytes: &[u8],
     lines: &mut Lines,
 ) -> Result<(), AllocError>
-    ensures { OnOk result (TakesBytes (chooser_rules chooser.now) bytes.now lines.old lines.new) }
+    ensures { OnOk result (TakesBytes rules.now bytes.now lines.old lines.new) }
 {
     for byte in bytes {
-        take_byte(alloc, chooser, *byte, lines)?;
+        take_byte(alloc, rules, *byte, lines)?;
     }
     Ok(())
 }
@@ -187,14 +191,14 @@ fn take_each(
 // limit is kept.
 fn take_byte(
     alloc: Global,
-    chooser: &Chooser<'_>,
+    rules: &AskedRules<'_>,
     byte: u8,
     lines: &mut Lines,
 ) -> Result<(), AllocError>
-    ensures { OnOk result (TakesBytes (chooser_rules chooser.now) (byte ∷ []) lines.old lines.new) }
+    ensures { OnOk result (TakesBytes rules.now (byte ∷ []) lines.old lines.new) }
 {
     if byte == b'\n' {
-        return end_line(alloc, chooser, lines);
+        return end_line(alloc, rules, lines);
     }
     if lines.line.len() > MOST_NUMBER_BYTES {
         return Ok(());
@@ -204,12 +208,12 @@ fn take_byte(
 }
 
 // Answers the present line, and begins the next one.
-fn end_line(alloc: Global, chooser: &Chooser<'_>, lines: &mut Lines) -> Result<(), AllocError>
-    ensures { OnOk result (EndsLine (chooser_rules chooser.now) lines.old.line.items lines.old lines.new) }
+fn end_line(alloc: Global, rules: &AskedRules<'_>, lines: &mut Lines) -> Result<(), AllocError>
+    ensures { OnOk result (EndsLine rules.now lines.old.line.items lines.old lines.new) }
 {
     push_answer(
         alloc,
-        chooser,
+        rules,
         lines.place(),
         lines.line.as_slice(),
         &mut lines.printed,
@@ -223,14 +227,14 @@ fn end_line(alloc: Global, chooser: &Chooser<'_>, lines: &mut Lines) -> Result<(
 #[inline]
 fn answer_line(
     alloc: Global,
-    chooser: &Chooser<'_>,
+    rules: &AskedRules<'_>,
     line: &str,
     lines: &mut Lines,
 ) -> Result<(), AllocError>
     requires { lines.old.line.items ≡ [] }
-    ensures { OnOk result (EndsLine (chooser_rules chooser.now) line.now lines.old lines.new) }
+    ensures { OnOk result (EndsLine rules.now line.now lines.old lines.new) }
 {
-    push_text_answer(alloc, chooser, lines.place(), line, &mut lines.printed)?;
+    push_text_answer(alloc, rules, lines.place(), line, &mut lines.printed)?;
     lines.place = next_place(lines.place);
     Ok(())
 }

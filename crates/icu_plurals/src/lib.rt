@@ -185,9 +185,9 @@ pub use fixed_decimal::{
 pub use packed::error::ElementsBytesError;
 pub use packed_list::{Items, ListError, PackError, PackedList};
 pub use plural_base::{
-    AllCategories, AsPluralRules, Categories, CategoryTable, DataError, ElementsPackError, Five,
-    JsonError, JsonProvider, PluralCategory, PluralRuleType, PluralRules, PluralRulesOptions,
-    PluralRulesWithRanges, PluralsProvider, PreparedRules, RulesBytesError, RulesPackError,
-    RulesTextError, SureCategoryError, rule_from_json, rule_to_json, sure_category,
+    AllCategories, AsPluralRules, AskedRules, Categories, CategoryTable, DataError,
+    ElementsPackError, Five, JsonError, JsonProvider, PluralCategory, PluralRuleType, PluralRules,
+    PluralRulesOptions, PluralRulesWithRanges, PluralsProvider, PreparedRules, RulesBytesError,
+    RulesPackError, RulesTextError, SureCategoryError, rule_from_json, rule_to_json, sure_category,
 };
 pub use plural_reference::{OperandsError, PluralOperands, RawPluralOperands, Sequence};

@@ -4,3 +4,6 @@ pub mod Members
 pub mod WidestChoice
 pub mod RuleRefusals
 pub mod SureFaults
+-- ranges in order, and rules with these
+pub mod OrderedLists
+pub mod OrderedTruth

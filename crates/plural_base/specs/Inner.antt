@@ -5,3 +5,5 @@ pub mod KeyedItems
 pub mod Masks
 pub mod WholeNumbers
 pub mod FractionClasses
+pub mod OrderedRules
+pub mod AskedRules

@@ -41,6 +41,7 @@ pub use ranges::PluralRanges;
 pub use ranges::key::UnvalidatedPluralRange;
 pub use rules::PluralRules;
 pub use rules::as_plural_rules::AsPluralRules;
+pub use rules::asked::AskedRules;
 pub use rules::bytes::error::{RulesBytesError, RulesPackError};
 pub use rules::categories::Categories;
 pub use rules::category_table::CategoryTable;

@@ -7,6 +7,7 @@ ghost use Rattle.plural_base.specs.RuleSizes.{HaveFewRanges};
 ghost use Rattle.plural_base.specs.declared.category.PluralCategory.TheVariants.{Other};
 
 pub(crate) mod as_plural_rules;
+pub(crate) mod asked;
 pub(crate) mod bytes;
 pub(crate) mod categories;
 pub(crate) mod category_table;
@@ -16,8 +17,10 @@ pub(crate) mod fractions;
 pub(crate) mod known;
 pub(crate) mod low_numbers;
 pub(crate) mod masks;
+pub(crate) mod ordered;
 pub(crate) mod prepared;
 pub(crate) mod prepared_text;
+pub(crate) mod range_ends;
 pub(crate) mod residue_class;
 pub(crate) mod table_bytes;
 pub(crate) mod text;
@@ -32,6 +35,7 @@ use crate::rules::few_ranges::has_few_ranges;
 use plural_reference::PluralOperands;
 use plural_runtime::{Rule, test_rule};
 use std::marker::Model;
+use std::mem;
 
 /// The rules of one language and type (UTS 35 Part 3, Language Plural Rules), which choose a
 /// number's category: the first of zero, one, two, few and many whose rule is present and true,
@@ -96,6 +100,18 @@ impl<'data> PluralRules<'data> {
         PluralRules {
             data: self.data.as_borrowed(),
         }
+    }
+
+    // The rules, in whose place are none.
+    pub(crate) fn taken(&mut self) -> PluralRules<'data>
+        ensures { result ≡ self.old }
+    {
+        mem::replace(
+            self,
+            PluralRules {
+                data: PluralRulesData::default(),
+            },
+        )
     }
 
     /// The category of a number by its operands. It allocates nothing.

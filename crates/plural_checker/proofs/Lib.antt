@@ -16,9 +16,6 @@ pub mod TrailingZeros
 pub mod StepTexts
 -- numbers that are checked by their operands
 pub mod ShortChecks
--- ranges in order, and rules with these
-pub mod OrderedLists
-pub mod OrderedTruth
 -- the words of a text
 pub mod SampleLemmas
 -- the least numbers of each category

@@ -7,13 +7,12 @@ ghost use Rattle.plural_checker.specs.Inner.TextReadings.{IfRefused, six};
 ghost use Rattle.plural_checker.specs.LanguageTexts.{six_texts};
 ghost use Rattle.plural_checker.specs.TextChecks.{AreFindingsOf, AreFindingsUnder, AreRulesIfRead};
 
-use crate::language_rules::LanguageRules;
 use crate::read_text::{NoRule, ReadText, packed_if_there, read_if_there};
 use crate::report::Report;
 use crate::text_check::check_if_there;
 use crate::texts::LanguageTexts;
 use icu_plurals::provider::PluralRulesData;
-use icu_plurals::{Five, PluralCategory};
+use icu_plurals::{Five, PluralCategory, PluralRules};
 use plural_base::{for_five, make_five};
 use std::alloc::{AllocError, Global};
 
@@ -64,7 +63,7 @@ fn read_five<'a>(
 // The faults of the texts under these rules.
 fn check_all(
     alloc: Global,
-    rules: Option<&LanguageRules<'_>>,
+    rules: Option<&PluralRules<'_>>,
     five: &Five<Option<ReadText<'_>>>,
     other: &Option<ReadText<'_>>,
 ) -> Result<Report, AllocError>
@@ -82,11 +81,11 @@ fn check_all(
 fn rules_of(
     alloc: Global,
     five: &Five<Option<ReadText<'_>>>,
-) -> Result<Option<LanguageRules<'static>>, AllocError>
+) -> Result<Option<PluralRules<'static>>, AllocError>
     ensures { IfOk result (λ rules. AreRulesIfRead five.now rules) }
 {
     match packed_rules(alloc, five) {
-        Ok(data) => Ok(Some(LanguageRules::of(data)?)),
+        Ok(data) => Ok(Some(PluralRules::from_data(data))),
         Err(NoRule::Refused) => Ok(None),
         Err(NoRule::Memory) => Err(AllocError),
     }

@@ -5,19 +5,14 @@
 
 mod category_samples;
 mod check;
-mod chooser;
 mod coverage;
 mod fault;
-mod language_rules;
 mod least_numbers;
 mod list_order;
 mod number_check;
 mod number_count;
 mod number_text;
 mod number_walk;
-mod ordered_ranges;
-mod ordered_relation;
-mod ordered_rules;
 mod printed_rule;
 mod range_check;
 mod read_text;

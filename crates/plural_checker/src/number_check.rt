@@ -7,20 +7,19 @@ ghost use Rattle.plural_checker.specs.Inner.ShortNumbers.{IsVerdictOn};
 ghost use Rattle.plural_checker.specs.NumberChecks.{AreCheckedNumbers, IsCheckedBy, IsCheckedNumber, IsCheckedText};
 ghost use Rattle.plural_checker.specs.SampleNumbers.{count_of, number_at};
 
-use crate::chooser::Chooser;
 use crate::fault::{NumberFault, SampleFault};
 use crate::reading::read_number;
 use crate::sample_range::SampleNumbers;
 use crate::short_number::{Verdict, verdict_at};
 use icu_plurals::provider::rules::reference::ast::DecimalValue;
-use icu_plurals::{CompactDecimal, PluralCategory, PluralOperands};
+use icu_plurals::{AskedRules, CompactDecimal, PluralCategory, PluralOperands};
 use plural_base::laws::kept_choice_is_exact;
 use std::alloc::{AllocError, Global};
 
 // Returns the fault of the first number that is wrong, if there is one.
 pub(crate) fn check_numbers(
     alloc: Global,
-    rules: Option<&Chooser<'_, '_>>,
+    rules: Option<&AskedRules<'_>>,
     category: PluralCategory,
     numbers: &SampleNumbers,
 ) -> Result<Option<SampleFault>, AllocError>
@@ -42,7 +41,7 @@ pub(crate) fn check_numbers(
 // Returns the fault of a text that is listed under a category: that of the verdict, else of a check.
 fn fault_by(
     alloc: Global,
-    rules: Option<&Chooser<'_, '_>>,
+    rules: Option<&AskedRules<'_>>,
     category: PluralCategory,
     text: &DecimalValue,
     verdict: Verdict,
@@ -60,7 +59,7 @@ fn fault_by(
 // Returns the fault of a text that is listed under a category.
 fn check_text(
     alloc: Global,
-    rules: Option<&Chooser<'_, '_>>,
+    rules: Option<&AskedRules<'_>>,
     category: PluralCategory,
     text: &DecimalValue,
 ) -> Result<Option<NumberFault>, AllocError>
@@ -74,7 +73,7 @@ fn check_text(
 
 // Returns the fault of a number that is listed under a category; `None` without rules.
 fn check_number(
-    rules: Option<&Chooser<'_, '_>>,
+    rules: Option<&AskedRules<'_>>,
     category: PluralCategory,
     number: &CompactDecimal,
 ) -> Option<NumberFault>
@@ -88,7 +87,7 @@ fn check_number(
 
 // Returns the fault of a number under these rules.
 fn check_by(
-    rules: &Chooser<'_, '_>,
+    rules: &AskedRules<'_>,
     category: PluralCategory,
     number: &CompactDecimal,
 ) -> Option<NumberFault>
@@ -106,7 +105,7 @@ fn check_by(
 }
 
 // Returns the category of a number.
-fn category_of(rules: &Chooser<'_, '_>, number: &CompactDecimal) -> PluralCategory
+fn category_of(rules: &AskedRules<'_>, number: &CompactDecimal) -> PluralCategory
     ensures { HasCategory rules.now number.now result }
 {
     kept_choice_is_exact();

@@ -6,22 +6,21 @@ ghost use Rattle.plural_checker.specs.Findings.{AddsFindings, EachFinds, GrowsBy
 ghost use Rattle.plural_checker.specs.NumberChecks.{IsCheckedRange};
 ghost use Rattle.plural_checker.specs.TextChecks.{IsFoundInList, IsFoundInRange, IsFoundInSamples, sample_findings};
 
-use crate::chooser::{Chooser, chooser_of};
 use crate::fault::{Fault, SampleFault, SampleType, TextFault};
-use crate::language_rules::LanguageRules;
 use crate::number_check::check_numbers;
+use crate::number_count::number_count;
 use crate::reading::compact_text;
 use crate::report::Report;
 use crate::sample_range::SampleNumbers;
 use crate::short_number::{Verdict, verdict_on_single};
-use icu_plurals::PluralCategory;
 use icu_plurals::provider::rules::reference::ast::{SampleList, SampleRange, Samples};
+use icu_plurals::{AskedRules, PluralCategory, PluralRules};
 use std::alloc::{AllocError, Global};
 
 // Adds the faults of the samples of a category's text.
 pub(crate) fn check_samples(
     alloc: Global,
-    rules: Option<&LanguageRules<'_>>,
+    rules: Option<&PluralRules<'_>>,
     category: PluralCategory,
     samples: &Option<Samples>,
     report: &mut Report,
@@ -31,8 +30,8 @@ pub(crate) fn check_samples(
     let Some(lists) = samples else {
         return Ok(());
     };
-    let chooser = chooser_of(alloc, rules, lists)?;
-    let rules = chooser.as_ref();
+    let asked = asked_for(alloc, rules, lists)?;
+    let rules = asked.as_ref();
     check_list(
         alloc,
         rules,
@@ -51,10 +50,28 @@ pub(crate) fn check_samples(
     )
 }
 
+// Returns the rules, if there are any, which will be asked for these samples.
+fn asked_for<'a>(
+    alloc: Global,
+    rules: Option<&'a PluralRules<'_>>,
+    samples: &Samples,
+) -> Result<Option<AskedRules<'a>>, AllocError>
+    ensures { IfOk result (λ asked. asked ≡ option_copied rules.entry) }
+{
+    let Some(rules) = rules else {
+        return Ok(None);
+    };
+    let mut asked = AskedRules::of(rules.as_borrowed());
+    if !rules.has_few_ranges() {
+        asked.put_in_order(alloc, number_count(samples))?;
+    }
+    Ok(Some(asked))
+}
+
 // Adds the faults of a list of samples, if it is present.
 fn check_list(
     alloc: Global,
-    rules: Option<&Chooser<'_, '_>>,
+    rules: Option<&AskedRules<'_>>,
     category: PluralCategory,
     sample_type: SampleType,
     list: &Option<SampleList>,
@@ -78,7 +95,7 @@ fn check_list(
 // Adds the faults of ranges of samples.
 fn check_ranges(
     alloc: Global,
-    rules: Option<&Chooser<'_, '_>>,
+    rules: Option<&AskedRules<'_>>,
     category: PluralCategory,
     sample_type: SampleType,
     ranges: &[SampleRange],
@@ -97,7 +114,7 @@ fn check_ranges(
 // Returns the fault of a range of samples, and the count of its numbers.
 fn check_range(
     alloc: Global,
-    rules: Option<&Chooser<'_, '_>>,
+    rules: Option<&AskedRules<'_>>,
     category: PluralCategory,
     range: &SampleRange,
 ) -> Result<(Option<SampleFault>, u64), AllocError>
@@ -117,7 +134,7 @@ fn check_range(
 // Returns the same by the numbers' texts.
 fn check_by_text(
     alloc: Global,
-    rules: Option<&Chooser<'_, '_>>,
+    rules: Option<&AskedRules<'_>>,
     category: PluralCategory,
     range: &SampleRange,
 ) -> Result<(Option<SampleFault>, u64), AllocError>

@@ -8,12 +8,11 @@ ghost use Rattle.std.specs.Option.{option_copied};
 ghost use Rattle.plural_checker.specs.Inner.ShortNumbers.{IsVerdictOn, IsVerdictOnRange, WritesShortNumber};
 ghost use Rattle.plural_checker.specs.SampleNumbers.{number_at, number_text, text_with_c};
 
-use crate::chooser::Chooser;
 use crate::fault::NumberFault;
 use crate::reading::MOST_DIGITS;
 use crate::sample_range::{SampleNumbers, Steps};
 use icu_plurals::provider::rules::reference::ast::{DecimalValue, Operand, SampleRange};
-use icu_plurals::{PluralCategory, PluralOperands, RawPluralOperands};
+use icu_plurals::{AskedRules, PluralCategory, PluralOperands, RawPluralOperands};
 use plural_base::laws::kept_choice_is_exact;
 use std::alloc::Global;
 
@@ -49,7 +48,7 @@ impl Verdict {
 // The verdict on a sample; unknown on a range.
 pub(crate) fn verdict_on_single(
     alloc: Global,
-    rules: Option<&Chooser<'_, '_>>,
+    rules: Option<&AskedRules<'_>>,
     category: PluralCategory,
     range: &SampleRange,
 ) -> Verdict
@@ -64,7 +63,7 @@ pub(crate) fn verdict_on_single(
 // The verdict on the text of a sample.
 fn verdict_on_sample(
     alloc: Global,
-    rules: Option<&Chooser<'_, '_>>,
+    rules: Option<&AskedRules<'_>>,
     category: PluralCategory,
     sample: &DecimalValue,
 ) -> Verdict
@@ -113,7 +112,7 @@ fn without_exponent(operands: PluralOperands) -> Option<PluralOperands>
 
 // The verdict on a number of a range.
 pub(crate) fn verdict_at(
-    rules: Option<&Chooser<'_, '_>>,
+    rules: Option<&AskedRules<'_>>,
     category: PluralCategory,
     numbers: &SampleNumbers,
     index: u64,
@@ -128,7 +127,7 @@ pub(crate) fn verdict_at(
 
 // The verdict on a number of steps.
 fn verdict_on_step(
-    rules: Option<&Chooser<'_, '_>>,
+    rules: Option<&AskedRules<'_>>,
     category: PluralCategory,
     steps: &Steps,
     index: u64,
@@ -144,7 +143,7 @@ fn verdict_on_step(
 
 // The verdict on every short number of these operands: without rules no number is wrong.
 fn verdict_by(
-    rules: Option<&Chooser<'_, '_>>,
+    rules: Option<&AskedRules<'_>>,
     category: PluralCategory,
     operands: PluralOperands,
 ) -> Verdict
@@ -158,7 +157,7 @@ fn verdict_by(
 
 // The same under these rules.
 fn verdict_under(
-    rules: &Chooser<'_, '_>,
+    rules: &AskedRules<'_>,
     category: PluralCategory,
     operands: PluralOperands,
 ) -> Verdict

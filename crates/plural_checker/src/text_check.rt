@@ -10,22 +10,21 @@ ghost use Rattle.plural_checker.specs.TextChecks.{HaveOtherTokens, HaveSameToken
 ghost use Rattle.plural_checker.specs.TextChecks.{condition_findings, IsFoundIn, IsFoundInReading, IsFoundInCategoryText};
 
 use crate::fault::{Fault, TextFault};
-use crate::language_rules::LanguageRules;
 use crate::list_order::is_out_of_order;
 use crate::printed_rule::PrintedRule;
 use crate::range_check::check_samples;
 use crate::read_text::{ReadText, Reading};
 use crate::report::Report;
-use icu_plurals::PluralCategory;
 use icu_plurals::provider::rules::reference::Lexer;
 use icu_plurals::provider::rules::reference::ast::{Condition, Rule};
 use icu_plurals::provider::rules::runtime::ast::RuleError;
+use icu_plurals::{PluralCategory, PluralRules};
 use std::alloc::{AllocError, Global};
 
 // Adds the faults of a category's text, if it is present.
 pub(crate) fn check_if_there(
     alloc: Global,
-    rules: Option<&LanguageRules<'_>>,
+    rules: Option<&PluralRules<'_>>,
     category: PluralCategory,
     text: &Option<ReadText<'_>>,
     report: &mut Report,
@@ -41,7 +40,7 @@ pub(crate) fn check_if_there(
 // Adds the faults of a category's text.
 fn check_text(
     alloc: Global,
-    rules: Option<&LanguageRules<'_>>,
+    rules: Option<&PluralRules<'_>>,
     category: PluralCategory,
     text: &ReadText<'_>,
     report: &mut Report,
@@ -64,7 +63,7 @@ fn check_text(
 // Adds the faults of a category's text that is read as this rule.
 fn check_rule(
     alloc: Global,
-    rules: Option<&LanguageRules<'_>>,
+    rules: Option<&PluralRules<'_>>,
     category: PluralCategory,
     text: &str,
     rule: &Rule,

@@ -1,5 +1,6 @@
 //! The kinds of rows: one file a subject.
 
+mod asked_categories;
 mod categories;
 mod conditions;
 mod decimals;
@@ -59,6 +60,7 @@ fn of_languages(kind: &str, call: &mut Call) -> bool {
         || five_rules::make(kind, call)
         || integer_categories::make(kind, call)
         || prepared_categories::make(kind, call)
+        || asked_categories::make(kind, call)
         || text_categories::make(kind, call)
         || rules_bytes::make(kind, call)
 }

@@ -3,15 +3,15 @@
 ghost use Rattle.std.specs.Prelude.{◌≡◌, ◌<◌, ℕ, ◌%◌, Bool, false, true, not, length, slice_index_or};
 ghost use Rattle.std.specs.List.{list_any};
 ghost use Rattle.plural_reference.specs.Truth.{is_in_ranges, range_holds};
-ghost use Rattle.plural_runtime.specs.RuleKinds.{ends};
 ghost use Rattle.plural_runtime.specs.Inner.RuleViews.{lent_relation};
 ghost use Rattle.plural_base.specs.Inner.Masks.{has_bit, IsToldAt};
 ghost use Rattle.plural_base.specs.Inner.WholeNumbers.{Fits, IsToldIf, is_list_told, range_or};
 ghost use Rattle.plural_base.specs.declared.rules.known.Known.TheVariants as facts;
 
 use crate::rules::masks::{between, repeated};
+use crate::rules::range_ends::ends_at;
 use crate::rules::told_masks::{Told, either, told_alike, told_exactly, told_false, untold};
-use plural_runtime::{RangeOrValue, Relation};
+use plural_runtime::Relation;
 
 // What is known of a value at all numbers of each class.
 #[derive(Clone, Copy)]
@@ -60,20 +60,8 @@ fn range_mask(relation: &Relation<'_>, place: usize) -> u128
     ensures { (k : ℕ) → k < 128 → has_bit result k
         ≡ range_holds k (slice_index_or (lent_relation relation.now).meaning.ranges place (0, 0)) }
 {
-    match relation.range(place) {
-        Some(range) => mask_of(range),
-        None => unreachable!(),
-    }
-}
-
-// The numbers in a range.
-fn mask_of(range: RangeOrValue) -> u128
-    ensures { (k : ℕ) → k < 128 → has_bit result k ≡ range_holds k (ends range) }
-{
-    match range {
-        RangeOrValue::Range(start, end) => between(start, end),
-        RangeOrValue::Value(value) => between(value, value),
-    }
+    let (start, end) = ends_at(relation, place);
+    between(start, end)
 }
 
 // The same, range by range.
@@ -97,21 +85,8 @@ fn told_at(relation: &Relation<'_>, place: usize, known: Known) -> Told
         → let range = slice_index_or (lent_relation relation.now).meaning.ranges place (0, 0) in
         IsToldAt class (range_or false known class value range) (range_or true known class value range) result }
 {
-    match relation.range(place) {
-        Some(range) => told_range(range, known),
-        None => unreachable!(),
-    }
-}
-
-// Whether a range holds a value, as far as what is known tells.
-fn told_range(range: RangeOrValue, known: Known) -> Told
-    ensures { (class value : ℕ) → class < 128 → Fits known class value
-        → IsToldAt class (range_or false known class value (ends range)) (range_or true known class value (ends range)) result }
-{
-    match range {
-        RangeOrValue::Range(start, end) => told_between(start, end, known),
-        RangeOrValue::Value(value) => told_between(value, value, known),
-    }
+    let (start, end) = ends_at(relation, place);
+    told_between(start, end, known)
 }
 
 // Whether a value is between two ends, as far as what is known tells.

@@ -1,9 +1,9 @@
 //! What is known of all whole numbers from a bound on that leave one remainder by 100.
 
-ghost use Rattle.std.specs.Prelude.{◌≡◌, ◌<◌, ◌||◌, ℕ, List, flat_map, length, map, slice_index_or};
+ghost use Rattle.std.specs.Prelude.{◌≡◌, ◌||◌, ℕ, List, flat_map, map};
 ghost use Rattle.std.specs.List.{list_all};
 ghost use Rattle.plural_reference.specs.Truth.{remainder};
-ghost use Rattle.plural_runtime.specs.RuleKinds.{ends, tree_operand_of};
+ghost use Rattle.plural_runtime.specs.RuleKinds.{tree_operand_of};
 ghost use Rattle.plural_runtime.specs.PackedRelations.{PackedRelation};
 ghost use Rattle.plural_runtime.specs.Inner.RuleViews.{lent_relation};
 ghost use Rattle.plural_base.specs.FiveRules.{rules_of};
@@ -13,9 +13,10 @@ ghost use Rattle.plural_base.specs.ToldCategories.{divides_100, ends_of, ends_of
 use crate::for_five;
 use crate::rules::data::PluralRulesData;
 use crate::rules::known::{Known, told_list};
+use crate::rules::range_ends::ends_at;
 use crate::rules::told::NumberClasses;
 use crate::rules::told_masks::{Told, under_polarity};
-use plural_runtime::{Operand, RangeOrValue, Relation, Rule};
+use plural_runtime::{Operand, Relation, Rule};
 
 // The number by whose remainders the numbers are classed.
 pub(crate) const CYCLE: u64 = 100;
@@ -134,28 +135,7 @@ fn first_above_ranges(relation: &Relation<'_>) -> u64
     let mut bound = 0;
     let count = relation.len();
     for k in 0..count {
-        bound = bound.max(u64::from(end_at(relation, k)) + 1);
+        bound = bound.max(u64::from(ends_at(relation, k).1) + 1);
     }
     bound
-}
-
-// The end of the range at a place.
-fn end_at(relation: &Relation<'_>, place: usize) -> u32
-    requires { place < length (lent_relation relation.now).meaning.ranges }
-    ensures { result ≡ (slice_index_or (lent_relation relation.now).meaning.ranges place (0, 0)).1 }
-{
-    match relation.range(place) {
-        Some(range) => end_of(range),
-        None => unreachable!(),
-    }
-}
-
-// The end of a range.
-fn end_of(range: RangeOrValue) -> u32
-    ensures { result ≡ (ends range).1 }
-{
-    match range {
-        RangeOrValue::Range(_, end) => end,
-        RangeOrValue::Value(value) => value,
-    }
 }

@@ -1,16 +1,13 @@
--- Not a definition of the subject: what private calls return, and the rules of what chooses the
--- categories of integers.
+-- Not a definition of the subject: what private calls return.
 use Rattle.std.specs.Prelude.{◌≡◌, ℕ, ℤ, List, Option, Result, Ok, Err}
 use Rattle.std.specs.Borrow.{Bor}
 use Rattle.std.specs.Str.{IsUtf8}
 use Rattle.icu_plurals.specs.declared.Five.{Five}
-use Rattle.icu_plurals.specs.FiveRules.{five, FiveRules}
+use Rattle.icu_plurals.specs.FiveRules.{five}
 use Rattle.plural_exports.specs.GivenTexts.{text_given}
 use Rattle.plural_exports.specs.Results.{IsToldWritten}
 use Rattle.plural_exports.specs.declared.fault.Fault.{Fault}
 use Rattle.plural_exports.specs.declared.fault.Fault.TheVariants.{Utf8}
-use Rattle.plural_exports.specs.declared.integers.Chooser.{Chooser}
-use Rattle.plural_exports.specs.declared.integers.Chooser.TheVariants.{Rules, Tables}
 use Rattle.plural_exports.specs.declared.element_texts.EightTexts.{EightTexts as Lent}
 use Rattle.plural_exports.specs.GivenElements.{Eight, eight}
 
@@ -33,11 +30,6 @@ lent_bytes bytes = five bytes.zero.now bytes.one.now bytes.two.now bytes.few.now
 abbrev pub GivesWritten : (Result (List ℕ) Fault → Type 0) → List ℕ → List ℕ → Result ℤ Fault → Type 0
 GivesWritten Is old new (Ok told) = (bytes : List ℕ) × Is (Ok bytes) × IsToldWritten old new told (Ok bytes)
 GivesWritten Is old new (Err fault) = Is (Err fault) × (new ≡ old)
-
--- the rules of what chooses
-abbrev pub chooser_rules : Chooser → FiveRules
-chooser_rules (Rules rules) = rules
-chooser_rules (Tables tables) = tables
 
 -- the bytes of eight references
 abbrev pub lent_eight : Lent → Eight

@@ -1,5 +1,4 @@
 use Rattle.std.proofs.Common.{◌≡◌, ℕ, List, length}
-use Rattle.form_commands.specs.Inner.ChooserRules.{chooser_rules}
 use Rattle.form_commands.specs.Inner.QuestionViews.{words_view}
 use Rattle.form_commands.specs.NumberAnswers.{AreAnswersFrom}
 use Rattle.form_commands.specs.PrintedTexts.{PrintedText, both_printed}
@@ -9,8 +8,8 @@ use Rattle.form_commands.proofs.number.numbers_by.Given as goal
 -- the answers to the rest complete those to all numbers
 abbrev pub invariant-loop-rest : goal.invariant-loop-rest
 invariant-loop-rest l =
-    (left : List (List ℕ)) → words_view l.rest ≡ left → (more : PrintedText) → AreAnswersFrom Number (chooser_rules l.chooser) l.place left more
-    → AreAnswersFrom Number (chooser_rules l.chooser) 1 (words_view l.numbers) (both_printed l.printed more)
+    (left : List (List ℕ)) → words_view l.rest ≡ left → (more : PrintedText) → AreAnswersFrom Number l.rules l.place left more
+    → AreAnswersFrom Number l.rules 1 (words_view l.numbers) (both_printed l.printed more)
 
 abbrev pub decreases-loop-rest : goal.decreases-loop-rest
 decreases-loop-rest l = length l.rest

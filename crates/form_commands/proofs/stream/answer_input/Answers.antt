@@ -1,4 +1,4 @@
-use Rattle.std.proofs.Common.{◌≡◌, ◌<◌, [], ◌++◌, length, take, arith, rules, refl}
+use Rattle.std.proofs.Common.{◌≡◌, ◌∙◌, ◌<◌, [], ◌++◌, length, take, arith, rules, refl}
 use Rattle.std.proofs.KnownBytes.{Appends-nil, Appends-trans, Consumes-kept, Consumes-nil, Consumes-trans}
 use Rattle.form_commands.proofs.AfterLemmas.{after_nothing}
 use Rattle.form_commands.proofs.StreamLemmas.{at_end, begun_all, cut_off, failed, streamed, took}
@@ -13,7 +13,7 @@ loop-init g c = (
   Appends-nil (g.W.Write.contents c.args.writer.now),
   after_nothing c.args.rules.now (record { line = c.new.result; place = 1; printed = c.new-2.result }) c.new.ensures.items refl
       c.new-2.ensures,
-  c.of-chooser.ensures,
+  c.of-asked.ensures ∙ c.as_borrowed.ensures,
 )
 
 pub returns-in-Ok-eq0 : goal.returns-in-Ok-eq0
@@ -30,7 +30,7 @@ pub returns-in-Err-answer_bytes : goal.returns-in-Err-answer_bytes
 returns-in-Err-answer_bytes g c =
     let i = c.loop.invariant in
     let more = take c.in-Ok.count c.read.new.buf in
-    let begun = rw c.prepare.ensures at c.in-Err-answer_bytes.ensures in
+    let begun = rw (c.prepare.ensures ∙ i.5) at c.in-Err-answer_bytes.ensures in
     failed c.args.rules.now _ _ _ _ c.in-Err-answer_bytes.error begun.0
     (begun_all c.args.rules.now (i.0 ++ more) i.1 (g.N.Read.remaining c.args.numbers.now) (g.N.Read.remaining c.read.new.self)
     (g.W.Write.contents c.args.writer.now) (g.W.Write.contents c.loop.writer) (g.W.Write.contents c.answer_bytes.new.writer)
@@ -49,17 +49,17 @@ loop-preserved g c =
       | in-Ok+in_default w ↦
           let more = take w.in-Ok.count c.read.new.buf in
           let t = took c.args.rules.now more c.loop.lines w.answer_bytes.new.lines (g.W.Write.contents c.loop.writer)
-          (g.W.Write.contents w.answer_bytes.new.writer) w.answer_bytes.result (rw w.prepare.ensures at w.answer_bytes.ensures) w.in_default.not-Err i.0 i.1 i.4 in
-          rw (w.lines-is, w.writer-is, w.chooser-is) (
+          (g.W.Write.contents w.answer_bytes.new.writer) w.answer_bytes.result (rw (w.prepare.ensures ∙ i.5) at w.answer_bytes.ensures) w.in_default.not-Err i.0 i.1 i.4 in
+          rw (w.lines-is, w.writer-is, w.asked-is) (
             i.0 ++ more,
             i.1 ++ t.0,
             Consumes-trans _ _ _ i.0 more i.2 w.in-Ok.ensures.bytes.0,
             Appends-trans _ _ _ i.1 t.0 i.3 t.1,
             t.2,
-            w.prepare.ensures,
+            w.prepare.ensures ∙ i.5,
           )
       | in-Err+else-ne w ↦
-          rw (w.lines-is, w.writer-is, w.chooser-is) (i.0, i.1, Consumes-kept _ _ _ _ i.2 w.in-Err.ensures.bytes, i.3, i.4, i.5)
+          rw (w.lines-is, w.writer-is, w.asked-is) (i.0, i.1, Consumes-kept _ _ _ _ i.2 w.in-Err.ensures.bytes, i.3, i.4, i.5)
     ]
 
 pub returns : goal.returns

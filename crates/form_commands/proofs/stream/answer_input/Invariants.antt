@@ -1,13 +1,11 @@
 use Rattle.std.proofs.Common.{◌≡◌, ℕ, List}
 use Rattle.std.specs.Io.KnownBytes.{Appends, Consumes}
-use Rattle.form_commands.specs.Inner.ChooserRules.{chooser_rules}
 use Rattle.form_commands.specs.Inner.StreamSteps.{IsWrittenAfter}
 use Rattle.form_commands.proofs.stream.answer_input.Given as goal
 
--- the answers to the lines that have ended are written, and what chooses the categories is of these
--- rules
+-- the answers to the lines that have ended are written, and these rules are asked
 abbrev pub invariant-loop : goal.invariant-loop
 invariant-loop g l =
     (bytes text : List ℕ) × Consumes (g.N.Read.remaining l.initial.numbers) (g.N.Read.remaining l.numbers) bytes
     × Appends (g.W.Write.contents l.initial.writer) (g.W.Write.contents l.writer) text × IsWrittenAfter l.rules bytes text l.lines
-    × (chooser_rules l.chooser ≡ l.rules)
+    × (l.asked ≡ l.rules)

@@ -1,5 +1,4 @@
 use Rattle.std.proofs.Common.{subst}
-use Rattle.form_commands.specs.Inner.ChooserRules.{chooser_rules}
 use Rattle.form_commands.specs.NumberAnswers.{IsAnswerAt}
 use Rattle.form_commands.specs.declared.printed.Place.{Place}
 use Rattle.form_commands.proofs.stream.answer_line.Goals as goal
@@ -9,7 +8,7 @@ returns c =
     let e = c.in_ok-push_text_answer.ensures in
     record {
       answer = e.0;
-      answers = subst (λ (p : Place). IsAnswerAt (chooser_rules c.args.chooser.now) p c.args.line.now e.0) c.place.ensures e.1;
+      answers = subst (λ (p : Place). IsAnswerAt c.args.rules.now p c.args.line.now e.0) c.place.ensures e.1;
       line = c.requires;
       place = c.next_place-lines.ensures;
       printed = e.2;

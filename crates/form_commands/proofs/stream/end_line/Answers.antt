@@ -1,5 +1,4 @@
 use Rattle.std.proofs.Common.{ℕ, List, subst}
-use Rattle.form_commands.specs.Inner.ChooserRules.{chooser_rules}
 use Rattle.form_commands.specs.NumberAnswers.{IsAnswerAt}
 use Rattle.form_commands.specs.declared.printed.Place.{Place}
 use Rattle.form_commands.proofs.stream.end_line.Goals as goal
@@ -7,7 +6,7 @@ use Rattle.form_commands.proofs.stream.end_line.Goals as goal
 pub returns : goal.returns
 returns c =
     let e = c.in_ok-push_answer.ensures in
-    let rules = chooser_rules c.args.chooser.now in
+    let rules = c.args.rules.now in
     record {
       answer = e.0;
       answers = subst (λ (p : Place). IsAnswerAt rules p c.args.lines.now.line.items e.0) c.place.ensures

@@ -1,6 +1,5 @@
 use Rattle.std.proofs.Common.{◌≡◌, length, vec_len, true, false, arith, ap, inl, refl, sym, ◌∙◌}
 use Rattle.std.proofs.lemmas.Bool.{eqb-true, eq-eqb}
-use Rattle.form_commands.specs.Inner.ChooserRules.{chooser_rules}
 use Rattle.form_commands.proofs.AfterLemmas.{begun_here}
 use Rattle.form_commands.proofs.LineLemmas.{no_items}
 use Rattle.form_commands.proofs.StreamLemmas.{finished, finished_before}
@@ -11,13 +10,13 @@ returns-then-is_empty g c =
     let line = c.args.lines.now.line in
     let zero : vec_len line ≡ 0 = eqb-true (vec_len line) 0 (sym c.is_empty.ensures ∙ c.if-is_empty.true) in
     let none : length line.items ≡ 0 = omega arith in
-    finished_before (chooser_rules c.args.chooser.now) c.args.lines.now c.verdict.result (g.W.Write.contents c.args.writer.now)
+    finished_before c.args.rules.now c.args.lines.now c.verdict.result (g.W.Write.contents c.args.writer.now)
     (no_items line.items none) c.verdict.ensures
 
 pub returns-in-Ok : goal.returns-in-Ok
 returns-in-Ok g c =
     let line = c.args.lines.now.line in
-    finished (chooser_rules c.args.chooser.now) c.args.lines.now c.end_line.new.lines (g.W.Write.contents c.args.writer.now)
+    finished c.args.rules.now c.args.lines.now c.end_line.new.lines (g.W.Write.contents c.args.writer.now)
     (g.W.Write.contents c.write_to.new.writer) c.write_to.result
     (λ none.
     let empty : length line.items ≡ 0 = ap length none in
@@ -27,4 +26,4 @@ returns-in-Ok g c =
 
 pub returns-in-Err : goal.returns-in-Err
 returns-in-Err g c =
-    (inl refl, λ bytes text h. begun_here (chooser_rules c.args.chooser.now) bytes text c.args.lines.now (g.W.Write.contents c.args.writer.now) h)
+    (inl refl, λ bytes text h. begun_here c.args.rules.now bytes text c.args.lines.now (g.W.Write.contents c.args.writer.now) h)

@@ -1,6 +1,5 @@
 use Rattle.std.proofs.Common.{ℕ, List, subst, ◌≡◌, ◌++◌, ◌∷◌, [], length, vec_len, arith, sym, ◌∙◌}
 use Rattle.std.proofs.lemmas.Bool.{eqb-true}
-use Rattle.form_commands.specs.Inner.ChooserRules.{chooser_rules}
 use Rattle.form_commands.specs.Inner.LineSteps.{EndsLine, KeepsBytes, TakesBytes}
 use Rattle.form_commands.proofs.AfterLemmas.{after_kept, after_line}
 use Rattle.form_commands.proofs.LineLemmas.{no_items}
@@ -19,7 +18,7 @@ returns-then-is_empty c =
     let line = c.args.lines.now.line in
     let zero : vec_len line ≡ 0 = eqb-true (vec_len line) 0 (sym c.is_empty.ensures ∙ c.if-is_empty.true) in
     let none : length line.items ≡ 0 = omega arith in
-    let r = chooser_rules c.args.chooser.now in
+    let r = c.args.rules.now in
     let old = c.args.lines.now in
     let new = c.answer_line.new.lines in
     on_ok {P = EndsLine r c.args.line.now old new} {Q = TakesBytes r (c.args.line.now ++ 10 ∷ []) old new} c.answer_line.result
@@ -27,7 +26,7 @@ returns-then-is_empty c =
 
 pub returns : goal.returns
 returns c =
-    let r = chooser_rules c.args.chooser.now in
+    let r = c.args.rules.now in
     let old = c.args.lines.now in
     let mid = c.keep.new.self in
     let new = c.end_line.new.lines in

@@ -1,6 +1,5 @@
 use Rattle.std.proofs.Common.{◌++◌, ◌∷◌, [], ℕ, List, refl, sym, ◌∙◌, ap, subst, append_assoc, rules}
 use Rattle.std.proofs.lemmas.List.{append-nil}
-use Rattle.form_commands.specs.Inner.ChooserRules.{chooser_rules}
 use Rattle.form_commands.specs.Inner.LineSteps.{IsAfter, KeepsBytes, TakesBytes}
 use Rattle.form_commands.proofs.AfterLemmas.{after_more}
 use Rattle.form_commands.proofs.LineLemmas.{cut_line, line_before, uncut}
@@ -13,7 +12,7 @@ loop-line-init c = (
   (
     [],
     refl,
-    λ bytes text a. subst (λ (b : List ℕ). IsAfter (chooser_rules c.args.chooser.now) b text c.args.lines.now) (sym (append-nil bytes)) a,
+    λ bytes text a. subst (λ (b : List ℕ). IsAfter c.args.rules.now b text c.args.lines.now) (sym (append-nil bytes)) a,
   ),
 )
 
@@ -31,7 +30,7 @@ loop-line-preserved c =
         i.0 ++ (line ++ 10 ∷ []),
         i.1 ∙ ap (λ (l : List ℕ). i.0 ++ l) cut.0 ∙ line_before i.0 line after,
         λ bytes text a.
-            subst (λ (b : List ℕ). IsAfter (chooser_rules c.args.chooser.now) b text c.take_line.new.lines)
+            subst (λ (b : List ℕ). IsAfter c.args.rules.now b text c.take_line.new.lines)
             (append_assoc bytes i.0 (line ++ 10 ∷ [])) (c.in_ok-take_line.ensures (bytes ++ i.0) text (i.2 bytes text a)),
       ),
     )
@@ -39,7 +38,7 @@ loop-line-preserved c =
 pub returns : goal.returns
 returns c =
     let i = c.loop-line.invariant.1 in
-    let r = chooser_rules c.args.chooser.now in
+    let r = c.args.rules.now in
     let rest = c.loop-line.rest.now in
     let old = c.args.lines.now in
     let mid = c.loop-line.lines in

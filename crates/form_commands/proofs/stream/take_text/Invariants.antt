@@ -1,7 +1,6 @@
 use Rattle.std.proofs.Common.{◌≡◌, ℕ, List, ◌++◌, length}
 use denote.Shadow.{shadow}
 use denote.Text.{Utf8}
-use Rattle.form_commands.specs.Inner.ChooserRules.{chooser_rules}
 use Rattle.form_commands.specs.Inner.LineSteps.{TakesBytes}
 use Rattle.form_commands.proofs.stream.take_text.Given as goal
 
@@ -9,7 +8,7 @@ use Rattle.form_commands.proofs.stream.take_text.Given as goal
 abbrev pub invariant-loop-line : goal.invariant-loop-line
 invariant-loop-line l =
     shadow (Utf8 l.rest)
-    × ((front : List ℕ) × (l.text ≡ front ++ l.rest) × TakesBytes (chooser_rules l.chooser) front l.initial.lines l.lines)
+    × ((front : List ℕ) × (l.text ≡ front ++ l.rest) × TakesBytes l.rules front l.initial.lines l.lines)
 
 abbrev pub decreases-loop-line : goal.decreases-loop-line
 decreases-loop-line l = length l.rest

@@ -18,7 +18,7 @@ returns-in_default c =
 pub returns : goal.returns
 returns c =
     let rules = option_copied c.as_ref-rules.result in
-    let same : rules ≡ option_copied c.args.rules = c.as_ref-rules.ensures.value ∙ c.in_ok-chooser.ensures in
+    let same : rules ≡ option_copied c.args.rules = c.as_ref-rules.ensures.value ∙ c.in_ok-asked.ensures in
     let category = c.args.category in
     let old = c.args.report.now in
     let new = c.check_list-2.new.report in

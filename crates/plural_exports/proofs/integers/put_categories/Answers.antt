@@ -1,4 +1,4 @@
-use Rattle.std.proofs.Common.{◌≡◌, ◌++◌, drop, length, arith, subst}
+use Rattle.std.proofs.Common.{◌≡◌, ◌∙◌, ◌++◌, drop, length, arith, subst}
 use Rattle.std.specs.Prelude.{map}
 use Rattle.icu_plurals.specs.CategoryTables.{integer_entry}
 use Rattle.icu_plurals.specs.FiveRules.{FiveRules}
@@ -16,4 +16,4 @@ returns-clause-written c =
     let new = c.write_categories.new.out in
     filled_all (integer_entry c.args.rules) numbers old new (omega (arith, c.if-room-count.false))
     (subst (λ (five : FiveRules). new ≡ map (integer_entry five) numbers ++ drop (length numbers) old)
-    c.chooser_of-chooser.ensures c.write_categories.ensures)
+    (c.prepare.ensures ∙ c.of-asked.ensures) c.write_categories.ensures)

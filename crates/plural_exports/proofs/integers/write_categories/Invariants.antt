@@ -1,11 +1,10 @@
 use Rattle.std.proofs.Common.{◌≡◌, length, take, drop}
 use Rattle.std.specs.Prelude.{map}
 use Rattle.icu_plurals.specs.CategoryTables.{integer_entry}
-use Rattle.plural_exports.specs.Inner.GivenResults.{chooser_rules}
 use Rattle.plural_exports.proofs.integers.write_categories.Given as goal
 
 abbrev pub invariant-loop-k : goal.invariant-loop-k
 invariant-loop-k l =
     (length l.out ≡ length l.fn.out)
-    × (take l.k l.out ≡ map (integer_entry (chooser_rules l.chooser)) (take l.k l.numbers))
+    × (take l.k l.out ≡ map (integer_entry l.rules) (take l.k l.numbers))
     × (drop l.k l.out ≡ drop l.k l.fn.out)

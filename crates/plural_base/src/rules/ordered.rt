@@ -1,0 +1,116 @@
+//! Rules of many ranges, with these in order.
+
+ghost use Rattle.std.specs.Prelude.{◌≡◌, IfOk, Some};
+ghost use Rattle.plural_runtime.specs.PackedTruth.{packed_truth};
+ghost use Rattle.plural_base.specs.FiveRules.{ArePaired, Paired, first_category, passes, rules_of};
+ghost use Rattle.plural_base.specs.Inner.OrderedRules.{AreLike};
+
+pub(crate) mod ranges;
+pub(crate) mod relation;
+pub(crate) mod rule;
+
+use crate::category::PluralCategory;
+use crate::five::Five;
+use crate::rules::PluralRules;
+use crate::rules::data::PluralRulesData;
+use crate::rules::ordered::rule::OrderedRule;
+use crate::{for_five, make_five};
+use plural_reference::PluralOperands;
+use plural_runtime::Rule;
+use std::alloc::{AllocError, Global};
+use std::marker::Model;
+
+// Rules, and the same with their ranges in order. Contracts see the rules.
+#[derive(Debug, Drop)]
+pub(crate) struct OrderedRules<'data> {
+    rules: PluralRules<'data>,
+    ordered: Five<Option<OrderedRule>>,
+}
+
+impl<'data> Model for OrderedRules<'data> {
+    ghost use Rattle.plural_base.specs.FiveRules.{FiveRules};
+
+    ghost Value = { FiveRules };
+
+    ghost use Rattle.plural_base.specs.Inner.OrderedRules.{ChooseSame};
+
+    ghost view = { λ ordered. ordered.rules };
+
+    ghost invariant = { λ ordered. ChooseSame ordered.ordered ordered.rules };
+}
+
+impl<'data> OrderedRules<'data> {
+    // The rules, which are taken out of the place where they are unless memory runs out.
+    pub(crate) fn of(
+        alloc: Global,
+        rules: &mut PluralRules<'data>,
+    ) -> Result<OrderedRules<'data>, AllocError>
+        ensures ok { IfOk result (λ ordered. ordered ≡ rules.old) }
+        ensures same { IfErr result (λ _. rules.new ≡ rules.old) }
+    {
+        let ordered = ordered_rules(alloc, &rules.data)?;
+        Ok(OrderedRules {
+            rules: rules.taken(),
+            ordered,
+        })
+    }
+
+    // The rules.
+    pub(crate) fn rules(&self) -> &PluralRules<'data>
+        ensures { result.now ≡ self.now }
+    {
+        &self.rules
+    }
+
+    // The category of a number by its operands.
+    pub(crate) fn category_for(&self, operands: &PluralOperands) -> PluralCategory
+        ensures { result ≡ first_category (packed_truth operands.now) self.now }
+    {
+        first_true(&self.ordered, operands)
+    }
+}
+
+// The rules with their ranges in order.
+fn ordered_rules(
+    alloc: Global,
+    rules: &PluralRulesData<'_>,
+) -> Result<Five<Option<OrderedRule>>, AllocError>
+    ensures { IfOk result (λ ordered. ArePaired AreLike ordered (rules_of rules.now)) }
+{
+    Ok(make_five!(Five, rules, |rule| ordered_if_there(alloc, rule)?))
+}
+
+// The rule with its ranges in order, if it is present.
+fn ordered_if_there(
+    alloc: Global,
+    rule: &Option<Rule<'_>>,
+) -> Result<Option<OrderedRule>, AllocError>
+    ensures { IfOk result (λ ordered. Paired AreLike ordered rule.now) }
+{
+    match rule {
+        Some(rule) => Ok(Some(OrderedRule::of(alloc, rule)?)),
+        None => Ok(None),
+    }
+}
+
+// The first category whose rule is present and true, else other.
+fn first_true(rules: &Five<Option<OrderedRule>>, operands: &PluralOperands) -> PluralCategory
+    ensures { result ≡ first_category (packed_truth operands.now) rules.now }
+{
+    for_five!(rules, |rule, category| {
+        if is_true_of(rule, operands) {
+            return category;
+        }
+    });
+    PluralCategory::Other
+}
+
+// Whether a rule is present and true.
+fn is_true_of(rule: &Option<OrderedRule>, operands: &PluralOperands) -> bool
+    ensures { result ≡ passes (packed_truth operands.now) rule.now }
+{
+    match rule {
+        Some(rule) => rule.is_true(operands),
+        None => false,
+    }
+}

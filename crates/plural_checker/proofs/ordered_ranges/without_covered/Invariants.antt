@@ -1,6 +1,0 @@
-use Rattle.plural_checker.proofs.OrderedLists.{IsKept}
-use Rattle.plural_checker.proofs.ordered_ranges.without_covered.Given as goal
-
--- what is kept of the ranges so far
-abbrev pub invariant-loop-range : goal.invariant-loop-range
-invariant-loop-range l = IsKept l.ranges l.kept.items l.range-index

@@ -1,7 +1,0 @@
-use Rattle.std.proofs.Common.{◌≡◌, take}
-use Rattle.icu_plurals.specs.RuleViews.{lent_relation}
-use Rattle.plural_checker.proofs.ordered_relation.ranges_of.Given as goal
-
--- the ranges so far
-abbrev pub invariant-loop-index : goal.invariant-loop-index
-invariant-loop-index l = l.ranges.items ≡ take l.index (lent_relation l.relation).meaning.ranges
