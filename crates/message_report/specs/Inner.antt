@@ -5,6 +5,7 @@ pub mod KnownLanguages
 pub mod KnownNumbers
 pub mod LanguageViews
 pub mod ListedTexts
+pub mod MessageSums
 pub mod NeededRules
 pub mod NumberBranches
 pub mod OwnForms

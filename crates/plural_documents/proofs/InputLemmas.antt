@@ -7,7 +7,7 @@ use Rattle.std.proofs.lemmas.List.{append-nil, length-append}
 use Rattle.std.specs.Io.KnownBytes.{Consumes, IsAtEnd}
 use Rattle.std.specs.declared.alloc.Global.{Global}
 use Rattle.std.proofs.KnownBytes.{Consumes-nil}
-use Rattle.plural_documents.specs.Inputs.{GivesInput, IsInput, IsRead, IsReadToEnd, IsReadUpTo, input_origin, most_bytes, within_limit}
+use Rattle.plural_documents.specs.Inputs.{Origin, IsFaultOf, from_reader, from_length, from_writer, from_memory, from_answer, GivesInput, IsInput, IsRead, IsReadToEnd, IsReadUpTo, input_origin, most_bytes, within_limit}
 use Rattle.plural_documents.specs.declared.input.InputError.{InputError}
 use Rattle.plural_documents.specs.declared.input.InputError.TheVariants.{Read, TooLong, Memory}
 
@@ -96,3 +96,11 @@ one_more n most h = omega arith
 -- an input that was read to its end is at most as long as the limit
 pub all_is_some : (old new : Option (List ℕ)) → IsReadToEnd old new → IsReadUpTo old new
 all_is_some old new read = (read.0, read.1, one_more (length read.0) most_bytes read.3)
+
+-- a call that gives a fault of one kind also gives a fault of a wider kind
+pub mapped : (origin : Origin) {P Q : Type 0} → (P → Q) → IsFaultOf origin P → IsFaultOf origin Q
+mapped from_reader f h = h
+mapped from_length f h = f h
+mapped from_writer f h = h
+mapped from_memory f h = tt
+mapped from_answer f h = f h

@@ -55,6 +55,14 @@ input_origin Read = from_reader
 input_origin TooLong = from_length
 input_origin Memory = from_memory
 
+-- a fault of this origin, which is this one; or out of memory; the call neither reads nor writes
+abbrev pub IsFaultOf : Origin → Type 0 → Type 0
+IsFaultOf from_reader Is = ⊥
+IsFaultOf from_length Is = Is
+IsFaultOf from_writer Is = ⊥
+IsFaultOf from_memory Is = ⊤
+IsFaultOf from_answer Is = Is
+
 -- ---- What is read
 
 -- all that remained in the reader, within the limit

@@ -80,15 +80,16 @@ impl<'data> AskedRules<'data> {
         }
     }
 
-    /// Puts the ranges of the rules in order, if that is worth it for so many numbers and the rules
-    /// have many ranges, so that a number is compared with few of them. If it is called again, it
-    /// orders nothing anew. The only error is out of memory; then nothing is changed.
+    /// Prepares the rules as [`AskedRules::prepare`] does, or, if they have many ranges, puts these in
+    /// order where that is worth it for so many numbers: then a number is compared with few of
+    /// them. If it is called again, it orders nothing anew. The only error is out of memory; then the
+    /// rules are asked as they are.
     pub fn put_in_order(&mut self, alloc: Global, count: u64) -> Result<(), AllocError>
         ensures { self.new ≡ self.old }
     {
+        self.prepare(count);
         if count > FEW_BEFORE_ORDER
-            && let Way::Rules(rules) | Way::ManyRanges(rules) = &mut self.way
-            && !rules.has_few_ranges()
+            && let Way::ManyRanges(rules) = &mut self.way
         {
             self.way = Way::Ordered(OrderedRules::of(alloc, rules)?);
         }

@@ -1,8 +1,8 @@
 //! Rules of many ranges, with these in order.
 
-ghost use Rattle.std.specs.Prelude.{◌≡◌, IfOk, Some};
+ghost use Rattle.std.specs.Prelude.{◌≡◌, Contains, IfErr, IfOk};
 ghost use Rattle.plural_runtime.specs.PackedTruth.{packed_truth};
-ghost use Rattle.plural_base.specs.FiveRules.{ArePaired, Paired, first_category, passes, rules_of};
+ghost use Rattle.plural_base.specs.FiveRules.{ArePaired, Paired, categories_of, first_category, passes, rules_of};
 ghost use Rattle.plural_base.specs.Inner.OrderedRules.{AreLike};
 
 pub(crate) mod ranges;
@@ -64,7 +64,8 @@ impl<'data> OrderedRules<'data> {
 
     // The category of a number by its operands.
     pub(crate) fn category_for(&self, operands: &PluralOperands) -> PluralCategory
-        ensures { result ≡ first_category (packed_truth operands.now) self.now }
+        ensures first { result ≡ first_category (packed_truth operands.now) self.now }
+        ensures member { Contains (categories_of self.now) result }
     {
         first_true(&self.ordered, operands)
     }

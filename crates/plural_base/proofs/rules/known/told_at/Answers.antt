@@ -7,4 +7,4 @@ pub returns : goal.returns
 returns c = λ k value within fits.
     let known = c.args.known in
     let P : ℕ × ℕ → Type 0 = λ pair. IsToldAt k (range_or false known k value pair) (range_or true known k value pair) c.told_between.result in
-    subst P c.ends_at.ensures (c.told_between.ensures k value within fits)
+    subst P c.ends_at-start.ensures (c.told_between.ensures k value within fits)

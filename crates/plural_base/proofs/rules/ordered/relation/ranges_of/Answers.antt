@@ -12,4 +12,4 @@ loop-index-preserved c =
     let pushed = c.in_ok-push.ensures.items in
     pushed ∙ ap (λ (front : List (ℕ × ℕ)). front ++ c.ends_at.result ∷ []) c.loop-index.invariant
     ∙ ap (λ (range : ℕ × ℕ). take index ranges ++ range ∷ []) c.ends_at.ensures
-    ∙ sym (take_more ranges index c.ends_at.result below)
+    ∙ sym (take_more ranges index (0, 0) below)
