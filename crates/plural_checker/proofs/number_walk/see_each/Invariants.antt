@@ -6,6 +6,7 @@ use Rattle.plural_checker.proofs.number_walk.see_each.Given as goal
 
 -- the numbers before this one are seen; the category that is passed over has two
 abbrev pub invariant-loop-number : goal.invariant-loop-number
-invariant-loop-number g l =
-    AreSeenBelow (g.R.Asked.rules l.rules) l.sought.start l.number l.seen
+invariant-loop-number l =
+    AreSeenBelow l.initial.asked l.sought.start l.number l.seen
     × ((c : PluralCategory) → l.common ≡ Some c → IsSome (least_at l.seen c).second)
+    × (l.asked ≡ l.initial.asked)
