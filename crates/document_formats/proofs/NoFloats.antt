@@ -1,12 +1,9 @@
--- No object of a finding has a float, and neither has a log.
-use Rattle.std.proofs.Common.{◌≡◌, ℕ, ap, Bool, false, refl, List, [], ◌∷◌}
-use Rattle.std.specs.Prelude.{map, ◌||◌}
-use Rattle.serde_json.specs.Data.{Data}
-use Rattle.serde_json.specs.View.{items_of}
-use Rattle.serde_json.specs.Written.{has_float, items_have_float}
+-- No object of a finding has a float.
+use Rattle.std.proofs.Common.{◌≡◌, ℕ, ap, Bool, false, refl, List}
+use Rattle.std.specs.Prelude.{◌||◌}
+use Rattle.serde_json.specs.Written.{has_float}
 use Rattle.document_report.specs.DocumentFindings.{Finding}
 use Rattle.document_report.specs.DocumentPlaces.{FindingPlace, at_document, at_key, at_locale, at_parent, at_parents, at_part, at_text}
-use Rattle.document_formats.specs.DocumentLog.{log_data, result_data_in}
 use Rattle.document_formats.specs.DocumentObjects.{finding_data_in, place_data}
 
 place_without : (place : FindingPlace) → has_float (place_data place) ≡ false
@@ -20,14 +17,3 @@ place_without (at_key l key) = refl
 
 pub finding_without : (file : List ℕ) (f : Finding) → has_float (finding_data_in file f) ≡ false
 finding_without file f = ap (λ (found : Bool). found || false) (place_without f.place)
-
--- whether one of a list has a float
-abbrev pub list_has_float : List Data → Bool
-list_has_float ds = items_have_float (items_of ds)
-
-pub results_without : (file : List ℕ) (fs : List Finding) → list_has_float (map (result_data_in file) fs) ≡ false
-results_without file [] = refl
-results_without file (f ∷ fs) = results_without file fs
-
-pub log_without : (results : List Data) → list_has_float results ≡ false → has_float (log_data results) ≡ false
-log_without results h = rw h refl

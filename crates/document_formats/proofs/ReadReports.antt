@@ -18,8 +18,8 @@ use Rattle.document_report.specs.DocumentPlaces.{FindingPlace, LocalePlace, at_d
 use Rattle.document_report.specs.ReportText.{counts_in, findings_in}
 use Rattle.document_report.specs.declared.counts.Counts.{Counts}
 use Rattle.document_report.specs.declared.report.Report.{Report}
-use Rattle.document_formats.proofs.LineLemmas.{lines_tell}
-use Rattle.document_formats.proofs.PlainData.{IsLineValue, IsPlain}
+use Rattle.finding_formats.proofs.LineLemmas.{lines_tell}
+use Rattle.finding_formats.proofs.PlainData.{IsLineValue, IsPlain}
 use Rattle.document_formats.specs.DocumentLineLaws.{CountsFit, LinesTellReports, Shown, shown}
 use Rattle.document_formats.specs.DocumentLines.{report_data}
 use Rattle.document_formats.specs.DocumentObjects.{counts_data, finding_data, place_data}

@@ -1,9 +1,9 @@
 //! Commands of a workflow of GitHub Actions.
 
-ghost use Rattle.std.specs.Prelude.{◌≡◌, ◌++◌, IfOk, OnOk, map, string_bytes};
-ghost use Rattle.std.specs.List.{flat_map};
+ghost use Rattle.std.specs.Prelude.{◌≡◌, IfOk, string_bytes};
 ghost use Rattle.document_formats.specs.DocumentCommands.{file_command, file_located, file_report_commands, finding_command_in, report_commands};
 ghost use Rattle.document_report.specs.DocumentFindings.{finding_view};
+ghost use Rattle.document_report.specs.DocumentFindings as listed;
 ghost use Rattle.finding_formats.specs.LocatedFindings.{located_view};
 
 use crate::code::Code;
@@ -11,6 +11,7 @@ use crate::finding_object::INPUT_NAME;
 use document_report::{Finding, Report};
 use finding_formats::{Format, Located, Notice, Told, Totals, print_located};
 use message_report::Severity;
+use plural_documents::{LinePrinter, push_lines};
 use std::alloc::{AllocError, Global};
 
 // What commands don't tell.
@@ -38,42 +39,39 @@ pub(crate) fn file_commands(
     ensures { IfOk result (λ text. string_bytes text ≡ file_report_commands file.now report.now) }
 {
     let mut text = String::new(alloc);
-    push_commands(alloc, &mut text, file, report.findings())?;
+    push_lines(
+        alloc,
+        &mut FileCommands { file },
+        report.findings(),
+        &mut text,
+    )?;
     Ok(text)
 }
 
-// Appends the command of each finding in a file.
-fn push_commands(
-    alloc: Global,
-    text: &mut String,
-    file: &str,
-    findings: &[Finding<'_>],
-) -> Result<(), AllocError>
-    ensures { OnOk result (string_bytes text.new ≡ string_bytes text.old ++ flat_map (finding_command_in file.now) (map finding_view findings.now)) }
-{
-    for finding in findings {
-        push_command(alloc, text, file, finding)?;
-    }
-    Ok(())
+// The commands of findings in a file.
+#[derive(Drop)]
+struct FileCommands<'f> {
+    file: &'f str,
 }
 
-// Appends the command of a finding in a file.
-fn push_command(
-    alloc: Global,
-    text: &mut String,
-    file: &str,
-    finding: &Finding<'_>,
-) -> Result<(), AllocError>
-    ensures { OnOk result (string_bytes text.new ≡ string_bytes text.old ++ finding_command_in file.now (finding_view finding.now)) }
-{
-    let line = finding.line(alloc)?;
-    let command = file_command(
-        alloc,
-        file,
-        Code::of(&finding.cause).as_str(),
-        line.as_str(),
-    )?;
-    text.push_str(command.as_str())
+impl<'f, 'a> LinePrinter<Finding<'a>> for FileCommands<'f> {
+    ghost Seen = { listed.Finding };
+
+    ghost seen = { finding_view };
+
+    ghost line_of = { λ commands. finding_command_in commands.file.now };
+
+    fn push(
+        &mut self,
+        alloc: Global,
+        finding: &Finding<'a>,
+        text: &mut String,
+    ) -> Result<(), AllocError> {
+        let line = finding.line(alloc)?;
+        let code = Code::of(&finding.cause).as_str();
+        let command = file_command(alloc, self.file, code, line.as_str())?;
+        text.push_str(command.as_str())
+    }
 }
 
 // Returns the command of a text with a code, told of a file.

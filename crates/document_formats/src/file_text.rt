@@ -1,12 +1,13 @@
 //! The text of the report of a file.
 
-ghost use Rattle.std.specs.Prelude.{◌≡◌, ◌++◌, IfOk, OnOk, map, string_bytes};
-ghost use Rattle.std.specs.List.{flat_map};
+ghost use Rattle.std.specs.Prelude.{◌≡◌, IfOk, string_bytes};
 ghost use Rattle.document_formats.specs.FileText.{counts_line_in, file_report_text, finding_line_in};
 ghost use Rattle.document_report.specs.DocumentFindings.{finding_view};
+ghost use Rattle.document_report.specs.DocumentFindings as listed;
 ghost use Rattle.document_report.specs.ReportText.{counts_line};
 
 use document_report::{Counts, Finding, Report};
+use plural_documents::{LinePrinter, push_lines};
 use std::alloc::{AllocError, Global};
 
 // Returns a line for each finding, and one with the counts, each after the file's name.
@@ -18,37 +19,33 @@ pub(crate) fn file_text(
     ensures { IfOk result (λ text. string_bytes text ≡ file_report_text file.now report.now) }
 {
     let mut text = String::new(alloc);
-    push_lines(alloc, &mut text, file, report.findings())?;
+    push_lines(alloc, &mut FileLines { file }, report.findings(), &mut text)?;
     text.push_str(file_counts_line(alloc, file, report.counts())?.as_str())?;
     Ok(text)
 }
 
-// Appends the line of each finding.
-fn push_lines(
-    alloc: Global,
-    text: &mut String,
-    file: &str,
-    findings: &[Finding<'_>],
-) -> Result<(), AllocError>
-    ensures { OnOk result (string_bytes text.new ≡ string_bytes text.old ++ flat_map (finding_line_in file.now) (map finding_view findings.now)) }
-{
-    for finding in findings {
-        push_line(alloc, text, file, finding)?;
-    }
-    Ok(())
+// The lines of findings in a file.
+#[derive(Drop)]
+struct FileLines<'f> {
+    file: &'f str,
 }
 
-// Appends the line of a finding.
-fn push_line(
-    alloc: Global,
-    text: &mut String,
-    file: &str,
-    finding: &Finding<'_>,
-) -> Result<(), AllocError>
-    ensures { OnOk result (string_bytes text.new ≡ string_bytes text.old ++ finding_line_in file.now (finding_view finding.now)) }
-{
-    let line = finding_line(alloc, file, finding)?;
-    text.push_str(line.as_str())
+impl<'f, 'a> LinePrinter<Finding<'a>> for FileLines<'f> {
+    ghost Seen = { listed.Finding };
+
+    ghost seen = { finding_view };
+
+    ghost line_of = { λ lines. finding_line_in lines.file.now };
+
+    fn push(
+        &mut self,
+        alloc: Global,
+        finding: &Finding<'a>,
+        text: &mut String,
+    ) -> Result<(), AllocError> {
+        let line = finding_line(alloc, self.file, finding)?;
+        text.push_str(line.as_str())
+    }
 }
 
 // Returns the line of a finding, with a newline.

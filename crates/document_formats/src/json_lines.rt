@@ -1,17 +1,16 @@
 //! Lines of JSON.
 
-ghost use Rattle.std.specs.Prelude.{◌≡◌, ◌++◌, false, IfOk, OnOk, map, string_bytes};
-ghost use Rattle.std.specs.List.{flat_map};
+ghost use Rattle.std.specs.Prelude.{◌≡◌, IfOk, string_bytes};
 ghost use Rattle.document_formats.specs.DocumentLines.{file_report_lines, report_lines};
 ghost use Rattle.document_formats.specs.DocumentObjects.{finding_data_in};
 ghost use Rattle.document_report.specs.DocumentFindings.{finding_view};
+ghost use Rattle.document_report.specs.DocumentFindings as listed;
 ghost use Rattle.finding_formats.specs.JsonLines.{json_line};
-ghost use Rattle.serde_json.specs.View.{view};
-ghost use Rattle.serde_json.specs.Written.{has_float};
 
 use crate::finding_object::{INPUT_NAME, counts_value, file_counts_value, finding_value};
 use document_report::{Finding, Report};
-use serde_json::Value;
+use finding_formats::push_value;
+use plural_documents::{LinePrinter, push_lines};
 use std::alloc::{AllocError, Global};
 
 // Returns a line for each finding, and one with the counts.
@@ -19,9 +18,10 @@ pub(crate) fn json_lines(alloc: Global, report: &Report<'_>) -> Result<String, A
     ensures { IfOk result (λ text. string_bytes text ≡ report_lines report.now) }
 {
     let mut text = String::new(alloc);
-    push_findings(alloc, &mut text, INPUT_NAME, report.findings())?;
+    let mut objects = FileObjects { file: INPUT_NAME };
+    push_lines(alloc, &mut objects, report.findings(), &mut text)?;
     let counts = counts_value(alloc, report.counts())?;
-    push_line(alloc, &mut text, &counts)?;
+    push_value(alloc, &mut text, &counts)?;
     Ok(text)
 }
 
@@ -34,46 +34,37 @@ pub(crate) fn file_lines(
     ensures { IfOk result (λ text. string_bytes text ≡ file_report_lines file.now report.now) }
 {
     let mut text = String::new(alloc);
-    push_findings(alloc, &mut text, file, report.findings())?;
+    push_lines(
+        alloc,
+        &mut FileObjects { file },
+        report.findings(),
+        &mut text,
+    )?;
     let last = file_counts_value(alloc, file, report.counts())?;
-    push_line(alloc, &mut text, &last)?;
+    push_value(alloc, &mut text, &last)?;
     Ok(text)
 }
 
-// Appends the line of each finding in a file.
-fn push_findings(
-    alloc: Global,
-    text: &mut String,
-    file: &str,
-    findings: &[Finding<'_>],
-) -> Result<(), AllocError>
-    ensures { OnOk result (string_bytes text.new
-        ≡ string_bytes text.old ++ flat_map json_line (map (finding_data_in file.now) (map finding_view findings.now))) }
-{
-    for finding in findings {
-        push_finding(alloc, text, file, finding)?;
+// The objects of findings in a file.
+#[derive(Drop)]
+struct FileObjects<'f> {
+    file: &'f str,
+}
+
+impl<'f, 'a> LinePrinter<Finding<'a>> for FileObjects<'f> {
+    ghost Seen = { listed.Finding };
+
+    ghost seen = { finding_view };
+
+    ghost line_of = { λ objects f. json_line (finding_data_in objects.file.now f) };
+
+    fn push(
+        &mut self,
+        alloc: Global,
+        finding: &Finding<'a>,
+        text: &mut String,
+    ) -> Result<(), AllocError> {
+        let value = finding_value(alloc, self.file, finding)?;
+        push_value(alloc, text, &value)
     }
-    Ok(())
-}
-
-// Appends the line of a finding in a file.
-fn push_finding(
-    alloc: Global,
-    text: &mut String,
-    file: &str,
-    finding: &Finding<'_>,
-) -> Result<(), AllocError>
-    ensures { OnOk result (string_bytes text.new ≡ string_bytes text.old ++ json_line (finding_data_in file.now (finding_view finding.now))) }
-{
-    let value = finding_value(alloc, file, finding)?;
-    push_line(alloc, text, &value)
-}
-
-// Appends a value without floats, and a newline.
-pub(crate) fn push_line(alloc: Global, text: &mut String, value: &Value) -> Result<(), AllocError>
-    requires { has_float (view value.now) ≡ false }
-    ensures { OnOk result (string_bytes text.new ≡ string_bytes text.old ++ json_line (view value.now)) }
-{
-    text.push_str(value.to_string(alloc)?.as_str())?;
-    text.push_str("\n")
 }

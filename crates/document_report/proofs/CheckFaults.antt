@@ -1,20 +1,14 @@
 -- A fault of a step is the fault of the whole.
 use Rattle.std.proofs.Common.{◌≡◌, Result, Ok, Err, refl, sym, ◌∙◌, ap, subst}
+use Rattle.plural_documents.proofs.InputLemmas as faults
 use Rattle.plural_documents.specs.Steps.{◌>>=◌}
+use Rattle.document_report.specs.CheckAnswer.{check_origin}
 use Rattle.document_report.specs.Inner.CheckCalls.{GivesFault, GivesOnly}
 use Rattle.document_report.specs.declared.error.CheckError.{CheckError}
-use Rattle.document_report.specs.declared.error.CheckError.TheVariants.{Usage, Read, TooLong, Json, Float, NoObject, Write, Memory}
 
 -- a call that gives a fault of one kind also gives a fault of a wider kind
 pub mapped : (P Q : CheckError → Type 0) → ((fault : CheckError) → P fault → Q fault) → (e : CheckError) → GivesFault P e → GivesFault Q e
-mapped P Q f Usage h = f _ h
-mapped P Q f Read h = h
-mapped P Q f TooLong h = f _ h
-mapped P Q f Json h = f _ h
-mapped P Q f Float h = f _ h
-mapped P Q f (NoObject place) h = f _ h
-mapped P Q f Write h = h
-mapped P Q f Memory h = tt
+mapped P Q f e h = faults.mapped (check_origin e) (f e) h
 
 -- `?` passes on the error of the call
 pub handed_on : {X E : Type 0} (r : Result X E) (e : E) (p : (f : E) × (r ≡ Err f) × (f ≡ e)) → r ≡ Err e

@@ -23,7 +23,7 @@ use Rattle.document_report.proofs.CheckFaults.{mapped}
 use Rattle.plural_documents.specs.Inputs.{GivesInput, IsInput, IsRead, IsReadAfter, IsReadToEnd, input_origin, most_bytes, json_of}
 use Rattle.plural_documents.specs.declared.InputError.{InputError}
 use Rattle.plural_documents.specs.declared.InputError.TheVariants as cause
-use Rattle.plural_documents.proofs.InputLemmas.{all_is_some, beyond, some_input, within}
+use Rattle.plural_documents.proofs.InputLemmas.{all_is_some, beyond, some_input, within, without_reading}
 
 -- ---- The bytes of a document aren't too long
 
@@ -122,19 +122,6 @@ with_words text_of has_words input some = rw some refl
 
 -- ---- The answer of a call that may read
 
--- what a call without reading gives, a call with reading may give
-pub without_reading : (IsAnswer : Result Answer CheckError → Type 0) (r : Result CodeAnswer CheckError)
-    → Gives answer_view IsAnswer r → GivesAfterReading IsAnswer r
-without_reading IsAnswer (Ok answer) h = h
-without_reading IsAnswer (Err Usage) h = h
-without_reading IsAnswer (Err Read) h = tt
-without_reading IsAnswer (Err TooLong) h = h
-without_reading IsAnswer (Err Json) h = h
-without_reading IsAnswer (Err Float) h = h
-without_reading IsAnswer (Err (NoObject at)) h = h
-without_reading IsAnswer (Err Write) h = h
-without_reading IsAnswer (Err Memory) h = tt
-
 -- if the input is too long or can't be read, that fault is the answer
 of_input : (text_of : Report → List ℕ) (left : Option (List ℕ)) (e : InputError) → GivesInput left (Err e)
     → (bytes : List ℕ) × IsInput left bytes × GivesAfterReading (AnswersDocument text_of (value_in bytes)) (Err (check_input_fault e))
@@ -172,7 +159,7 @@ of_all text_of whole bytes short same r h =
     let all = subst (λ (read : List ℕ). Gives answer_view (AnswersDocument text_of (document_of_bytes read)) r) same h in
     subst (λ (value : Result Data CheckError). GivesAfterReading (AnswersDocument text_of value) r)
     (sym (within TooLong document_of_bytes whole short))
-    (without_reading (AnswersDocument text_of (document_of_bytes whole)) r all)
+    (without_reading check_origin answer_view (AnswersDocument text_of (document_of_bytes whole)) r all)
 
 -- if no answer says that the input is too long, it was read to its end
 pub to_the_end : (IsAnswer : Result Answer CheckError → Type 0) (old new : Option (List ℕ)) → (IsAnswer (Err TooLong) → ⊥)
@@ -211,16 +198,3 @@ of_fault IsAnswer known Memory h = kept known
 pub not_written : (IsAnswer : Result Answer CheckError → Type 0) (known : Option (List ℕ)) (e : CheckError) (r : Result Verdict CheckError)
     → r ≡ Err e → GivesAfterReading IsAnswer (Err e) → IsCheckAnswered IsAnswer known known r
 not_written IsAnswer known e r is h = rw is (of_fault IsAnswer known e h)
-
--- a call that gives an answer of one kind also gives an answer of a wider kind
-pub implied : (P Q : Result Answer CheckError → Type 0) → ((answer : Result Answer CheckError) → P answer → Q answer)
-    → (r : Result CodeAnswer CheckError) → GivesAfterReading P r → GivesAfterReading Q r
-implied P Q f (Ok answer) h = f _ h
-implied P Q f (Err Usage) h = f _ h
-implied P Q f (Err Read) h = tt
-implied P Q f (Err TooLong) h = f _ h
-implied P Q f (Err Json) h = f _ h
-implied P Q f (Err Float) h = f _ h
-implied P Q f (Err (NoObject at)) h = f _ h
-implied P Q f (Err Write) h = h
-implied P Q f (Err Memory) h = tt

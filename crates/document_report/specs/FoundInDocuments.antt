@@ -5,9 +5,10 @@
 --     together a b      both, in this order
 --     HasGrownBy Is old new      something of this kind was added
 --     IsFoundInMembers Is members found      what is found in each member
-use Rattle.std.specs.Prelude.{◌≡◌, ℕ, ◌+◌, ◌-◌, nat_lt, List, [], ◌∷◌, ◌++◌, if◌then◌else◌}
-use Rattle.serde_json.specs.Data.{Data, Members, no_members, member}
+use Rattle.std.specs.Prelude.{ℕ, ◌+◌, ◌-◌, nat_lt, List, [], ◌∷◌, ◌++◌, if◌then◌else◌}
+use Rattle.serde_json.specs.Data.{Data, Members}
 use Rattle.plural_documents.specs.FirstLines.{most_told}
+use Rattle.plural_documents.specs.FoundMembers as members
 use Rattle.document_report.specs.DocumentFindings.{Finding}
 use Rattle.document_report.specs.DocumentPlaces.{FindingPlace}
 use Rattle.document_report.specs.declared.cause.Cause.{Cause}
@@ -63,10 +64,8 @@ together a b = record {
 
 -- what was found has grown by something of this kind
 abbrev pub HasGrownBy : (Found → Type 0) → Found → Found → Type 0
-HasGrownBy Is old new = (more : Found) × Is more × (new ≡ together old more)
+HasGrownBy = members.HasGrownBy together
 
 -- what is found in each member, together, in the order of the keys' bytes
 abbrev pub IsFoundInMembers : (List ℕ → Data → Found → Type 0) → Members → Found → Type 0
-IsFoundInMembers Is no_members found = found ≡ nothing_found
-IsFoundInMembers Is (member key value members) found =
-    (first rest : Found) × Is key value first × IsFoundInMembers Is members rest × (found ≡ together first rest)
+IsFoundInMembers = members.IsFoundInMembers nothing_found together

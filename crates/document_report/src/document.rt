@@ -14,8 +14,8 @@ ghost use Rattle.plural_documents.specs.Inputs.{json_of};
 
 use crate::error::CheckError;
 use crate::form::check_document;
-use crate::found::{Found, MemberCheck, add_members};
-use plural_documents::{JsonTextError, json_value};
+use crate::found::Found;
+use plural_documents::{JsonTextError, MemberCheck, add_members, json_value};
 use plural_fallback::Part;
 use serde_json::{Map, Value};
 use std::alloc::{AllocError, Global};
@@ -56,7 +56,7 @@ pub(crate) fn value_at<'a>(document: &'a Value, part: Part, locale: &str) -> Opt
 }
 
 // Adds what is found in each member, if there are any.
-pub(crate) fn add_members_of<'a, C: MemberCheck<'a>>(
+pub(crate) fn add_members_of<'a, C: MemberCheck<'a, Found<'a>>>(
     alloc: Global,
     check: &C,
     members: Option<&'a Map<String, Value>>,

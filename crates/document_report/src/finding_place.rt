@@ -1,12 +1,13 @@
 //! The places in a document where something is wrong.
 
 ghost use Rattle.std.specs.Prelude.{◌≡◌, ◌++◌, codes, IfOk, string_bytes};
+ghost use Rattle.std.specs.Bool.{OnTrue};
 ghost use Rattle.document_report.specs.DocumentPlaces.{finding_place_text, finding_place_view, locale_place_text, locale_place_view, named};
 ghost use Rattle.plural_documents.specs.PrintedKeys.{name_text};
 
 use crate::languages::name_of;
 use icu_plurals::PluralCategory;
-use plural_documents::name_text;
+use plural_documents::{PrintedPlace, name_text};
 use plural_fallback::Part;
 use std::alloc::{AllocError, Global};
 
@@ -53,6 +54,33 @@ impl FindingPlace<'_> {
             FindingPlace::Key(locale, key) => key_text(alloc, locale, key),
         }
     }
+}
+
+impl<'a> PrintedPlace for FindingPlace<'a> {
+    ghost use Rattle.document_report.specs.DocumentPlaces.{finding_place_text, finding_place_view};
+
+    ghost text_of = { λ place. finding_place_text (finding_place_view place) };
+
+    fn text(&self, alloc: Global) -> Result<String, AllocError> {
+        FindingPlace::text(self, alloc)
+    }
+
+    // Of other places than a category's text most have one finding.
+    fn is_same(&self, other: &FindingPlace<'a>) -> bool {
+        match (*self, *other) {
+            (FindingPlace::Text(first, category), FindingPlace::Text(second, other)) => {
+                category == other && is_same_locale(first, second)
+            }
+            _ => false,
+        }
+    }
+}
+
+// Returns whether both are one locale of a part.
+fn is_same_locale(first: LocalePlace<'_>, second: LocalePlace<'_>) -> bool
+    ensures { OnTrue result (locale_place_view first.entry ≡ locale_place_view second.entry) }
+{
+    first.part == second.part && first.locale == second.locale
 }
 
 // Returns what is printed for the parent of a locale.

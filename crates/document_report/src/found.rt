@@ -1,19 +1,15 @@
 //! What is found in a document, one finding after the other.
 
-ghost use Rattle.std.specs.Prelude.{◌≡◌, ◌∷◌, [], ℕ, List, OnOk, map};
+ghost use Rattle.std.specs.Prelude.{◌≡◌, ◌∷◌, [], OnOk, map};
 ghost use Rattle.document_report.specs.DocumentFindings.{finding_view};
 ghost use Rattle.document_report.specs.DocumentPlaces.{finding_place_view};
 ghost use Rattle.document_report.specs.FoundInDocuments.{cases_alone, checked_alone, fault_at, faults_alone, finding_at, findings_alone};
-ghost use Rattle.document_report.specs.FoundInDocuments.{nothing_found, rest_of, together, HasGrownBy, IsFoundInMembers};
-ghost use Rattle.document_report.specs.FoundInDocuments as seen;
-ghost use Rattle.serde_json.specs.Data.{Data};
-ghost use Rattle.serde_json.specs.View.{members_view, view};
+ghost use Rattle.document_report.specs.FoundInDocuments.{rest_of, together};
 
 use crate::cause::Cause;
 use crate::finding::Finding;
 use crate::finding_place::FindingPlace;
-use plural_documents::{MOST_TOLD, sum};
-use serde_json::{Map, Value};
+use plural_documents::{Findings, MOST_TOLD, sum};
 use std::alloc::{AllocError, Global};
 use std::marker::Model;
 
@@ -42,11 +38,15 @@ impl<'a> Model for Found<'a> {
     } };
 }
 
-impl<'a> Found<'a> {
-    // Returns no findings, with counts of 0. It allocates nothing.
-    pub(crate) fn new(alloc: Global) -> Found<'a>
-        ensures { result ≡ nothing_found }
-    {
+impl<'a> Findings for Found<'a> {
+    ghost use Rattle.document_report.specs.Inner.DocumentSums.{together-nothing, together_assoc};
+    ghost use Rattle.document_report.specs.FoundInDocuments as seen;
+
+    ghost nothing = { seen.nothing_found };
+
+    ghost together = { seen.together };
+
+    fn nothing(alloc: Global) -> Found<'a> {
         Found {
             findings: Vec::new(alloc),
             faults: 0,
@@ -55,6 +55,12 @@ impl<'a> Found<'a> {
         }
     }
 
+    ghost ends = { together-nothing };
+
+    ghost joins = { together_assoc };
+}
+
+impl<'a> Found<'a> {
     // Returns the findings, in their order.
     pub(crate) fn findings(&self) -> &[Finding<'a>]
         ensures { map finding_view result.now ≡ self.now.findings }
@@ -143,36 +149,4 @@ impl<'a> Found<'a> {
         self.cases = sum(self.cases, cases)?;
         Ok(())
     }
-}
-
-// A check of the members of an object.
-pub(crate) trait MemberCheck<'a> {
-    // What is found in a member.
-    ghost finds: { Self → List ℕ → Data → seen.Found → Type 0 };
-
-    // Adds what is found in a member.
-    fn add(
-        &self,
-        alloc: Global,
-        key: &'a str,
-        value: &'a Value,
-        found: &mut Found<'a>,
-    ) -> Result<(), AllocError>
-        ensures { OnOk result (HasGrownBy (finds self.now key.now (view value.now)) found.old found.new) };
-}
-
-// Adds what is found in each member, in the order of the keys' bytes.
-pub(crate) fn add_members<'a, C: MemberCheck<'a>>(
-    alloc: Global,
-    check: &C,
-    members: &'a Map<String, Value>,
-    found: &mut Found<'a>,
-) -> Result<(), AllocError>
-    ensures { OnOk result (HasGrownBy (IsFoundInMembers (C.finds check.now) (members_view members.now.entries))
-        found.old found.new) }
-{
-    for (key, value) in members.iter() {
-        check.add(alloc, key.as_str(), value, found)?;
-    }
-    Ok(())
 }

@@ -11,9 +11,10 @@ ghost use Rattle.serde_json.specs.View.{members_view};
 use crate::cause::Cause;
 use crate::document::add_members_of;
 use crate::finding_place::{FindingPlace, LocalePlace};
-use crate::found::{Found, MemberCheck};
+use crate::found::Found;
 use crate::names::{has_underscore, is_long_name};
 use icu_plurals::PluralCategory;
+use plural_documents::MemberCheck;
 use serde_json::{Map, Value};
 use std::alloc::{AllocError, Global};
 
@@ -64,7 +65,7 @@ struct CategoryCheck<'a> {
     place: LocalePlace<'a>,
 }
 
-impl<'a> MemberCheck<'a> for CategoryCheck<'a> {
+impl<'a> MemberCheck<'a, Found<'a>> for CategoryCheck<'a> {
     ghost finds = { λ check. IsFoundInKey (locale_place_view check.place) };
 
     fn add(
@@ -85,7 +86,7 @@ impl<'a> MemberCheck<'a> for CategoryCheck<'a> {
 #[derive(Clone, Copy)]
 pub(crate) struct PartCheck;
 
-impl<'a> MemberCheck<'a> for PartCheck {
+impl<'a> MemberCheck<'a, Found<'a>> for PartCheck {
     ghost finds = { λ check. IsFoundInPartKey };
 
     fn add(

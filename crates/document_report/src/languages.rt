@@ -15,12 +15,12 @@ ghost use Rattle.serde_json.specs.View.{view};
 use crate::cause::Cause;
 use crate::fault_copy::fault_copy;
 use crate::finding_place::{FindingPlace, LocalePlace};
-use crate::found::{Found, MemberCheck};
+use crate::found::Found;
 use crate::keys::{add_categories, add_key};
 use icu_plurals::PluralCategory;
 use icu_plurals::provider::RawPluralCategory;
 use plural_checker::{Fault, LanguageTexts, check_texts};
-use plural_documents::{MOST_TOLD, sum};
+use plural_documents::{MOST_TOLD, MemberCheck, sum};
 use plural_fallback::Part;
 use serde_json::Value;
 use std::alloc::{AllocError, Global};
@@ -41,7 +41,7 @@ pub(crate) struct LanguageCheck {
     pub(crate) part: Part,
 }
 
-impl<'a> MemberCheck<'a> for LanguageCheck {
+impl<'a> MemberCheck<'a, Found<'a>> for LanguageCheck {
     ghost finds = { λ check. IsFoundInRules check.part };
 
     fn add(

@@ -15,14 +15,15 @@ use crate::cause::Cause;
 use crate::counts::Counts;
 use crate::document::{add_members_of, members_of};
 use crate::finding::Finding;
+use crate::finding_lines::FindingLines;
 use crate::finding_place::FindingPlace;
 use crate::found::Found;
-use crate::kept_place::KeptPlace;
 use crate::keys::PartCheck;
 use crate::languages::LanguageCheck;
 use crate::locales::locale_count;
 use crate::parents::add_parents;
 use crate::tables::TableCheck;
+use plural_documents::{Findings, KeptPlace, push_lines};
 use plural_fallback::Part;
 use serde_json::Value;
 use std::alloc::{AllocError, Global};
@@ -87,7 +88,7 @@ fn add_count(locales: u64, found: &mut Found<'_>) -> Result<(), AllocError>
 fn found_in<'a>(alloc: Global, document: &'a Value) -> Result<Found<'a>, AllocError>
     ensures { IfOk result (λ found. IsFoundInDocument (view document.now) found) }
 {
-    let mut found = Found::new(alloc);
+    let mut found = Found::nothing(alloc);
     add_members_of(alloc, &PartCheck, document.as_object(), &mut found)?;
     add_rules(alloc, document, Part::Cardinal, &mut found)?;
     add_rules(alloc, document, Part::Ordinal, &mut found)?;
@@ -158,7 +159,10 @@ impl<'a> Report<'a> {
         ensures { IfOk result (λ text. string_bytes text ≡ report_text self.now) }
     {
         let mut text = String::new(alloc);
-        push_lines(alloc, &mut text, self.findings())?;
+        let mut lines = FindingLines {
+            place: KeptPlace::new(alloc),
+        };
+        push_lines(alloc, &mut lines, self.findings(), &mut text)?;
         text.push_str(self.last_line(alloc)?.as_str())?;
         Ok(text)
     }
@@ -176,21 +180,6 @@ impl<'a> Report<'a> {
             found.faults(),
         )
     }
-}
-
-// Appends the line of each finding.
-fn push_lines<'a>(
-    alloc: Global,
-    text: &mut String,
-    findings: &[Finding<'a>],
-) -> Result<(), AllocError>
-    ensures { OnOk result (string_bytes text.new ≡ string_bytes text.old ++ flat_map printed_finding (map finding_view findings.now)) }
-{
-    let mut kept = KeptPlace::of(alloc, FindingPlace::Document)?;
-    for finding in findings {
-        kept.push_line(alloc, text, finding)?;
-    }
-    Ok(())
 }
 
 // Returns the line with these counts.

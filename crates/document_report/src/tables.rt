@@ -13,10 +13,11 @@ use crate::document::{add_members_of, value_at};
 use crate::entry::entry_fault;
 use crate::finding_place::{FindingPlace, LocalePlace};
 use crate::form::table_in;
-use crate::found::{Found, MemberCheck};
+use crate::found::Found;
 use crate::keys::add_key;
 use crate::languages::texts_of;
 use plural_checker::LanguageTexts;
+use plural_documents::MemberCheck;
 use plural_fallback::Part;
 use serde_json::{Map, Value};
 use std::alloc::{AllocError, Global};
@@ -27,7 +28,7 @@ pub(crate) struct TableCheck<'a> {
     pub(crate) document: &'a Value,
 }
 
-impl<'a> MemberCheck<'a> for TableCheck<'a> {
+impl<'a> MemberCheck<'a, Found<'a>> for TableCheck<'a> {
     ghost finds = { λ check. IsFoundInRanges (view check.document.now) };
 
     fn add(
@@ -85,7 +86,7 @@ struct EntryCheck<'a> {
     place: LocalePlace<'a>,
 }
 
-impl<'a> MemberCheck<'a> for EntryCheck<'a> {
+impl<'a> MemberCheck<'a, Found<'a>> for EntryCheck<'a> {
     ghost finds = { λ check. IsFoundInEntry (six_texts check.texts) (locale_place_view check.place) };
 
     fn add(

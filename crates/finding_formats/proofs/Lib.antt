@@ -1,7 +1,8 @@
 mod EscapedChars
-mod NoFloats
-mod PlainData
-mod LineLemmas
+mod LoopSteps
+pub mod NoFloats
+pub mod PlainData
+pub mod LineLemmas
 mod ReadFindings
 mod ObjectLemmas
 -- with lines

@@ -1,7 +1,11 @@
--- Lines tell the values on them.
-use Rattle.std.proofs.Common.{◌≡◌, ℕ, List, [], ◌∷◌, ◌++◌, refl, sym, ◌∙◌, append_assoc}
+-- Lines tell the values on them, one for each and maybe a last one.
+use Rattle.std.proofs.Common.{◌≡◌, ℕ, List, [], ◌∷◌, ◌++◌, refl, sym, ap, ◌∙◌, append_assoc}
+use Rattle.std.specs.Prelude.{map}
 use Rattle.std.specs.List.{All, flat_map}
+use Rattle.std.proofs.lemmas.Grind.{flat_map-append}
+use Rattle.std.proofs.lemmas.List.{append-nil}
 use Rattle.std.proofs.lemmas.List.Elements.{All-head, All-tail}
+use Rattle.std.proofs.lemmas.List.Folds.{flat_map-map}
 use Rattle.serde_json.specs.Data.{Data}
 use Rattle.serde_json.specs.Written.{compact_text}
 use Rattle.finding_formats.specs.JsonLines.{json_line}
@@ -40,3 +44,23 @@ lines_tell (d ∷ ds) (e ∷ es) h k same =
     let first : d ≡ e = text_tells d e good fine cut.0 in
     let rest : ds ≡ es = lines_tell ds es (All-tail IsLineValue d ds h) (All-tail IsLineValue e es k) cut.1 in
     cc
+
+-- ---- Lines of objects
+
+-- a line for each object, and one more
+pub objects_then : {X : Type 0} (object : X → Data) (xs : List X) (last : Data) (empty lines text : List ℕ)
+    → empty ≡ [] → lines ≡ empty ++ flat_map (λ x. json_line (object x)) xs → text ≡ lines ++ json_line last
+    → text ≡ flat_map json_line (map object xs) ++ json_line last
+objects_then object xs last empty lines text none each ended =
+    ended
+    ∙ ap (λ bytes. bytes ++ json_line last)
+    (each ∙ ap (λ bytes. bytes ++ flat_map (λ x. json_line (object x)) xs) none ∙ sym (flat_map-map json_line object xs))
+
+-- the same as the lines of one list
+pub objects_and_last : {X : Type 0} (object : X → Data) (xs : List X) (last : Data) (empty lines text : List ℕ)
+    → empty ≡ [] → lines ≡ empty ++ flat_map (λ x. json_line (object x)) xs → text ≡ lines ++ json_line last
+    → text ≡ flat_map json_line (map object xs ++ last ∷ [])
+objects_and_last object xs last empty lines text none each ended =
+    objects_then object xs last empty lines text none each ended
+    ∙ sym (flat_map-append json_line (map object xs) (last ∷ [])
+    ∙ ap (λ bytes. flat_map json_line (map object xs) ++ bytes) (append-nil (json_line last)))

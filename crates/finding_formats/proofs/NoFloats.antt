@@ -1,6 +1,6 @@
--- No object of a finding has a float, and neither has a log.
-use Rattle.std.proofs.Common.{◌≡◌, ℕ, ap, Bool, false, refl, List, [], ◌∷◌, Option, Some, None, ◌∙◌}
-use Rattle.std.specs.Prelude.{map, ◌||◌}
+-- No object of a finding has a float, and no result; nor has a list of such values.
+use Rattle.std.proofs.Common.{◌≡◌, ℕ, ap, Bool, true, false, refl, List, [], ◌∷◌, ◌++◌, Option, Some, None, ◌∙◌}
+use Rattle.std.specs.Prelude.{◌||◌}
 use Rattle.serde_json.specs.Data.{Data, object}
 use Rattle.serde_json.specs.View.{items_of}
 use Rattle.serde_json.specs.Written.{has_float, items_have_float}
@@ -17,9 +17,8 @@ use Rattle.message_report.specs.declared.fault.FormFault.{FormFault}
 use Rattle.message_report.specs.declared.fault.FormFault.TheVariants as form
 use Rattle.finding_formats.specs.FindingObjects.{cause_data, finding_data, finding_members, place_data}
 use Rattle.finding_formats.specs.LocatedFindings.{Located, Notice, Told, told_finding, told_notice, located_words}
-use Rattle.finding_formats.specs.LocatedLog.{located_result, told_result}
+use Rattle.finding_formats.specs.LocatedLog.{told_result}
 use Rattle.finding_formats.specs.LocatedObjects.{located_data, notice_members, told_members, with_line, with_placeholder}
-use Rattle.finding_formats.specs.SarifLog.{log_data, result_data}
 
 place_without : (place : Place) → has_float (place_data place) ≡ false
 place_without (at_document file) = refl
@@ -82,17 +81,6 @@ object_without f =
 pub finding_without : (f : Finding) → has_float (finding_data f) ≡ false
 finding_without f = object_without f
 
--- whether one of a list has a float
-abbrev pub list_has_float : List Data → Bool
-list_has_float ds = items_have_float (items_of ds)
-
-pub results_without : (fs : List Finding) → list_has_float (map result_data fs) ≡ false
-results_without [] = refl
-results_without (f ∷ fs) = results_without fs
-
-pub log_without : (results : List Data) → list_has_float results ≡ false → has_float (log_data results) ≡ false
-log_without results h = rw h refl
-
 -- ---- With lines
 
 finding_told_without : (line : Option ℕ) (placeholder : Option (List ℕ)) (f : Finding) (words : List ℕ)
@@ -117,12 +105,24 @@ told_without line placeholder (told_notice n) words = notice_told_without line p
 pub located_without : (l : Located) → has_float (located_data l) ≡ false
 located_without l = told_without l.line l.placeholder l.told (located_words l)
 
-result_without : (line : Option ℕ) (t : Told) (words : List ℕ) → has_float (told_result line t words) ≡ false
+pub result_without : (line : Option ℕ) (t : Told) (words : List ℕ) → has_float (told_result line t words) ≡ false
 result_without None (told_finding f) words = refl
 result_without None (told_notice n) words = refl
 result_without (Some line) (told_finding f) words = refl
 result_without (Some line) (told_notice n) words = refl
 
-pub told_results_without : (ls : List Located) → list_has_float (map located_result ls) ≡ false
-told_results_without [] = refl
-told_results_without (l ∷ ls) = rw (result_without l.line l.told (located_words l)) (told_results_without ls)
+-- ---- Lists
+
+-- whether one of a list has a float
+abbrev pub list_has_float : List Data → Bool
+list_has_float ds = items_have_float (items_of ds)
+
+neither : (a b c : Bool) → (b ≡ false → c ≡ false) → (a || b) ≡ false → (a || c) ≡ false
+neither true b c f h = h
+neither false b c f h = f h
+
+-- one more without a float
+pub one_more_without : (ds : List Data) (d : Data) → list_has_float ds ≡ false → has_float d ≡ false → list_has_float (ds ++ d ∷ []) ≡ false
+one_more_without [] d h k = rw k refl
+one_more_without (e ∷ ds) d h k =
+    neither (has_float e) (list_has_float ds) (list_has_float (ds ++ d ∷ [])) (λ rest. one_more_without ds d rest k) h

@@ -2,6 +2,7 @@ pub mod FindingCodes
 pub mod FindingObjects
 pub mod JsonLines
 pub mod FileReferences
+pub mod Logs
 pub mod SarifLog
 pub mod LineMarks
 pub mod WorkflowCommands

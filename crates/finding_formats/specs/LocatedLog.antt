@@ -3,7 +3,8 @@ use Rattle.std.specs.Prelude.{ℕ, List, codes, map, Option}
 use Rattle.serde_json.specs.Data.{Data, string, object, no_members, member}
 use Rattle.finding_formats.specs.FindingCodes.{level_name}
 use Rattle.finding_formats.specs.LocatedFindings.{Located, Notice, Told, told_finding, told_notice, located_words}
-use Rattle.finding_formats.specs.SarifLog.{finding_result, log_text, message_data, one_item, only, physical_data}
+use Rattle.finding_formats.specs.Logs.{message_data, one_item, only, physical_data}
+use Rattle.finding_formats.specs.SarifLog.{finding_result, forms_log}
 
 -- a notice has no place by name, and its code is none of the rules
 abbrev pub notice_result : Option ℕ → Notice → List ℕ → Data
@@ -20,4 +21,4 @@ abbrev pub located_result : Located → Data
 located_result l = told_result l.line l.told (located_words l)
 
 abbrev pub located_log : List Located → List ℕ
-located_log ls = log_text (map located_result ls)
+located_log ls = forms_log (map located_result ls)

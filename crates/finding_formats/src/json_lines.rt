@@ -1,15 +1,16 @@
 //! Lines of JSON.
 
-ghost use Rattle.std.specs.Prelude.{◌≡◌, ◌++◌, false, IfOk, OnOk, map, string_bytes};
-ghost use Rattle.std.specs.List.{flat_map};
+ghost use Rattle.std.specs.Prelude.{◌≡◌, ◌++◌, false, IfOk, OnOk, string_bytes};
 ghost use Rattle.finding_formats.specs.FindingObjects.{finding_data};
 ghost use Rattle.finding_formats.specs.JsonLines.{json_line, json_lines};
 ghost use Rattle.message_report.specs.MessageFindings.{finding_view};
+ghost use Rattle.message_report.specs.MessageFindings as listed;
 ghost use Rattle.serde_json.specs.View.{view};
 ghost use Rattle.serde_json.specs.Written.{has_float};
 
 use crate::finding_object::{counts_value, finding_value};
 use message_report::{Finding, Found};
+use plural_documents::{LinePrinter, push_lines};
 use serde_json::Value;
 use std::alloc::{AllocError, Global};
 
@@ -18,37 +19,36 @@ pub(crate) fn json_lines(alloc: Global, found: &Found<'_>) -> Result<String, All
     ensures { IfOk result (λ text. string_bytes text ≡ json_lines found.now) }
 {
     let mut text = String::new(alloc);
-    push_findings(alloc, &mut text, found.findings())?;
+    push_lines(alloc, &mut FindingObjects, found.findings(), &mut text)?;
     let counts = counts_value(alloc, found.counts())?;
-    push_line(alloc, &mut text, &counts)?;
+    push_value(alloc, &mut text, &counts)?;
     Ok(text)
 }
 
-// Appends the line of each finding.
-fn push_findings(
-    alloc: Global,
-    text: &mut String,
-    findings: &[Finding<'_>],
-) -> Result<(), AllocError>
-    ensures { OnOk result (string_bytes text.new
-        ≡ string_bytes text.old ++ flat_map json_line (map finding_data (map finding_view findings.now))) }
-{
-    for finding in findings {
-        push_finding(alloc, text, finding)?;
+// The objects of findings.
+#[derive(Drop)]
+struct FindingObjects;
+
+impl<'a> LinePrinter<Finding<'a>> for FindingObjects {
+    ghost Seen = { listed.Finding };
+
+    ghost seen = { finding_view };
+
+    ghost line_of = { λ objects f. json_line (finding_data f) };
+
+    fn push(
+        &mut self,
+        alloc: Global,
+        finding: &Finding<'a>,
+        text: &mut String,
+    ) -> Result<(), AllocError> {
+        let value = finding_value(alloc, finding)?;
+        push_value(alloc, text, &value)
     }
-    Ok(())
 }
 
-// Appends the line of a finding.
-fn push_finding(alloc: Global, text: &mut String, finding: &Finding<'_>) -> Result<(), AllocError>
-    ensures { OnOk result (string_bytes text.new ≡ string_bytes text.old ++ json_line (finding_data (finding_view finding.now))) }
-{
-    let value = finding_value(alloc, finding)?;
-    push_line(alloc, text, &value)
-}
-
-// Appends a value without floats, and a newline.
-pub(crate) fn push_line(alloc: Global, text: &mut String, value: &Value) -> Result<(), AllocError>
+/// Appends a value without floats, and a newline. It allocates; the only error is out of memory.
+pub fn push_value(alloc: Global, text: &mut String, value: &Value) -> Result<(), AllocError>
     requires { has_float (view value.now) ≡ false }
     ensures { OnOk result (string_bytes text.new ≡ string_bytes text.old ++ json_line (view value.now)) }
 {

@@ -16,6 +16,7 @@ mod located_log;
 mod located_object;
 mod located_report;
 mod located_words;
+pub mod log;
 mod members;
 mod notice;
 mod place_object;
@@ -30,6 +31,7 @@ mod workflow;
 
 pub use code::Code;
 pub use format::Format;
+pub use json_lines::push_value;
 pub use located::Located;
 pub use notice::Notice;
 pub use printed::print;

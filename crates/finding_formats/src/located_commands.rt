@@ -1,14 +1,15 @@
 //! What is told, as commands of a workflow of GitHub Actions.
 
-ghost use Rattle.std.specs.Prelude.{◌≡◌, ◌++◌, IfOk, OnOk, map, string_bytes};
-ghost use Rattle.std.specs.List.{flat_map};
+ghost use Rattle.std.specs.Prelude.{◌≡◌, IfOk, map, string_bytes};
 ghost use Rattle.finding_formats.specs.LocatedCommands.{located_command, located_commands};
 ghost use Rattle.finding_formats.specs.LocatedFindings.{located_view};
+ghost use Rattle.finding_formats.specs.LocatedFindings as listed;
 
 use crate::command::command_text;
 use crate::located::Located;
 use crate::located_words::located_words;
 use crate::workflow::{Slot, slot_text};
+use plural_documents::{LinePrinter, push_lines};
 use std::alloc::{AllocError, Global};
 
 // Returns a command for each.
@@ -16,30 +17,30 @@ pub(crate) fn located_commands(alloc: Global, located: &[Located<'_>]) -> Result
     ensures { IfOk result (λ text. string_bytes text ≡ located_commands (map located_view located.now)) }
 {
     let mut text = String::new(alloc);
-    push_commands(alloc, &mut text, located)?;
+    push_lines(alloc, &mut LocatedCommands, located, &mut text)?;
     Ok(text)
 }
 
-// Appends the command of each.
-fn push_commands(
-    alloc: Global,
-    text: &mut String,
-    located: &[Located<'_>],
-) -> Result<(), AllocError>
-    ensures { OnOk result (string_bytes text.new ≡ string_bytes text.old ++ flat_map located_command (map located_view located.now)) }
-{
-    for one in located {
-        push_command(alloc, text, one)?;
-    }
-    Ok(())
-}
+// The commands of what is told.
+#[derive(Drop)]
+struct LocatedCommands;
 
-// Appends the command of one.
-fn push_command(alloc: Global, text: &mut String, one: &Located<'_>) -> Result<(), AllocError>
-    ensures { OnOk result (string_bytes text.new ≡ string_bytes text.old ++ located_command (located_view one.now)) }
-{
-    let command = located_command(alloc, one)?;
-    text.push_str(command.as_str())
+impl<'a> LinePrinter<Located<'a>> for LocatedCommands {
+    ghost Seen = { listed.Located };
+
+    ghost seen = { located_view };
+
+    ghost line_of = { λ commands. located_command };
+
+    fn push(
+        &mut self,
+        alloc: Global,
+        one: &Located<'a>,
+        text: &mut String,
+    ) -> Result<(), AllocError> {
+        let command = located_command(alloc, one)?;
+        text.push_str(command.as_str())
+    }
 }
 
 // Returns the command of one, with a newline.

@@ -1,14 +1,16 @@
 //! What is told, as a log of SARIF.
 
-ghost use Rattle.std.specs.Prelude.{◌≡◌, ◌∷◌, [], ◌++◌, IfOk, OnOk, map, string_bytes};
+ghost use Rattle.std.specs.Prelude.{◌≡◌, IfOk, map, string_bytes};
 ghost use Rattle.finding_formats.specs.LocatedFindings.{located_view, notice_view, told_view};
+ghost use Rattle.finding_formats.specs.LocatedFindings as listed;
 ghost use Rattle.finding_formats.specs.LocatedLog.{located_log, located_result, notice_result, told_result};
 ghost use Rattle.serde_json.specs.View.{view};
 
 use crate::located::Located;
 use crate::located_words::located_words;
+use crate::log::{ValueMaker, physical_value, values_of};
 use crate::notice::Notice;
-use crate::sarif::{finding_result, log_text, physical_value};
+use crate::sarif::{finding_result, forms_log};
 use crate::severity::level;
 use crate::told::Told;
 use serde_json::{Value, json};
@@ -18,35 +20,25 @@ use std::alloc::{AllocError, Global};
 pub(crate) fn located_log(alloc: Global, located: &[Located<'_>]) -> Result<String, AllocError>
     ensures { IfOk result (λ text. string_bytes text ≡ located_log (map located_view located.now)) }
 {
-    let results = located_results(alloc, located)?;
-    log_text(alloc, results)
+    let results = values_of(alloc, &LocatedResults, located)?;
+    forms_log(alloc, results)
 }
 
-// Returns the result of each.
-fn located_results(alloc: Global, located: &[Located<'_>]) -> Result<Vec<Value>, AllocError>
-    ensures { IfOk result (λ results. map view results.items ≡ map located_result (map located_view located.now)) }
-{
-    let mut results = Vec::new(alloc);
-    for one in located {
-        push_result(alloc, &mut results, one)?;
+// The results of what is told.
+#[derive(Drop)]
+struct LocatedResults;
+
+impl<'a> ValueMaker<Located<'a>> for LocatedResults {
+    ghost Seen = { listed.Located };
+
+    ghost seen = { located_view };
+
+    ghost data_of = { λ results. located_result };
+
+    fn value(&self, alloc: Global, one: &Located<'a>) -> Result<Value, AllocError> {
+        let words = located_words(alloc, one)?;
+        told_result(alloc, &one.told, one.known_line(), words.as_str())
     }
-    Ok(results)
-}
-
-// Adds the result of one.
-fn push_result(alloc: Global, results: &mut Vec<Value>, one: &Located<'_>) -> Result<(), AllocError>
-    ensures { OnOk result (map view results.new.items ≡ map view results.old.items ++ (located_result (located_view one.now) ∷ [])) }
-{
-    results.push(located_result(alloc, one)?)?;
-    Ok(())
-}
-
-// Returns the result of one.
-fn located_result(alloc: Global, one: &Located<'_>) -> Result<Value, AllocError>
-    ensures { IfOk result (λ value. view value ≡ located_result (located_view one.now)) }
-{
-    let words = located_words(alloc, one)?;
-    told_result(alloc, &one.told, one.known_line(), words.as_str())
 }
 
 // Returns the result of what is told, given its line, if it is known, and its words.

@@ -1,14 +1,15 @@
 //! The report of what is told, as text.
 
-ghost use Rattle.std.specs.Prelude.{◌≡◌, ◌++◌, codes, IfOk, OnOk, map, string_bytes};
-ghost use Rattle.std.specs.List.{flat_map};
+ghost use Rattle.std.specs.Prelude.{◌≡◌, ◌++◌, codes, IfOk, map, string_bytes};
 ghost use Rattle.finding_formats.specs.LocatedFindings.{located_view};
+ghost use Rattle.finding_formats.specs.LocatedFindings as listed;
 ghost use Rattle.finding_formats.specs.LocatedReport.{located_report, report_line, totals_line};
 
 use crate::line_mark::line_mark;
 use crate::located::Located;
 use crate::located_words::located_words;
 use crate::totals::Totals;
+use plural_documents::{LinePrinter, push_lines};
 use std::alloc::{AllocError, Global};
 
 // Returns a line for each, and one with the totals.
@@ -20,27 +21,31 @@ pub(crate) fn located_report(
     ensures { IfOk result (λ text. string_bytes text ≡ located_report (map located_view located.now) totals) }
 {
     let mut text = String::new(alloc);
-    push_lines(alloc, &mut text, located)?;
+    push_lines(alloc, &mut ReportLines, located, &mut text)?;
     text.push_str(totals_line(alloc, totals)?.as_str())?;
     Ok(text)
 }
 
-// Appends the line of each.
-fn push_lines(alloc: Global, text: &mut String, located: &[Located<'_>]) -> Result<(), AllocError>
-    ensures { OnOk result (string_bytes text.new ≡ string_bytes text.old ++ flat_map report_line (map located_view located.now)) }
-{
-    for one in located {
-        push_line(alloc, text, one)?;
-    }
-    Ok(())
-}
+// The lines of what is told.
+#[derive(Drop)]
+struct ReportLines;
 
-// Appends the line of one.
-fn push_line(alloc: Global, text: &mut String, one: &Located<'_>) -> Result<(), AllocError>
-    ensures { OnOk result (string_bytes text.new ≡ string_bytes text.old ++ report_line (located_view one.now)) }
-{
-    let line = report_line(alloc, one)?;
-    text.push_str(line.as_str())
+impl<'a> LinePrinter<Located<'a>> for ReportLines {
+    ghost Seen = { listed.Located };
+
+    ghost seen = { located_view };
+
+    ghost line_of = { λ lines. report_line };
+
+    fn push(
+        &mut self,
+        alloc: Global,
+        one: &Located<'a>,
+        text: &mut String,
+    ) -> Result<(), AllocError> {
+        let line = report_line(alloc, one)?;
+        text.push_str(line.as_str())
+    }
 }
 
 // Returns the line of one, with a newline.

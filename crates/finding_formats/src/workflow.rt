@@ -1,16 +1,18 @@
 //! Commands of a workflow of GitHub Actions.
 
-ghost use Rattle.std.specs.Prelude.{◌≡◌, ◌++◌, codes, IfOk, OnOk, map, string_bytes};
+ghost use Rattle.std.specs.Prelude.{◌≡◌, ◌++◌, IfOk, OnOk, string_bytes};
 ghost use Rattle.std.specs.Char.{encode_utf8};
 ghost use Rattle.std.specs.List.{flat_map};
 ghost use Rattle.finding_formats.specs.WorkflowCommands.{command_line, ends_message, needs_escape, slot_byte, slot_text, workflow_text};
 ghost use Rattle.message_report.specs.MessageFindings.{finding_view};
+ghost use Rattle.message_report.specs.MessageFindings as listed;
 
 use crate::code::Code;
 use crate::command::command_text;
 use crate::finding_object::finding_text;
 use message_report::{Finding, Found};
 use percent_encoding::percent_encode_byte;
+use plural_documents::{LinePrinter, push_lines};
 use std::alloc::{AllocError, Global};
 
 // Where a text stands in a command.
@@ -27,30 +29,30 @@ pub(crate) fn workflow_text(alloc: Global, found: &Found<'_>) -> Result<String, 
     ensures { IfOk result (λ text. string_bytes text ≡ workflow_text found.now) }
 {
     let mut text = String::new(alloc);
-    push_commands(alloc, &mut text, found.findings())?;
+    push_lines(alloc, &mut FindingCommands, found.findings(), &mut text)?;
     Ok(text)
 }
 
-// Appends the command of each finding.
-fn push_commands(
-    alloc: Global,
-    text: &mut String,
-    findings: &[Finding<'_>],
-) -> Result<(), AllocError>
-    ensures { OnOk result (string_bytes text.new ≡ string_bytes text.old ++ flat_map command_line (map finding_view findings.now)) }
-{
-    for finding in findings {
-        push_command(alloc, text, finding)?;
-    }
-    Ok(())
-}
+// The commands of findings.
+#[derive(Drop)]
+struct FindingCommands;
 
-// Appends the command of a finding.
-fn push_command(alloc: Global, text: &mut String, finding: &Finding<'_>) -> Result<(), AllocError>
-    ensures { OnOk result (string_bytes text.new ≡ string_bytes text.old ++ command_line (finding_view finding.now)) }
-{
-    let command = command_line(alloc, finding)?;
-    text.push_str(command.as_str())
+impl<'a> LinePrinter<Finding<'a>> for FindingCommands {
+    ghost Seen = { listed.Finding };
+
+    ghost seen = { finding_view };
+
+    ghost line_of = { λ commands. command_line };
+
+    fn push(
+        &mut self,
+        alloc: Global,
+        finding: &Finding<'a>,
+        text: &mut String,
+    ) -> Result<(), AllocError> {
+        let command = command_line(alloc, finding)?;
+        text.push_str(command.as_str())
+    }
 }
 
 // Returns the command of a finding, with a newline.

@@ -101,7 +101,7 @@ no_lines part locale input before old Memory given = inl (Keeps-refl before, Kee
 
 -- the answers by the rules of a document by which the language is known
 pub lines_answered : (part : Part) (locale input : List ℕ) (document : Data) (before left old new : Option (List ℕ)) (r : Result Verdict FormsError)
-    → IsDocumentIn input document → IsKnown document part locale → AnswersLines document part locale before left old new r
+    → IsDocumentIn input document → IsKnown document part locale → AnswersLines (IsFoundFor document part locale) before left old new r
     → IsAnsweredLines part locale input before left old new r
 unfolding IsAnsweredLines IsStreamed
 lines_answered part locale input document before left old new (Ok verdict) given known (inl by) =

@@ -1,6 +1,6 @@
 -- The line for gettext.
 use Rattle.std.proofs.Common.{◌≡◌, ℕ, suc, ◌+◌, ◌<◌, ◌≤◌, List, [], ◌∷◌, ◌++◌, length, drop, get_or, Bool, true, false, inl, inr, refl, sym, ap, subst, ◌∙◌, append_assoc, arith, add-one}
-use Rattle.std.specs.Prelude.{◌⊎◌, ◌||◌, MatchBool, Option, Some, None, Ok, codes, is_some, slice_get, if◌then◌else◌}
+use Rattle.std.specs.Prelude.{◌⊎◌, ◌||◌, MatchBool, Option, Some, None, Result, Ok, Err, codes, is_some, slice_get, if◌then◌else◌}
 use Rattle.std.specs.Fmt.{decimal}
 use Rattle.std.proofs.Math.Seq.{drop-cons}
 use Rattle.std.proofs.lemmas.Bool.{true≢false}
@@ -14,10 +14,11 @@ use Rattle.icu_plurals.specs.declared.PluralCategory.TheVariants.{Zero, One, Two
 use Rattle.icu_plurals.specs.Json.{Stands}
 use Rattle.icu_plurals.specs.RulesJson.{rules_of_json}
 use Rattle.plural_checker.specs.WholeNumbers.{IsLeastFrom}
+use Rattle.plural_fallback.specs.declared.error.FallbackError.{FallbackError}
 use Rattle.plural_fallback.specs.declared.locales.Part.{Part}
 use Rattle.serde_json.specs.Data.{Data}
 use Rattle.serde_json.specs.View.{view}
-use Rattle.form_commands.specs.Languages.{IsFoundFor}
+use Rattle.form_commands.specs.Inner.RulesOutline.{IsFoundUnder}
 use Rattle.form_commands.specs.declared.language.Language.{Language}
 use Rattle.form_commands.specs.CExpressions.{c_condition_text, choice_text, choice_value, condition_value}
 use Rattle.form_commands.specs.GettextLines.{AreFormsOf, FormsAreChosen, HasForm, SomeHas, tried_powers, condition_if, conditions_of, rule_for, whole_category}
@@ -280,10 +281,10 @@ forms_chosen rules forms n are has =
 -- ---- The rules of a language
 
 -- they are those of its value
-pub found_language : (document : Data) (part : Part) (locale : List ℕ) (language : Language) → IsFoundFor document part locale (Ok language)
-    → rules_of_json (view language.value.now) ≡ Ok language.rules
-found_language document part locale language (inl found) = found.2.2
-found_language document part locale language (inr none) = absurd (cc none.2)
+pub found_language : (document : Data) (part : Part) (locale : List ℕ) (first : Result (List ℕ) FallbackError) (language : Language)
+    → IsFoundUnder document part locale first (Ok language) → rules_of_json (view language.value.now) ≡ Ok language.rules
+found_language document part locale (Ok key) language found = found.2
+found_language document part locale (Err reason) language found = absurd (cc found)
 
 pub one_rules : (value : Stands FiveRules) (x y : FiveRules) → value ≡ Ok x → value ≡ Ok y → x ≡ y
 one_rules value x y first second = cc

@@ -31,13 +31,6 @@ use Rattle.form_commands.proofs.AnswerLemmas.{document_answered, lines_answered,
 
 -- ---- A locale
 
--- the note of the first key
-pub key_note : (document : Data) (place : List ℕ) (part : Part) (locale key : List ℕ) (r : Result (String Global) AllocError)
-    → IsKeyOf document part locale key → IfOk r (λ note. string_bytes note ≡ note_text place part locale key)
-    → IfOk r (λ note. IsKeyNote document place part locale (string_bytes note))
-key_note document place part locale key (Ok note) first is = inl (key, first, is)
-key_note document place part locale key (Err error) first is = is
-
 -- a first key that isn't `root`, or another one, is known
 pub known_key : (document : Data) (part : Part) (locale key : List ℕ) → IsKeyOf document part locale key
     → (is_unknown locale key ≡ false) ⊎ IsKnownIn document locale → IsKnown document part locale
@@ -187,7 +180,7 @@ printed_noted IsAnswer AreNotes input document old new before after result given
 
 pub lines_noted_by : (part : Part) (locale : List ℕ) (AreNotes : Data → List ℕ → Type 0) (input : List ℕ) (document : Data)
     (taken left old new before after : Option (List ℕ)) (result : Result Verdict FormsError) → IsDocumentIn input document → IsKnown document part locale
-    → NotesAfter (AnswersLines document part locale taken left old new) (AreNotes document) before after result
+    → NotesAfter (AnswersLines (IsFoundFor document part locale) taken left old new) (AreNotes document) before after result
     → IsNoted AreNotes (IsAnsweredLines part locale input taken left old new) input before after result
 unfolding AreNoted
 lines_noted_by part locale AreNotes input document taken left old new before after result given known (inl n) =

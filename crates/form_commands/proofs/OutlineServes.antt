@@ -1,7 +1,6 @@
 -- An outline of a document of rules serves as the whole does, where the chain stays inside.
-use Rattle.std.proofs.Common.{◌≡◌, ℕ, zero, suc, ◌<◌, ◌≤◌, List, [], ◌∷◌, Bool, true, false, Option, Some, None, Result, Ok, Err, inl, inr, refl, sym, ap, ◌∙◌, arith}
-use Rattle.std.specs.Prelude.{◌||◌, bytes_eq, codes, IfOk, is_some, option_and_then}
-use Rattle.std.specs.declared.alloc.AllocError.{AllocError}
+use Rattle.std.proofs.Common.{◌≡◌, ℕ, zero, suc, ◌<◌, ◌≤◌, List, [], ◌∷◌, Bool, true, false, Option, Some, None, Result, Ok, Err, refl, sym, ap, subst, ◌∙◌, arith}
+use Rattle.std.specs.Prelude.{◌||◌, bytes_eq, codes, IfOk, IfErr, is_some, option_and_then, string_bytes}
 use Rattle.plural_documents.proofs.HeldOutlines.{outline_held}
 use Rattle.plural_documents.specs.Outlines.{HeldText, IsOutlineOf, is_named, outline, part_by_names}
 use Rattle.plural_documents.specs.declared.Portion.TheVariants as kept
@@ -14,14 +13,11 @@ use Rattle.plural_fallback.specs.declared.error.FallbackError.TheVariants.{NotFo
 use Rattle.plural_fallback.specs.declared.locales.Part.{Part}
 use Rattle.serde_json.specs.Data.{Data}
 use Rattle.serde_json.specs.View.{view}
-use Rattle.serde_json.specs.declared.Value.{Value}
-use Rattle.form_commands.specs.Inner.RulesOutline.{HoldsPart, IsServedBy, Serves, StaysInside, is_inside, keeps}
-use Rattle.form_commands.specs.KeyNotes.{IsKeyNote}
-use Rattle.form_commands.specs.Languages.{HasNoKey, IsFoundAt, IsFoundFor, IsKeyOf, key_after, most_locales, value_at}
-use Rattle.form_commands.specs.declared.error.LanguageError.{LanguageError}
-use Rattle.form_commands.specs.declared.language.Language.{Language}
+use Rattle.form_commands.specs.Inner.RulesOutline.{HoldsPart, IsFirst, IsFirstInside, IsServedBy, ServesAt, StaysInside, is_inside, keeps, key_by}
+use Rattle.form_commands.specs.Languages.{HasNoKey, IsKeyOf, key_after, most_locales}
 use Rattle.form_commands.specs.declared.outline.KeptLocales.{KeptLocales}
 use Rattle.form_commands.specs.declared.outline.KeptLocales.TheVariants.{All}
+use Rattle.form_commands.specs.declared.outline.KeptRules.{KeptRules}
 use Rattle.form_commands.specs.declared.outline.RulesSieve.TheVariants.{Document}
 use Rattle.form_commands.proofs.OutlineFound.{key_inside, same_key, same_next, same_value}
 
@@ -103,26 +99,9 @@ module _ (part : Part) (locale : List ℕ) (locales : KeptLocales) (whole docume
           key_inside locales (keys_under (part_name part) document) current found (inside first.0 current first.1 first.3 here)
           (sym (ap (option_and_then (key_of (keys_under (part_name part) document))) here) ∙ first.2)
 
-  found_at : (found : List ℕ) (answer : Result Language LanguageError) → value_at document part found ≡ value_at whole part found
-      → IsFoundAt document part found answer → IsFoundAt whole part found answer
-  found_at found (Ok language) alike at = (at.0, sym alike ∙ at.1, at.2)
-  found_at found (Err error) alike at = (at.0, rw (← alike) at.1, at.2)
-
-  found_for : (answer : Result Language LanguageError) → IsFoundFor document part locale answer → IsFoundFor whole part locale answer
-  found_for answer (inl found) =
-      inl (
-        found.0,
-        first_key found.0 found.1,
-        found_at found.0 answer (same_value part locales whole document is found.0 (key_is_inside found.0 found.1)) found.2,
-      )
-  found_for answer (inr none) = inr (none.0, no_key none.0 none.1, none.2)
-
-  noted : (place note : List ℕ) → IsKeyNote document place part locale note → IsKeyNote whole place part locale note
-  noted place note (inl found) = inl (found.0, first_key found.0 found.1, found.2)
-  noted place note (inr none) = inr (none.0, no_key none.0 none.1, none.2)
-
-  pub outline_serves : Serves part locale document whole
-  outline_serves = (found_for, noted, first_key, no_key)
+  pub outline_serves : (first : Result (List ℕ) FallbackError) → IsFirst document part locale first → ServesAt part locale document whole first
+  outline_serves (Ok key) first = (first_key key first, same_value part locales whole document is key (key_is_inside key first))
+  outline_serves (Err reason) none = no_key reason none
 
 -- where all locales are kept, every chain stays
 pub all_stay : (document : Data) (part : Part) (locale : List ℕ) → StaysInside All document part locale
@@ -141,15 +120,21 @@ no_other : (part : Part) (locales : KeptLocales) (key : List ℕ) → is_named (
 no_other part locales key other = rw (with_none (bytes_eq key (part_name part)) (bytes_eq key (codes "parents")) other) refl
 
 -- so what is kept of a part serves
-pub outline_is_served : (part : Part) (locale : List ℕ) (text : HeldText) (locales : KeptLocales) (value : Value) → HoldsPart part text
-    → IsOutlineOf keeps (Document part locales) text (view value) → StaysInside locales (view value) part locale
-    → IsServedBy part locale text.bytes (view value)
-outline_is_served part locale text locales value names (held, (whole, reads, is_held), kept) stays =
+pub part_serves : (part : Part) (locale : List ℕ) (text : HeldText) (locales : KeptLocales) (kept : KeptRules) (first : Result (List ℕ) FallbackError)
+    → HoldsPart part text → IsOutlineOf keeps (Document part locales) text (view kept.document) → key_by string_bytes kept.key ≡ first
+    → IsFirstInside locales (view kept.document) part locale first → IsServedBy part locale text.bytes kept
+part_serves part locale text locales kept first names (held, (whole, reads, is_held), outlined) key (stays, is_first) =
     let same = outline_held keeps (Document part locales) (part_name part ∷ codes "parents" ∷ []) (no_other part locales) whole held
-    (ap (λ given. part_by_names given whole) (sym names) ∙ is_held) in
-    (whole, reads, outline_serves part locale locales whole (view value) (same ∙ kept) stays)
+    (ap (λ given. part_by_names given whole) (sym names) ∙ is_held) in (
+      whole,
+      reads,
+      subst (ServesAt part locale (view kept.document) whole) (sym key)
+          (outline_serves part locale locales whole (view kept.document) (same ∙ outlined) stays first is_first),
+    )
 
-pub all_served : (part : Part) (locale : List ℕ) (text : HeldText) (r : Result Value AllocError) → HoldsPart part text
-    → IfOk r (λ value. IsOutlineOf keeps (Document part All) text (view value)) → IfOk r (λ value. IsServedBy part locale text.bytes (view value))
-all_served part locale text (Ok value) names kept = outline_is_served part locale text All value names kept (all_stay (view value) part locale)
-all_served part locale text (Err error) names kept = kept
+-- the first key, as it is found
+pub first_found : {K : Type 0} (text : K → List ℕ) (document : Data) (part : Part) (locale : List ℕ) (r : Result K FallbackError)
+    → IfOk r (λ key. IsKeyOf document part locale (text key)) → IfErr r (HasNoKey document part locale)
+    → IsFirst document part locale (key_by text r)
+first_found text document part locale (Ok key) first none = first
+first_found text document part locale (Err reason) first none = none

@@ -1,5 +1,5 @@
 -- Whether a chain stays inside of its language, step by step.
-use Rattle.std.proofs.Common.{◌≡◌, ℕ, zero, suc, ◌+◌, ◌-◌, ◌<◌, ◌≤◌, List, Bool, true, false, Option, Some, None, below_more, refl, sym, ap, subst, ◌∙◌, arith}
+use Rattle.std.proofs.Common.{◌≡◌, ℕ, zero, suc, ◌+◌, ◌-◌, ◌<◌, ◌≤◌, List, Bool, true, false, Option, Some, None, Ok, Err, below_more, refl, sym, ap, subst, ◌∙◌, arith}
 use Rattle.std.proofs.Math.Nat.{add-suc, add-zero}
 use Rattle.std.proofs.lemmas.Grind.{common_steps}
 use Rattle.std.specs.Prelude.{nat_lt, option_and_then, unwrap_or}
@@ -7,9 +7,10 @@ use Rattle.plural_fallback.specs.Chain.{next_of}
 use Rattle.plural_fallback.specs.FirstKeys.{NoneBefore, locale_at}
 use Rattle.plural_fallback.specs.LocaleNames.{key_of}
 use Rattle.plural_fallback.specs.LocalesJson.{keys_under, parent_in, part_name}
+use Rattle.plural_fallback.specs.declared.error.FallbackError.TheVariants.{NotFound}
 use Rattle.plural_fallback.specs.declared.locales.Part.{Part}
 use Rattle.serde_json.specs.Data.{Data}
-use Rattle.form_commands.specs.Inner.RulesOutline.{IsInsideAt, StaysInside, is_inside}
+use Rattle.form_commands.specs.Inner.RulesOutline.{IsFirstInside, IsInsideAt, StaysInside, is_inside}
 use Rattle.form_commands.specs.Languages.{key_after}
 use Rattle.form_commands.specs.declared.outline.KeptLocales.{KeptLocales}
 
@@ -62,10 +63,9 @@ module _ (locales : KeptLocales) (document : Data) (part : Part) (locale : List 
       inside_next inside,
     )
 
-    -- a key is found
-    pub finds : (found : List ℕ) → is_inside locales current ≡ true → key_of (keys_under (part_name part) document) current ≡ Some found
+    stays_to_key : (found : List ℕ) → is_inside locales current ≡ true → key_of (keys_under (part_name part) document) current ≡ Some found
         → StaysInside locales document part locale
-    finds found inside is m within other none here = by (nat_lt m (n + 1)) refl
+    stays_to_key found inside is m within other none here = by (nat_lt m (n + 1)) refl
       where
         by : (b : Bool) → nat_lt m (n + 1) ≡ b → is_inside locales other ≡ true
         by true lower = inside_next inside m (grind (arith, common_steps, lower)) other none here
@@ -73,9 +73,13 @@ module _ (locales : KeptLocales) (document : Data) (part : Part) (locale : List 
             let after : n < m = grind (arith, common_steps, higher) in
             let never : Some found ≡ None = sym (key_here ∙ is) ∙ none n after in absurd (cc)
 
-    -- or the chain ends
-    pub ends : is_inside locales current ≡ true → next_of (parent_in document) current ≡ None → StaysInside locales document part locale
-    ends inside is m within other none here = by (nat_lt m (n + 1)) refl
+    -- a key is found
+    pub finds : (found : List ℕ) → n < 16 → is_inside locales current ≡ true
+        → key_of (keys_under (part_name part) document) current ≡ Some found → IsFirstInside locales document part locale (Ok found)
+    finds found below inside is = (stays_to_key found inside is, (n, omega arith, key_here ∙ is, now.1))
+
+    stays_to_end : is_inside locales current ≡ true → next_of (parent_in document) current ≡ None → StaysInside locales document part locale
+    stays_to_end inside is m within other none here = by (nat_lt m (n + 1)) refl
       where
         by : (b : Bool) → nat_lt m (n + 1) ≡ b → is_inside locales other ≡ true
         by true lower = inside_next inside m (grind (arith, common_steps, lower)) other none here
@@ -84,3 +88,11 @@ module _ (locales : KeptLocales) (document : Data) (part : Part) (locale : List 
             let whole : (n + 1) + (m - (n + 1)) ≡ m = omega arith in
             let over : at m ≡ None = rw whole at (none_after (n + 1) (m - (n + 1)) (next_at n current now.0 ∙ is)) in
             let never : Some other ≡ None = sym here ∙ over in absurd (cc)
+
+    -- or the chain ends
+    pub ends : n < 16 → is_inside locales current ≡ true → key_of (keys_under (part_name part) document) current ≡ None
+        → next_of (parent_in document) current ≡ None → IsFirstInside locales document part locale (Err NotFound)
+    ends below inside none is = (
+      stays_to_end inside is,
+      (n + 1, omega arith, next_at n current now.0 ∙ is, below_more (λ m. key m ≡ None) n now.1 (key_here ∙ none)),
+    )

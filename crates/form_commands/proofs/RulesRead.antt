@@ -17,6 +17,7 @@ use Rattle.form_commands.specs.declared.error.FormsError.{FormsError}
 use Rattle.form_commands.specs.declared.error.FormsError.TheVariants.{Rules, TooLong, Json, Refused, Language, Numbers, Write, Memory}
 use Rattle.form_commands.specs.declared.error.LanguageError.{LanguageError}
 use Rattle.form_commands.specs.declared.error.Verdict.{Verdict}
+use Rattle.form_commands.specs.declared.outline.KeptRules.{KeptRules}
 
 -- what was read at an error of the input was read at its fault
 read_at : (old new : Option (List ℕ)) (error : InputError) → IsReadAfter (input_origin error) old new
@@ -47,7 +48,7 @@ pub value_read : (left rest : Option (List ℕ)) (bytes : List ℕ) (r : Result 
 value_read left rest bytes r end given =
     read_to_end left rest r end (λ is. subst (GivesJsonValue bytes) is given)
 
-pub rules_read : (part : Part) (locale : List ℕ) (left rest : Option (List ℕ)) (bytes : List ℕ) (r : Result Value FormsError)
+pub rules_read : (part : Part) (locale : List ℕ) (left rest : Option (List ℕ)) (bytes : List ℕ) (r : Result KeptRules FormsError)
     → IsReadToEnd left rest → GivesRulesIn part locale bytes r → IsRead forms_origin left rest r
 rules_read part locale left rest bytes r end given =
     read_to_end left rest r end (λ is. not_too_long (subst (GivesRulesIn part locale bytes) is given))

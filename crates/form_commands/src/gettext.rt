@@ -5,7 +5,7 @@ ghost use Rattle.std.specs.Fmt.{decimal};
 ghost use Rattle.std.specs.Option.{option_copied};
 ghost use Rattle.icu_plurals.specs.FiveRules.{FiveRules, categories_of, rules_of};
 ghost use Rattle.icu_plurals.specs.RulesJson.{rules_of_json};
-ghost use Rattle.plural_checker.specs.WholeNumbers.{HasWhole};
+ghost use Rattle.plural_checker.specs.WholeNumbers.{HasWhole, IsLeastFrom};
 ghost use Rattle.form_commands.specs.CExpressions.{c_condition_text, choice_text};
 ghost use Rattle.form_commands.specs.GettextLines.{AreFormsOf, HasForm, IsGettextLine, SomeHas, condition_if, conditions_of, line_text, rule_for, tried_powers};
 ghost use Rattle.serde_json.specs.View.{view};
@@ -14,7 +14,7 @@ use crate::c_condition::condition_text;
 use icu_plurals::provider::PluralRulesData;
 use icu_plurals::provider::rules::runtime::ast::Rule;
 use icu_plurals::{PluralCategory, PluralOperands, PluralRules};
-use plural_checker::least_from;
+use plural_checker::least_of_each;
 use serde_json::Value;
 use std::alloc::{AllocError, Global};
 
@@ -51,33 +51,37 @@ fn forms_of(alloc: Global, rules: &PluralRules<'_>) -> Result<Vec<PluralCategory
     ensures { IfOk result (λ forms. AreFormsOf rules.now (categories_of rules.now) forms.items) }
 {
     let mut forms = Vec::new(alloc);
+    let least = least_of_each(rules, 0);
     let mut categories = rules.categories();
     while let Some(category) = categories.next() {
-        push_form(rules, category, &mut forms)?;
+        push_form(rules, category, least.at(category).first, &mut forms)?;
     }
     Ok(forms)
 }
 
-// Appends a category, if it has a form.
+// Appends a category, if it has a form, given its least whole number.
 fn push_form(
     rules: &PluralRules<'_>,
     category: PluralCategory,
+    least: Option<u16>,
     forms: &mut Vec<PluralCategory>,
 ) -> Result<(), AllocError>
+    requires { IsLeastFrom rules.now category 0 least }
     ensures { OnOk result ((HasForm rules.now category × (forms.new.items ≡ forms.old.items ++ category ∷ []))
         ⊎ (¬ (HasForm rules.now category) × (forms.new.items ≡ forms.old.items))) }
 {
-    if has_form(rules, category) {
+    if has_form(rules, category, least) {
         forms.push(category)?;
     }
     Ok(())
 }
 
-// Returns whether a category has a form.
-fn has_form(rules: &PluralRules<'_>, category: PluralCategory) -> bool
+// Returns whether a category has a form, given its least whole number.
+fn has_form(rules: &PluralRules<'_>, category: PluralCategory, least: Option<u16>) -> bool
+    requires { IsLeastFrom rules.now category 0 least }
     ensures { MatchBool result (HasForm rules.now category) (¬ (HasForm rules.now category)) }
 {
-    if least_from(rules, category, 0).is_some() {
+    if least.is_some() {
         return true;
     }
     has_power(rules, category)

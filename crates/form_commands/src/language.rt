@@ -1,14 +1,16 @@
 //! The rules that a document has for a locale.
 
 ghost use Rattle.std.specs.Prelude.{◌≡◌, Err, IfOk, option_map};
-ghost use Rattle.form_commands.specs.Languages.{IsFoundAt, IsFoundFor, value_at};
+ghost use Rattle.form_commands.specs.Inner.RulesOutline.{IsFoundBy};
+ghost use Rattle.form_commands.specs.Languages.{IsFoundAt, value_at};
 ghost use Rattle.serde_json.specs.View.{view};
 
 use crate::error::LanguageError;
 use crate::name::Name;
+use crate::outline::KeptRules;
 use icu_plurals::provider::PluralRulesData;
 use icu_plurals::{JsonError, PluralRules};
-use plural_fallback::{Part, find_first};
+use plural_fallback::Part;
 use serde_json::Value;
 use std::alloc::{AllocError, Global};
 
@@ -20,20 +22,20 @@ pub(crate) struct Language<'a> {
     pub(crate) rules: PluralRules<'static>,
 }
 
-// Returns the rules of the first key of a locale's chain, or why there are none.
+// Returns the rules that are kept for a locale, or why there are none.
 pub(crate) fn language_of<'a>(
     alloc: Global,
-    document: &'a Value,
+    kept: &'a KeptRules,
     part: Part,
     locale: &str,
 ) -> Result<Result<Language<'a>, LanguageError>, AllocError>
-    ensures { IfOk result (λ answer. IsFoundFor (view document.now) part locale.now answer) }
+    ensures { IfOk result (IsFoundBy kept.now part locale.now) }
 {
-    match find_first(document, part, locale) {
-        Ok(key) => at_key(alloc, document, part, key),
+    match &kept.key {
+        Ok(key) => at_key(alloc, &kept.document, part, key.as_str()),
         Err(reason) => {
             let locale = Name::from_str(alloc, locale)?;
-            Ok(Err(LanguageError::NotFound(part, locale, reason)))
+            Ok(Err(LanguageError::NotFound(part, locale, *reason)))
         }
     }
 }

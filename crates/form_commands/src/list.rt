@@ -6,7 +6,8 @@ ghost use Rattle.icu_plurals.specs.Categories.{name_of};
 ghost use Rattle.icu_plurals.specs.FiveRules.{categories_of};
 ghost use Rattle.icu_plurals.specs.RulesJson.{text_under};
 ghost use Rattle.icu_plurals.specs.Serializer.{prefixed, samples_text};
-ghost use Rattle.form_commands.specs.FormLines.{AreForms, IsForm, IsFormList, IsSamplesOf, IsSamplesText, IsWholesText, alone_text, header_line, is_alone, wholes_text};
+ghost use Rattle.plural_checker.specs.WholeNumbers.{AreTwoLeast};
+ghost use Rattle.form_commands.specs.FormLines.{AreForms, IsForm, IsFormList, IsSamplesOf, IsSamplesText, alone_text, header_line, is_alone, wholes_text};
 ghost use Rattle.form_commands.specs.Inner.PrintedSteps.{Grows};
 ghost use Rattle.serde_json.specs.View.{view};
 
@@ -16,7 +17,7 @@ use icu_plurals::provider::RawPluralCategory;
 use icu_plurals::provider::rules::reference::ast::Samples;
 use icu_plurals::provider::rules::reference::{ReadError, parse, serialize_samples};
 use icu_plurals::{PluralCategory, PluralRules};
-use plural_checker::two_least;
+use plural_checker::{TwoNumbers, two_least_of_each};
 use plural_fallback::Part;
 use serde_json::Value;
 use std::alloc::{AllocError, Global};
@@ -73,42 +74,32 @@ fn is_alone(rules: &PluralRules<'_>) -> bool
 fn push_forms(alloc: Global, language: &Language<'_>, text: &mut String) -> Result<(), AllocError>
     ensures { OnOk result (Grows (AreForms language.now (categories_of language.now.rules)) (string_bytes text.old) (string_bytes text.new)) }
 {
+    let least = two_least_of_each(&language.rules, 0);
     let mut categories = language.rules.categories();
     while let Some(category) = categories.next() {
-        push_form(alloc, language, category, text)?;
+        push_form(alloc, language, category, least.at(category), text)?;
     }
     Ok(())
 }
 
-// Appends the line of a form.
+// Appends the line of a form, given its two least whole numbers.
 fn push_form(
     alloc: Global,
     language: &Language<'_>,
     category: PluralCategory,
+    two: TwoNumbers,
     text: &mut String,
 ) -> Result<(), AllocError>
+    requires { AreTwoLeast language.now.rules category two.first two.second }
     ensures { OnOk result (Grows (IsForm language.now category) (string_bytes text.old) (string_bytes text.new)) }
 {
     text.push_str(name_of(category))?;
     text.push_str(": ")?;
-    push_wholes(alloc, &language.rules, category, text)?;
+    let wholes = wholes_text(alloc, two.first, two.second)?;
+    text.push_str(wholes.as_str())?;
     push_samples_of(alloc, text_under(language.value, category), text)?;
     text.push_str("\n")?;
     Ok(())
-}
-
-// Appends which whole numbers have a category.
-fn push_wholes(
-    alloc: Global,
-    rules: &PluralRules<'_>,
-    category: PluralCategory,
-    text: &mut String,
-) -> Result<(), AllocError>
-    ensures { OnOk result (Grows (IsWholesText rules.now category) (string_bytes text.old) (string_bytes text.new)) }
-{
-    let (first, second) = two_least(rules, category);
-    let wholes = wholes_text(alloc, first, second)?;
-    text.push_str(wholes.as_str())
 }
 
 // Returns which of two whole numbers there are.

@@ -1,14 +1,15 @@
 //! The notes of the keys under which rules are found.
 
-ghost use Rattle.std.specs.Prelude.{◌≡◌, ◌≢◌, ◌++◌, [], IfErr, IfOk, OnOk, codes, option_map, string_bytes};
+ghost use Rattle.std.specs.Prelude.{◌≡◌, ◌≢◌, ◌++◌, IfErr, IfOk, OnOk, codes, option_map, string_bytes};
 ghost use Rattle.std.specs.Option.{option_and_then};
-ghost use Rattle.form_commands.specs.Inner.NoteSteps.{Notes};
+ghost use Rattle.form_commands.specs.Inner.NoteSteps.{IsKeptNote, Notes};
 ghost use Rattle.form_commands.specs.Inner.PrintedSteps.{Grows};
-ghost use Rattle.form_commands.specs.KeyNotes.{AreFileNotes, AreLocaleNotes, AreMemberNotes, IsFileNote, IsKeyNote, IsNote, IsNoteIf, has_some, is_asked, note_text};
+ghost use Rattle.form_commands.specs.KeyNotes.{AreFileNotes, AreLocaleNotes, AreMemberNotes, IsFileNote, IsNote, IsNoteIf, has_some, is_asked, note_text};
 ghost use Rattle.serde_json.specs.Find.{as_object, get};
 ghost use Rattle.serde_json.specs.View.{members_view, view};
 
 use crate::error::{FormsError, Verdict};
+use crate::outline::KeptRules;
 use crate::unknown_language::is_unknown_by;
 use message_report::MessageFile;
 use plural_documents::write_output;
@@ -17,17 +18,17 @@ use serde_json::{Map, Value};
 use std::alloc::{AllocError, Global};
 use std::io::Write;
 
-// Returns the note of the first key of a locale.
+// Returns the note of the key of the rules that are kept for a locale.
 pub(crate) fn note_of(
     alloc: Global,
-    document: &Value,
+    kept: &KeptRules,
     part: Part,
     locale: &str,
 ) -> Result<String, AllocError>
-    ensures { IfOk result (λ note. IsKeyNote (view document.now) [] part locale.now (string_bytes note)) }
+    ensures { IfOk result (λ note. IsKeptNote kept.now part locale.now (string_bytes note)) }
 {
-    match find_first(document, part, locale) {
-        Ok(key) => note_text(alloc, "", part, locale, key),
+    match &kept.key {
+        Ok(key) => note_text(alloc, "", part, locale, key.as_str()),
         Err(_) => Ok(String::new(alloc)),
     }
 }

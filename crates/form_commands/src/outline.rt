@@ -1,17 +1,16 @@
 //! The outline of a document of rules: what is kept of it serves one locale as the whole does.
 
-ghost use Rattle.std.specs.Prelude.{◌≡◌, ◌≤◌, IfOk, IfSome, IsTrue, codes, take, length};
-ghost use Rattle.form_commands.specs.Inner.RulesOutline.{HoldsPart, IsServedBy, GivesRulesOutline, StaysInside, is_among, is_inside, is_part, steps_view};
+ghost use Rattle.std.specs.Prelude.{◌≡◌, ◌≤◌, IfOk, IfSome, codes, take, length, string_bytes};
+ghost use Rattle.form_commands.specs.Inner.RulesOutline.{HoldsPart, IsFirstInside, IsServedBy, GivesKeptRules, is_among, is_inside, is_part, key_by, steps_view};
 ghost use Rattle.plural_fallback.specs.LocaleNames.{is_same};
 ghost use Rattle.serde_json.specs.View.{view};
 
 use plural_documents::{JsonTextError, JsonTokens, Portion, Scratch, Sieve};
-use plural_fallback::{Locales, Part, is_same, next_locale};
+use plural_fallback::{
+    FallbackError, Locales, MOST_LOOKED_UP, Part, find_first, is_same, next_locale,
+};
 use serde_json::Value;
 use std::alloc::{AllocError, Global};
-
-// The most bytes of a locale of a chain that is walked in an outline: one that is looked up.
-const MOST_WALKED: usize = 64;
 
 // The most locales of a chain that are walked in an outline: more than those of a language with a
 // script, a region and five keywords.
@@ -120,84 +119,121 @@ fn is_among(locale: &[u8], steps: &[&[u8]]) -> bool
     false
 }
 
-// Returns what is kept of a document for a locale, which serves as the whole does: the keys of the
-// locales that it begins with, or of its chain, or all of its part, if the locale is long, or its
-// chain has many locales. The text is read once. The errors are those of the whole.
-pub(crate) fn rules_outline(
+// What is kept of a document for a locale: the first key of the locale's chain, or why there is
+// none, and a value with what stands under the key.
+#[derive(Drop)]
+pub(crate) struct KeptRules {
+    pub(crate) key: Result<String, FallbackError>,
+    pub(crate) document: Value,
+}
+
+// Returns what is kept of a document for a locale: of an outline with the keys of the locales that
+// it begins with, or of its chain, or all of its part, if the locale is long, or its chain has many
+// locales. The text is read once. The errors are those of the whole.
+pub(crate) fn kept_rules(
     alloc: Global,
     part: Part,
     locale: &str,
     bytes: &[u8],
-) -> Result<Value, JsonTextError>
-    ensures { GivesRulesOutline part locale.now bytes.now result }
+) -> Result<KeptRules, JsonTextError>
+    ensures { GivesKeptRules part locale.now bytes.now result }
 {
     let names = [part.as_str(), "parents"];
     let mut scratch = Scratch::new(alloc);
     let text = JsonTokens::read_members(alloc, &names, bytes, &mut scratch)?;
-    match serving_outline(alloc, part, locale, &text) {
-        Ok(outline) => Ok(outline),
+    match rules_in_text(alloc, part, locale, &text) {
+        Ok(kept) => Ok(kept),
         Err(_) => Err(JsonTextError::Memory),
     }
 }
 
 // Returns the same of a text that was read, of which the part and the parents are held.
-fn serving_outline(
+fn rules_in_text(
     alloc: Global,
     part: Part,
     locale: &str,
     text: &JsonTokens<'_>,
-) -> Result<Value, AllocError>
+) -> Result<KeptRules, AllocError>
     requires { HoldsPart part text.now }
-    ensures { IfOk result (λ document. IsServedBy part locale.now text.now.bytes (view document)) }
+    ensures { IfOk result (IsServedBy part locale.now text.now.bytes) }
 {
     let fronts = KeptLocales::Fronts(locale.as_bytes());
-    if let Some(outline) = outline_inside(alloc, part, locale, fronts, text)? {
-        return Ok(outline);
+    if let Some(kept) = rules_inside(alloc, part, locale, fronts, text)? {
+        return Ok(kept);
     }
     let parents = text.outline(alloc, RulesSieve::Parents)?;
-    if let Some(outline) = outline_of_chain(alloc, part, locale, &parents, text)? {
-        return Ok(outline);
+    if let Some(kept) = rules_of_chain(alloc, part, locale, &parents, text)? {
+        return Ok(kept);
     }
     drop(parents);
-    text.outline(alloc, RulesSieve::Document(part, KeptLocales::All))
+    rules_of_part(alloc, part, locale, text)
 }
 
-// Returns what is kept for these locales, if the chain stays among them.
-fn outline_inside(
+// Returns what is kept of an outline with these locales, if the chain stays among them.
+fn rules_inside(
     alloc: Global,
     part: Part,
     locale: &str,
     locales: KeptLocales<'_>,
     text: &JsonTokens<'_>,
-) -> Result<Option<Value>, AllocError>
+) -> Result<Option<KeptRules>, AllocError>
     requires { HoldsPart part text.now }
-    ensures { IfOk result (λ found. IfSome found (λ document. IsServedBy part locale.now text.now.bytes (view document))) }
+    ensures { IfOk result (λ found. IfSome found (IsServedBy part locale.now text.now.bytes)) }
 {
-    let outline = text.outline(alloc, RulesSieve::Document(part, locales))?;
-    if stays_inside(&outline, part, locale, locales) {
-        Ok(Some(outline))
-    } else {
-        Ok(None)
+    let document = text.outline(alloc, RulesSieve::Document(part, locales))?;
+    let Some(first) = first_inside(&document, part, locale, locales) else {
+        return Ok(None);
+    };
+    let key = owned(alloc, first)?;
+    Ok(Some(KeptRules { key, document }))
+}
+
+// Returns what is kept of an outline with all of the part.
+fn rules_of_part(
+    alloc: Global,
+    part: Part,
+    locale: &str,
+    text: &JsonTokens<'_>,
+) -> Result<KeptRules, AllocError>
+    requires { HoldsPart part text.now }
+    ensures { IfOk result (IsServedBy part locale.now text.now.bytes) }
+{
+    let document = text.outline(alloc, RulesSieve::Document(part, KeptLocales::All))?;
+    let key = owned(alloc, find_first(&document, part, locale))?;
+    Ok(KeptRules { key, document })
+}
+
+// Returns a key as a text of its own.
+fn owned(
+    alloc: Global,
+    first: Result<&str, FallbackError>,
+) -> Result<Result<String, FallbackError>, AllocError>
+    ensures { IfOk result (λ key. key_by string_bytes key ≡ key_by (λ k. k.now) first.entry) }
+{
+    match first {
+        Ok(key) => Ok(Ok(String::from_str(alloc, key)?)),
+        Err(reason) => Ok(Err(reason)),
     }
 }
 
-// Returns what is kept for the locales of the chain, unless these are many, if it stays among them.
-fn outline_of_chain<'a>(
+// Returns what is kept of an outline with the locales of the chain, unless these are many, if it
+// stays among them.
+fn rules_of_chain<'a>(
     alloc: Global,
     part: Part,
     locale: &'a str,
     parents: &'a Value,
     text: &JsonTokens<'_>,
-) -> Result<Option<Value>, AllocError>
+) -> Result<Option<KeptRules>, AllocError>
     requires { HoldsPart part text.now }
-    ensures { IfOk result (λ found. IfSome found (λ document. IsServedBy part locale.now text.now.bytes (view document))) }
+    ensures { IfOk result (λ found. IfSome found (IsServedBy part locale.now text.now.bytes)) }
 {
     let mut steps = [locale.as_bytes(); MOST_STEPS];
     let Some(count) = walk(parents, locale.as_bytes(), &mut steps) else {
         return Ok(None);
     };
     let chain = KeptLocales::These(&steps[..count]);
-    outline_inside(alloc, part, locale, chain, text)
+    rules_inside(alloc, part, locale, chain, text)
 }
 
 // Writes the locales of a chain, and returns how many, unless there are too many.
@@ -221,25 +257,30 @@ fn walk<'a>(
     None
 }
 
-// Returns whether the chain of a locale stays among these locales, up to its first key. It isn't
-// told of a chain with a long locale, nor of one with many before the first key.
-fn stays_inside(document: &Value, part: Part, locale: &str, locales: KeptLocales<'_>) -> bool
-    ensures { IsTrue result → StaysInside locales.entry (view document.now) part locale.now }
+// Returns the first key of a chain, or why there is none, if the chain stays among these locales up
+// to there. It isn't told of a chain with a long locale, nor of one with many before the first key.
+fn first_inside<'a>(
+    document: &'a Value,
+    part: Part,
+    locale: &'a str,
+    locales: KeptLocales<'_>,
+) -> Option<Result<&'a str, FallbackError>>
+    ensures { IfSome result (λ first. IsFirstInside locales.entry (view document.now) part locale.now (key_by (λ k. k.now) first)) }
 {
     let mut current = locale.as_bytes();
     let mut steps = 0;
     while steps < MOST_STEPS {
-        if current.len() > MOST_WALKED || !is_inside(locales, current) {
-            return false;
+        if current.len() > MOST_LOOKED_UP || !is_inside(locales, current) {
+            return None;
         }
-        if let Some(_) = document.find_key(part, current) {
-            return true;
+        if let Some(key) = document.find_key(part, current) {
+            return Some(Ok(key));
         }
         let Some(next) = next_locale(document, current) else {
-            return true;
+            return Some(Err(FallbackError::NotFound));
         };
         current = next;
         steps += 1;
     }
-    false
+    None
 }

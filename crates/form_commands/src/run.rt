@@ -4,12 +4,11 @@ ghost use Rattle.std.specs.Prelude.{◌≡◌, ◌≢◌, [], IfErr, IfOk, IsTru
 ghost use Rattle.form_commands.specs.FormsAnswers.{Answers, IsAnsweredLines, IsAnsweredText, IsChecked, IsCheckedAs, IsGettextAnswer, IsListAnswer, IsNumbersAnswer, forms_origin, verdict_of_counts};
 ghost use Rattle.form_commands.specs.FormsErrors.{is_of_rules};
 ghost use Rattle.form_commands.specs.Inner.FormsInputFaults.{refused_rules};
-ghost use Rattle.form_commands.specs.Inner.NoteSteps.{NotesAfter, Writes};
+ghost use Rattle.form_commands.specs.Inner.NoteSteps.{IsKeptNote, NotesAfter, Writes};
 ghost use Rattle.form_commands.specs.Inner.QuestionViews.{words_view};
-ghost use Rattle.form_commands.specs.Inner.RulesOutline.{IsServedBy};
+ghost use Rattle.form_commands.specs.Inner.RulesOutline.{IsFoundBy, IsServedBy};
 ghost use Rattle.form_commands.specs.Inner.RunSteps.{AnswersFirst, AnswersLines, Checks, GivesDocument, GivesJsonValue, GivesRules, GivesRulesIn, Reports, WritesAnswer};
-ghost use Rattle.form_commands.specs.KeyNotes.{AreFileNotes, IsKeyNote, IsNote, IsNoted};
-ghost use Rattle.form_commands.specs.Languages.{HasRootsKey};
+ghost use Rattle.form_commands.specs.KeyNotes.{AreFileNotes, IsNote, IsNoted};
 ghost use Rattle.plural_documents.specs.Inputs.{IsInput, IsRead};
 ghost use Rattle.serde_json.specs.View.{view};
 
@@ -19,7 +18,7 @@ use crate::language::language_of;
 use crate::list::list_text;
 use crate::note::{note_of, notes_of, write_notes};
 use crate::number::numbers_text;
-use crate::outline::rules_outline;
+use crate::outline::{KeptRules, kept_rules};
 use crate::printed::Printed;
 use crate::stream::answer_input;
 use crate::unknown_language::{has_roots_key, known_in};
@@ -51,7 +50,7 @@ pub fn list_forms<R: Read, W: Write>(
     ensures writes_nothing { IfErr result (λ e. e ≢ FormsError.Write → writer.new ≡ writer.old) }
 {
     match rules_of(alloc, part, locale, rules) {
-        Ok(document) => write_answer(list_of(alloc, &document, part, locale), writer),
+        Ok(kept) => write_answer(list_of(alloc, &kept, part, locale), writer),
         Err(error) => Err(error),
     }
 }
@@ -78,7 +77,7 @@ pub fn answer_numbers<R: Read, W: Write, E: Write>(
     ensures writes_nothing { IfErr result (λ e. e ≢ FormsError.Write → (writer.new ≡ writer.old) × (notes.new ≡ notes.old)) }
 {
     match rules_of(alloc, part, locale, rules) {
-        Ok(document) => numbers_by(alloc, &document, part, locale, numbers, writer, notes),
+        Ok(kept) => numbers_by(alloc, &kept, part, locale, numbers, writer, notes),
         Err(error) => Err(error),
     }
 }
@@ -86,20 +85,20 @@ pub fn answer_numbers<R: Read, W: Write, E: Write>(
 // Writes the lines of numbers by the rules of a document, and the note of the key.
 fn numbers_by<W: Write, E: Write>(
     alloc: Global,
-    document: &Value,
+    kept: &KeptRules,
     part: Part,
     locale: &str,
     numbers: &[&str],
     writer: &mut W,
     notes: &mut E,
 ) -> Result<Verdict, FormsError>
-    ensures answers { NotesAfter (Writes (AnswersFirst (IsNumbersAnswer (words_view numbers.now)) part locale.now (view document.now)) (W.contents writer.old) (W.contents writer.new))
-        (IsKeyNote (view document.now) [] part locale.now) (E.contents notes.old) (E.contents notes.new) result }
+    ensures answers { NotesAfter (Writes (AnswersFirst (IsNumbersAnswer (words_view numbers.now)) (IsFoundBy kept.now part locale.now)) (W.contents writer.old) (W.contents writer.new))
+        (IsKeptNote kept.now part locale.now) (E.contents notes.old) (E.contents notes.new) result }
     ensures writes_nothing { IfErr result (λ e. e ≢ FormsError.Write → (writer.new ≡ writer.old) × (notes.new ≡ notes.old)) }
 {
-    match note_of(alloc, document, part, locale) {
+    match note_of(alloc, kept, part, locale) {
         Ok(note) => {
-            let written = categories_of(alloc, document, part, locale, numbers);
+            let written = categories_of(alloc, kept, part, locale, numbers);
             let answer = write_answer(written, writer);
             write_notes(answer, note.as_str(), notes)
         }
@@ -132,7 +131,7 @@ pub fn answer_lines<R: Read, N: Read, W: Write, E: Write>(
     ensures notes_nothing { IfErr result (λ e. e ≢ FormsError.Write → notes.new ≡ notes.old) }
 {
     match rules_of(alloc, part, locale, rules) {
-        Ok(document) => noted_lines(alloc, &document, part, locale, numbers, writer, notes),
+        Ok(kept) => noted_lines(alloc, &kept, part, locale, numbers, writer, notes),
         Err(error) => Err(error),
     }
 }
@@ -141,21 +140,21 @@ pub fn answer_lines<R: Read, N: Read, W: Write, E: Write>(
 // key.
 fn noted_lines<N: Read, W: Write, E: Write>(
     alloc: Global,
-    document: &Value,
+    kept: &KeptRules,
     part: Part,
     locale: &str,
     numbers: &mut N,
     writer: &mut W,
     notes: &mut E,
 ) -> Result<Verdict, FormsError>
-    ensures answers { NotesAfter (AnswersLines (view document.now) part locale.now (N.remaining numbers.old) (N.remaining numbers.new) (W.contents writer.old) (W.contents writer.new))
-        (IsKeyNote (view document.now) [] part locale.now) (E.contents notes.old) (E.contents notes.new) result }
+    ensures answers { NotesAfter (AnswersLines (IsFoundBy kept.now part locale.now) (N.remaining numbers.old) (N.remaining numbers.new) (W.contents writer.old) (W.contents writer.new))
+        (IsKeptNote kept.now part locale.now) (E.contents notes.old) (E.contents notes.new) result }
     ensures touches_nothing { IfErr result (λ e. IsTrue (is_of_rules e) → (numbers.new ≡ numbers.old) × (writer.new ≡ writer.old)) }
     ensures notes_nothing { IfErr result (λ e. e ≢ FormsError.Write → notes.new ≡ notes.old) }
 {
-    match note_of(alloc, document, part, locale) {
+    match note_of(alloc, kept, part, locale) {
         Ok(note) => {
-            let answer = lines_by(alloc, document, part, locale, numbers, writer);
+            let answer = lines_by(alloc, kept, part, locale, numbers, writer);
             write_notes(answer, note.as_str(), notes)
         }
         Err(_) => Err(FormsError::Memory),
@@ -185,7 +184,7 @@ pub fn write_gettext<R: Read, W: Write, E: Write>(
     ensures writes_nothing { IfErr result (λ e. e ≢ FormsError.Write → (writer.new ≡ writer.old) × (notes.new ≡ notes.old)) }
 {
     match rules_of(alloc, part, locale, rules) {
-        Ok(document) => gettext_by(alloc, &document, part, locale, writer, notes),
+        Ok(kept) => gettext_by(alloc, &kept, part, locale, writer, notes),
         Err(error) => Err(error),
     }
 }
@@ -193,19 +192,19 @@ pub fn write_gettext<R: Read, W: Write, E: Write>(
 // Writes the line for gettext by the rules of a document, and the note of the key.
 fn gettext_by<W: Write, E: Write>(
     alloc: Global,
-    document: &Value,
+    kept: &KeptRules,
     part: Part,
     locale: &str,
     writer: &mut W,
     notes: &mut E,
 ) -> Result<Verdict, FormsError>
-    ensures answers { NotesAfter (Writes (AnswersFirst IsGettextAnswer part locale.now (view document.now)) (W.contents writer.old) (W.contents writer.new))
-        (IsKeyNote (view document.now) [] part locale.now) (E.contents notes.old) (E.contents notes.new) result }
+    ensures answers { NotesAfter (Writes (AnswersFirst IsGettextAnswer (IsFoundBy kept.now part locale.now)) (W.contents writer.old) (W.contents writer.new))
+        (IsKeptNote kept.now part locale.now) (E.contents notes.old) (E.contents notes.new) result }
     ensures writes_nothing { IfErr result (λ e. e ≢ FormsError.Write → (writer.new ≡ writer.old) × (notes.new ≡ notes.old)) }
 {
-    match note_of(alloc, document, part, locale) {
+    match note_of(alloc, kept, part, locale) {
         Ok(note) => {
-            let written = gettext_of(alloc, document, part, locale);
+            let written = gettext_of(alloc, kept, part, locale);
             let answer = write_answer(written, writer);
             write_notes(answer, note.as_str(), notes)
         }
@@ -349,29 +348,29 @@ fn verdict_of(counts: Counts) -> Verdict
 // Writes the answers to the lines of the numbers by the rules of a locale.
 fn lines_by<N: Read, W: Write>(
     alloc: Global,
-    document: &Value,
+    kept: &KeptRules,
     part: Part,
     locale: &str,
     numbers: &mut N,
     writer: &mut W,
 ) -> Result<Verdict, FormsError>
-    ensures answers { AnswersLines (view document.now) part locale.now (N.remaining numbers.old) (N.remaining numbers.new) (W.contents writer.old) (W.contents writer.new) result }
+    ensures answers { AnswersLines (IsFoundBy kept.now part locale.now) (N.remaining numbers.old) (N.remaining numbers.new) (W.contents writer.old) (W.contents writer.new) result }
     ensures touches_nothing { IfErr result (λ e. IsTrue (is_of_rules e) → (numbers.new ≡ numbers.old) × (writer.new ≡ writer.old)) }
 {
-    match language_of(alloc, document, part, locale) {
+    match language_of(alloc, kept, part, locale) {
         Ok(Ok(language)) => answer_input(alloc, &language.rules, numbers, writer),
         Ok(Err(error)) => Err(FormsError::Language(error)),
         Err(_) => Err(FormsError::Memory),
     }
 }
 
-// Returns a document that serves a locale as the one in a reader does, if its language is known.
+// Returns what is kept for a locale of the document in a reader, if its language is known.
 fn rules_of<R: Read>(
     alloc: Global,
     part: Part,
     locale: &str,
     reader: &mut R,
-) -> Result<Value, FormsError>
+) -> Result<KeptRules, FormsError>
     ensures document { (input : List ℕ) × IsInput (R.remaining reader.old) input × GivesRules part locale.now input result }
     ensures reads { IsRead forms_origin (R.remaining reader.old) (R.remaining reader.new) result }
 {
@@ -382,48 +381,31 @@ fn rules_of<R: Read>(
 }
 
 // Returns what is kept of the JSON value of bytes for a locale, if its language is known.
-fn rules_in(alloc: Global, part: Part, locale: &str, bytes: &[u8]) -> Result<Value, FormsError>
+fn rules_in(alloc: Global, part: Part, locale: &str, bytes: &[u8]) -> Result<KeptRules, FormsError>
     ensures { GivesRulesIn part locale.now bytes.now result }
 {
-    match rules_outline(alloc, part, locale, bytes) {
-        Ok(outline) => known_rules(alloc, part, locale, bytes, outline),
+    match kept_rules(alloc, part, locale, bytes) {
+        Ok(kept) => known_rules(alloc, part, locale, bytes, kept),
         Err(JsonTextError::Json) => Err(FormsError::Json),
         Err(JsonTextError::Memory) => Err(FormsError::Memory),
     }
 }
 
-// Returns what is kept of the JSON value of bytes, unless the language is unknown by it.
+// Returns what is kept of the JSON value of bytes, unless the language is unknown by that: where
+// the key is `root`, the language may have another one for other numbers, of which nothing is kept.
 fn known_rules(
     alloc: Global,
     part: Part,
     locale: &str,
     bytes: &[u8],
-    outline: Value,
-) -> Result<Value, FormsError>
-    ensures { IsServedBy part locale.now bytes.now (view outline) → GivesRulesIn part locale.now bytes.now result }
+    kept: KeptRules,
+) -> Result<KeptRules, FormsError>
+    ensures { IsServedBy part locale.now bytes.now kept → GivesRulesIn part locale.now bytes.now result }
 {
-    if has_roots_key(&outline, part, locale) {
-        return rules_of_root(alloc, part, locale, bytes, outline);
+    if has_roots_key(&kept, locale) {
+        known_in(alloc, part, locale, bytes)?;
     }
-    Ok(outline)
-}
-
-// Returns the same where the first key is `root`: the language may have another one for other
-// numbers, of which nothing is kept.
-fn rules_of_root(
-    alloc: Global,
-    part: Part,
-    locale: &str,
-    bytes: &[u8],
-    outline: Value,
-) -> Result<Value, FormsError>
-    ensures { HasRootsKey (view outline) part locale.now → IsServedBy part locale.now bytes.now (view outline)
-        → GivesRulesIn part locale.now bytes.now result }
-{
-    match known_in(alloc, part, locale, bytes) {
-        Ok(()) => Ok(outline),
-        Err(error) => Err(error),
-    }
+    Ok(kept)
 }
 
 // Returns the document in a reader.
@@ -451,13 +433,13 @@ fn value_of(alloc: Global, bytes: &[u8]) -> Result<Value, FormsError>
 // Returns the lines of the forms of a locale.
 fn list_of(
     alloc: Global,
-    document: &Value,
+    kept: &KeptRules,
     part: Part,
     locale: &str,
 ) -> Result<Result<Printed, LanguageError>, AllocError>
-    ensures { IfOk result (λ answer. AnswersFirst (IsListAnswer part locale.now) part locale.now (view document.now) answer) }
+    ensures { IfOk result (AnswersFirst (IsListAnswer part locale.now) (IsFoundBy kept.now part locale.now)) }
 {
-    match language_of(alloc, document, part, locale)? {
+    match language_of(alloc, kept, part, locale)? {
         Ok(language) => {
             let text = list_text(alloc, part, locale, &language)?;
             Ok(Ok(Printed::of(text)))
@@ -469,13 +451,13 @@ fn list_of(
 // Returns the line for gettext by the rules of a locale.
 fn gettext_of(
     alloc: Global,
-    document: &Value,
+    kept: &KeptRules,
     part: Part,
     locale: &str,
 ) -> Result<Result<Printed, LanguageError>, AllocError>
-    ensures { IfOk result (λ answer. AnswersFirst IsGettextAnswer part locale.now (view document.now) answer) }
+    ensures { IfOk result (AnswersFirst IsGettextAnswer (IsFoundBy kept.now part locale.now)) }
 {
-    match language_of(alloc, document, part, locale)? {
+    match language_of(alloc, kept, part, locale)? {
         Ok(language) => {
             let text = gettext_line(alloc, language.value)?;
             Ok(Ok(Printed::of(text)))
@@ -487,14 +469,14 @@ fn gettext_of(
 // Returns the lines of numbers by the rules of a locale.
 fn categories_of(
     alloc: Global,
-    document: &Value,
+    kept: &KeptRules,
     part: Part,
     locale: &str,
     numbers: &[&str],
 ) -> Result<Result<Printed, LanguageError>, AllocError>
-    ensures { IfOk result (λ answer. AnswersFirst (IsNumbersAnswer (words_view numbers.now)) part locale.now (view document.now) answer) }
+    ensures { IfOk result (AnswersFirst (IsNumbersAnswer (words_view numbers.now)) (IsFoundBy kept.now part locale.now)) }
 {
-    match language_of(alloc, document, part, locale)? {
+    match language_of(alloc, kept, part, locale)? {
         Ok(language) => Ok(Ok(numbers_text(alloc, &language.rules, numbers)?)),
         Err(error) => Ok(Err(error)),
     }

@@ -2,8 +2,8 @@
 
 ghost use Rattle.std.specs.Prelude.{◌≡◌, ◌⊎◌, MatchBool, IfOk, false, option_map, true};
 ghost use Rattle.std.specs.Option.{option_and_then};
-ghost use Rattle.form_commands.specs.Inner.RunSteps.{GivesKnownIn, TellsKnown};
-ghost use Rattle.form_commands.specs.Languages.{HasAnotherKey, HasRootsKey, IsKnownIn, IsUnknownIn, unknown_error};
+ghost use Rattle.form_commands.specs.Inner.RunSteps.{GivesKnownIn, TellsKnown, has_roots_key};
+ghost use Rattle.form_commands.specs.Languages.{IsKnownIn, IsUnknownIn, unknown_error};
 ghost use Rattle.form_commands.specs.SimilarKeys.{similar_keys};
 ghost use Rattle.plural_fallback.specs.LocalesJson.{keys_under, part_name};
 ghost use Rattle.plural_fallback.specs.UnknownLanguages.{is_unknown};
@@ -12,18 +12,19 @@ ghost use Rattle.serde_json.specs.View.{members_view, view};
 
 use crate::error::{FormsError, LanguageError};
 use crate::name::Name;
+use crate::outline::KeptRules;
 use crate::similar_keys::{SimilarKeys, similar_keys};
 use plural_documents::{JsonTextError, json_value};
-use plural_fallback::{Part, find_first, is_known, is_unknown, language};
+use plural_fallback::{Part, is_known, is_unknown, language};
 use serde_json::{Map, Value};
 use std::alloc::{AllocError, Global};
 
-// Returns whether the first key of a locale is `root`, which wasn't asked for.
-pub(crate) fn has_roots_key(document: &Value, part: Part, locale: &str) -> bool
-    ensures { MatchBool result (HasRootsKey (view document.now) part locale.now) (HasAnotherKey (view document.now) part locale.now) }
+// Returns whether the key of the rules that are kept for a locale is `root`, which wasn't asked for.
+pub(crate) fn has_roots_key(kept: &KeptRules, locale: &str) -> bool
+    ensures { result ≡ has_roots_key locale.now kept.now }
 {
-    match find_first(document, part, locale) {
-        Ok(key) => is_unknown(locale, key),
+    match &kept.key {
+        Ok(key) => is_unknown(locale, key.as_str()),
         Err(_) => false,
     }
 }

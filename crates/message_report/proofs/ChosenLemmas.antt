@@ -4,9 +4,9 @@ use Rattle.std.specs.Prelude.{IsTrue, not, ◌&&◌, nat_lt}
 use Rattle.std.proofs.lemmas.Bool.{ltb-true, ltb-false}
 use Rattle.icu_plurals.specs.declared.PluralCategory.{PluralCategory}
 use Rattle.icu_plurals.specs.FiveRules.{FiveRules}
-use Rattle.plural_checker.specs.WholeNumbers.{AreTwoLeastOf, HasWhole, HoldsNowhere, IsLeast, IsLeastFrom, whole_limit}
+use Rattle.plural_checker.specs.WholeNumbers.{AreTwoBelow, AreTwoLeastOf, HasWhole, HoldsNowhere, IsLeast, IsLeastFrom, whole_limit}
 use Rattle.message_report.specs.MessageForms.{Chooses}
-use Rattle.message_report.specs.Inner.KnownNumbers.{AreNumbersOf, AreTwoFrom, chosen_by, chosen_of}
+use Rattle.message_report.specs.Inner.KnownNumbers.{AreNumbersOf, chosen_by, chosen_of}
 use Rattle.message_report.specs.declared.category_numbers.CategoryNumbers.{CategoryNumbers}
 
 -- ---- Numbers from 2
@@ -95,12 +95,15 @@ module _ (rules : FiveRules) (category : PluralCategory) (own_zero own_one : Boo
       by true low = only_zero no_zero n from (ltb-true n 1 low) chosen
       by false high = only_one no_one n (ltb-false n 1 high) below chosen
 
+  abbrev AreTwoFrom : Option ℕ → Option ℕ → Type 0
+  AreTwoFrom first second = AreTwoBelow (λ n. HasWhole rules category n) 2 whole_limit first second
+
   -- the first from 2
-  first_is : (first second : Option ℕ) → AreTwoFrom rules category first second → IsLeast Chosen 2 first
+  first_is : (first second : Option ℕ) → AreTwoFrom first second → IsLeast Chosen 2 first
   first_is None second (none, absent) = least 2 None (omega arith) none
   first_is (Some n) second (found, after) = least 2 (Some n) (omega arith) found
 
-  from_two : (first second : Option ℕ) → AreTwoFrom rules category first second → ¬ (Chosen 0) → ¬ (Chosen 1)
+  from_two : (first second : Option ℕ) → AreTwoFrom first second → ¬ (Chosen 0) → ¬ (Chosen 1)
       → AreTwoLeastOf Chosen first second
   from_two None second (none, absent) no_zero no_one =
       (lower 0 2 None (omega arith) (both no_zero no_one) (least 2 None (omega arith) none), absent)

@@ -8,41 +8,35 @@ use Rattle.icu_plurals.specs.Operands.{of_whole}
 use Rattle.icu_plurals.specs.PackedTruth.{packed_truth}
 use Rattle.plural_checker.specs.LanguageTexts.{categories_with_rule}
 use Rattle.plural_checker.specs.declared.coverage.CategorySet.{CategorySet}
-use Rattle.plural_checker.specs.WholeNumbers.{AreTwoLeastOf}
+use Rattle.plural_checker.specs.declared.least_numbers.LeastNumbers.{LeastNumbers}
+use Rattle.plural_checker.specs.WholeNumbers.{AreTwoLeastFrom, AreTwoLeastOf, AreTwoLeastOfEach, least_at}
 use Rattle.message_report.specs.MessageForms.{Chooses}
 use Rattle.message_report.specs.FormFaults.{has_category_rule, AreRareSamples, HasNumbersOf, IsLanguageOf}
-use Rattle.message_report.specs.Inner.KnownNumbers.{AreNumbersOf, AreTwoFrom, chosen_of}
+use Rattle.message_report.specs.Inner.KnownNumbers.{AreNumbersOf, chosen_of}
 use Rattle.message_report.specs.Inner.LanguageViews.{is_in_set, language_view, numbers_at, numbers_view, samples_at}
-use Rattle.message_report.specs.Inner.SeenNumbers.{AreFound, seen_at}
 use Rattle.message_report.specs.declared.category_numbers.CategoryNumbers.{CategoryNumbers}
-use Rattle.message_report.specs.declared.category_numbers.TwoNumbers.{TwoNumbers}
 use Rattle.message_report.specs.declared.language.Language.{Language}
 use Rattle.message_report.specs.declared.language_numbers.LanguageNumbers.{LanguageNumbers}
 use Rattle.message_report.specs.declared.rare_samples.TwoSamples.{TwoSamples}
-use Rattle.message_report.specs.declared.seen_numbers.SeenNumbers.{SeenNumbers}
 use Rattle.message_report.proofs.ChosenLemmas.{are_two_least}
 
 -- what is known of a category's numbers, given the categories of 0 and of 1
-pub numbers_are : (rules : FiveRules) (category first next : PluralCategory) (set : CategorySet) (seen : SeenNumbers)
+pub numbers_are : (rules : FiveRules) (category first next : PluralCategory) (least : LeastNumbers)
     (numbers : CategoryNumbers) → first ≡ first_category (packed_truth (of_whole 0)) rules
-    → next ≡ first_category (packed_truth (of_whole 1)) rules → AreFound rules set seen
+    → next ≡ first_category (packed_truth (of_whole 1)) rules → AreTwoLeastOfEach rules 2 least
     → (IsTrue numbers.zero ↔ first ≡ category) → (IsTrue numbers.one ↔ next ≡ category)
-    → numbers.from_two ≡ seen_at seen category → IsTrue (is_in_set set category) → AreNumbersOf rules category numbers
-numbers_are rules category first next set seen numbers zero one found is_zero is_one is_seen is_there = record {
+    → numbers.from_two ≡ least_at least category → AreNumbersOf rules category numbers
+numbers_are rules category first next least numbers zero one found is_zero is_one is_seen = record {
   zero = ((λ yes. sym zero ∙ is_zero.0 yes), (λ has. is_zero.1 (zero ∙ has)));
   one = ((λ yes. sym one ∙ is_one.0 yes), (λ has. is_one.1 (one ∙ has)));
-  from_two = (let P : TwoNumbers → Type 0 = λ two. AreTwoFrom rules category two.first two.second in
-      subst P (sym is_seen) (found.at category is_there));
+  from_two = subst (AreTwoLeastFrom rules category 2) (sym is_seen) (found.at category);
 }
 
 -- its categories are those of the rules, and its numbers are known by the rules
 pub numbers_known : (rules : FiveRules) (language : LanguageNumbers) → language.categories ≡ categories_with_rule rules
-    → (IsTrue language.categories.zero → AreNumbersOf rules Zero language.numbers.zero)
-    → (IsTrue language.categories.one → AreNumbersOf rules One language.numbers.one)
-    → (IsTrue language.categories.two → AreNumbersOf rules Two language.numbers.two)
-    → (IsTrue language.categories.few → AreNumbersOf rules Few language.numbers.few)
-    → (IsTrue language.categories.many → AreNumbersOf rules Many language.numbers.many)
-    → (IsTrue true → AreNumbersOf rules Other language.other)
+    → AreNumbersOf rules Zero language.numbers.zero → AreNumbersOf rules One language.numbers.one
+    → AreNumbersOf rules Two language.numbers.two → AreNumbersOf rules Few language.numbers.few
+    → AreNumbersOf rules Many language.numbers.many → AreNumbersOf rules Other language.other
     → HasNumbersOf rules (numbers_view language)
 numbers_known rules language categories zero one two few many other = record {
   has = λ category. ap (λ (set : CategorySet). is_in_set set category) categories ∙ ruled category;
@@ -57,8 +51,7 @@ numbers_known rules language categories zero one two few many other = record {
     ruled Many = refl
     ruled Other = refl
 
-    known : (category : PluralCategory) → IsTrue (is_in_set language.categories category)
-        → AreNumbersOf rules category (numbers_at language category)
+    known : (category : PluralCategory) → AreNumbersOf rules category (numbers_at language category)
     known Zero = zero
     known One = one
     known Two = two
@@ -70,7 +63,7 @@ numbers_known rules language categories zero one two few many other = record {
         → AreTwoLeastOf (Chooses rules category own_zero own_one) (chosen_of (numbers_at language category) own_zero own_one).first
         (chosen_of (numbers_at language category) own_zero own_one).second
     at category has own_zero own_one =
-        are_two_least rules category own_zero own_one (numbers_at language category) (known category has)
+        are_two_least rules category own_zero own_one (numbers_at language category) (known category)
 
 -- and its samples are those of the categories that no whole number has
 module _ (rules : FiveRules) (IsText : PluralCategory → Option (List ℕ) → Type 0) (language : Language) where

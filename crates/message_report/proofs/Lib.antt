@@ -1,7 +1,4 @@
 pub mod ChosenLemmas
--- the two least numbers of each category
-pub mod SeenLemmas
-pub mod ToldNumbers
 pub mod EachFound
 pub mod FormLemmas
 pub mod KeywordLemmas

@@ -9,8 +9,9 @@
 --     IsFoundInMembers Is members found      what is found in each member
 --     IsFoundInEach Is things found      what is found in each thing of a list
 use Rattle.std.specs.Prelude.{◌≡◌, ℕ, ◌+◌, ◌-◌, nat_lt, List, [], ◌∷◌, ◌++◌, if◌then◌else◌}
-use Rattle.serde_json.specs.Data.{Data, Members, no_members, member}
+use Rattle.serde_json.specs.Data.{Data, Members}
 use Rattle.plural_documents.specs.FirstLines.{most_told}
+use Rattle.plural_documents.specs.FoundMembers as members
 use Rattle.message_report.specs.FindingCauses.{severity_of}
 use Rattle.message_report.specs.MessageFindings.{Finding}
 use Rattle.message_report.specs.MessagePlaces.{Place}
@@ -110,13 +111,11 @@ together a b = record {
 
 -- what was found has grown by something of this kind
 abbrev pub HasGrownBy : (Found → Type 0) → Found → Found → Type 0
-HasGrownBy Is old new = (more : Found) × Is more × (new ≡ together old more)
+HasGrownBy = members.HasGrownBy together
 
 -- what is found in each member, together, in the order of the keys' bytes
 abbrev pub IsFoundInMembers : (List ℕ → Data → Found → Type 0) → Members → Found → Type 0
-IsFoundInMembers Is no_members found = found ≡ nothing_found
-IsFoundInMembers Is (member key value members) found =
-    (first rest : Found) × Is key value first × IsFoundInMembers Is members rest × (found ≡ together first rest)
+IsFoundInMembers = members.IsFoundInMembers nothing_found together
 
 -- what is found in each thing of a list, together, in the order of the list
 abbrev pub IsFoundInEach : {A : Type 0} → (A → Found → Type 0) → List A → Found → Type 0

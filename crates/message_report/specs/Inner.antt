@@ -5,9 +5,9 @@ pub mod KnownLanguages
 pub mod KnownNumbers
 pub mod LanguageViews
 pub mod ListedTexts
+pub mod MessageSums
 pub mod NeededRules
 pub mod NumberBranches
 pub mod OwnForms
-pub mod SeenNumbers
 pub mod ToldFindings
 pub mod ToldKeys

@@ -10,14 +10,13 @@ ghost use Rattle.message_report.specs.PatternFaults.{missing_by, missing_fault, 
 ghost use Rattle.message_report.specs.Inner.ArgumentViews.{branching};
 
 use crate::argument::{Argument, has_category_branch, has_number, stands_in};
-use crate::category_numbers::TwoNumbers;
 use crate::fault::write_rare;
 use crate::form::name_of;
 use crate::language::Language;
 use crate::rare_samples::TwoSamples;
 use icu_plurals::PluralCategory;
 use message_pattern::{Part, Selector};
-use plural_checker::Sample;
+use plural_checker::{Sample, TwoNumbers};
 use std::fmt;
 
 /// What is wrong with a branch of a plural argument.

@@ -10,7 +10,7 @@ ghost use Rattle.message_report.specs.MessagesReport.{IsFoundInAll, IsFoundInMes
 ghost use Rattle.serde_json.specs.View.{members_view, view};
 
 use crate::cause::Cause;
-use crate::found::{Found, MemberCheck, add_members};
+use crate::found::Found;
 use crate::languages::Languages;
 use crate::part::add_part;
 use crate::patterns::add_patterns;
@@ -18,6 +18,7 @@ use crate::place::{LocalePlace, Place};
 use crate::source::RulesOfLocales;
 use crate::source_part::add_source_part;
 use icu_plurals::PluralRuleType;
+use plural_documents::{MemberCheck, add_members};
 use serde_json::{Map, Value};
 use std::alloc::{AllocError, Global};
 
@@ -44,7 +45,7 @@ struct LocaleCheck<'s, 'a, S> {
     file: &'a str,
 }
 
-impl<'s, 'a, S: RulesOfLocales> MemberCheck<'a> for LocaleCheck<'s, 'a, S> {
+impl<'s, 'a, S: RulesOfLocales> MemberCheck<'a, Found<'a>> for LocaleCheck<'s, 'a, S> {
     ghost finds = { λ check. IsFoundInLocale (S.source check.source.now) check.file.now };
 
     fn add(
@@ -137,7 +138,7 @@ struct PartKeyCheck<'a> {
     locale: LocalePlace<'a>,
 }
 
-impl<'a> MemberCheck<'a> for PartKeyCheck<'a> {
+impl<'a> MemberCheck<'a, Found<'a>> for PartKeyCheck<'a> {
     ghost finds = { λ check. IsFoundInLocaleKey (locale_place_view check.locale) };
 
     fn add(

@@ -10,12 +10,11 @@ ghost use Rattle.message_report.specs.Inner.LanguageViews.{language_view};
 ghost use Rattle.message_report.specs.declared.form.Form.TheVariants.{Category};
 ghost use Rattle.serde_json.specs.View.{view};
 
-use crate::category_numbers::TwoNumbers;
 use crate::form::{Form, OwnForms, name_of};
 use crate::language::Language;
 use crate::rare_samples::TwoSamples;
 use icu_plurals::PluralCategory;
-use plural_checker::Sample;
+use plural_checker::{Sample, TwoNumbers};
 use serde_json::Value;
 use std::fmt;
 

@@ -7,6 +7,7 @@ ghost use Rattle.message_report.specs.MessagesReport.{IsFoundInFile, IsFoundInFi
 use crate::document::add_document;
 use crate::found::Found;
 use crate::source::RulesOfLocales;
+use plural_documents::Findings;
 use serde_json::Value;
 use std::alloc::{AllocError, Global};
 
@@ -29,7 +30,7 @@ pub fn found_in_files<'a, S: RulesOfLocales>(
 ) -> Result<Found<'a>, AllocError>
     ensures { IfOk result (λ found. IsFoundInFiles (S.source source.now) files.now found) }
 {
-    let mut found = Found::new(alloc);
+    let mut found = Found::nothing(alloc);
     add_files(alloc, source, files, &mut found)?;
     Ok(found)
 }

@@ -1,23 +1,19 @@
 //! What is found in files of messages.
 
-ghost use Rattle.std.specs.Prelude.{◌≡◌, ◌∷◌, [], ℕ, List, OnOk, map};
-ghost use Rattle.message_report.specs.FoundInMessages.{findings_alone, faults_alone, finding_at, nothing_found};
-ghost use Rattle.message_report.specs.FoundInMessages.{counted_alone, fault_at, found_at, one_form, one_message, rest_of, together, HasGrownBy, IsFoundInMembers};
+ghost use Rattle.std.specs.Prelude.{◌≡◌, ◌∷◌, [], OnOk, map};
+ghost use Rattle.message_report.specs.FoundInMessages.{findings_alone, faults_alone, finding_at};
+ghost use Rattle.message_report.specs.FoundInMessages.{counted_alone, fault_at, found_at, one_form, one_message, rest_of, together};
 ghost use Rattle.message_report.specs.Inner.ToldFindings.{note_at};
-ghost use Rattle.message_report.specs.FoundInMessages as seen;
 ghost use Rattle.message_report.specs.MessageFindings.{finding_view};
 ghost use Rattle.message_report.specs.MessagePlaces.{place_view};
 ghost use Rattle.message_report.specs.MessagesReportText.{counts_found};
-ghost use Rattle.serde_json.specs.Data.{Data};
-ghost use Rattle.serde_json.specs.View.{members_view, view};
 
 use crate::cause::Cause;
 use crate::counts::Counts;
 use crate::finding::Finding;
 use crate::place::Place;
 use crate::severity::Severity;
-use plural_documents::{MOST_TOLD, sum};
-use serde_json::{Map, Value};
+use plural_documents::{Findings, MOST_TOLD, sum};
 use std::alloc::{AllocError, Global};
 use std::marker::Model;
 
@@ -50,11 +46,15 @@ impl<'a> Model for Found<'a> {
     } };
 }
 
-impl<'a> Found<'a> {
-    // Returns no findings, with counts of 0. It allocates nothing.
-    pub(crate) fn new(alloc: Global) -> Found<'a>
-        ensures { result ≡ nothing_found }
-    {
+impl<'a> Findings for Found<'a> {
+    ghost use Rattle.message_report.specs.Inner.MessageSums.{together-nothing, together_assoc};
+    ghost use Rattle.message_report.specs.FoundInMessages as seen;
+
+    ghost nothing = { seen.nothing_found };
+
+    ghost together = { seen.together };
+
+    fn nothing(alloc: Global) -> Found<'a> {
         Found {
             findings: Vec::new(alloc),
             faults: 0,
@@ -64,6 +64,12 @@ impl<'a> Found<'a> {
         }
     }
 
+    ghost ends = { together-nothing };
+
+    ghost joins = { together_assoc };
+}
+
+impl<'a> Found<'a> {
     /// Returns the findings, in their order.
     pub fn findings(&self) -> &[Finding<'a>]
         ensures { map finding_view result.now ≡ self.now.findings }
@@ -170,36 +176,4 @@ impl<'a> Found<'a> {
         self.forms = sum(self.forms, 1)?;
         Ok(())
     }
-}
-
-// A check of the members of an object.
-pub(crate) trait MemberCheck<'a> {
-    // What is found in a member.
-    ghost finds: { Self → List ℕ → Data → seen.Found → Type 0 };
-
-    // Adds what is found in a member.
-    fn add(
-        &self,
-        alloc: Global,
-        key: &'a str,
-        value: &'a Value,
-        found: &mut Found<'a>,
-    ) -> Result<(), AllocError>
-        ensures { OnOk result (HasGrownBy (finds self.now key.now (view value.now)) found.old found.new) };
-}
-
-// Adds what is found in each member, in the order of the keys' bytes.
-pub(crate) fn add_members<'a, C: MemberCheck<'a>>(
-    alloc: Global,
-    check: &C,
-    members: &'a Map<String, Value>,
-    found: &mut Found<'a>,
-) -> Result<(), AllocError>
-    ensures { OnOk result (HasGrownBy (IsFoundInMembers (C.finds check.now) (members_view members.now.entries))
-        found.old found.new) }
-{
-    for (key, value) in members.iter() {
-        check.add(alloc, key.as_str(), value, found)?;
-    }
-    Ok(())
 }

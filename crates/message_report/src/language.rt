@@ -6,13 +6,13 @@ ghost use Rattle.message_report.specs.FormFaults.{AreRareSamples, IsLanguageOf};
 ghost use Rattle.message_report.specs.Inner.LanguageViews.{language_view, numbers_view};
 ghost use Rattle.message_report.specs.RulesSource.{HasText};
 
-use crate::category_numbers::TwoNumbers;
 use crate::language_numbers::LanguageNumbers;
 use crate::rare_samples::{TwoSamples, rare_samples};
 use crate::source::RulesOfLocales;
 use icu_plurals::provider::PluralRulesData;
 use icu_plurals::{Five, PluralCategory, PluralRuleType, PluralRules};
 use plural_base::{at_category, make_five};
+use plural_checker::TwoNumbers;
 use std::alloc::Global;
 
 // The categories that a language has, what is known of the numbers of each, and the samples of those

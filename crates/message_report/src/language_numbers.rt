@@ -2,17 +2,15 @@
 
 ghost use Rattle.std.specs.Prelude.{◌≡◌, ◌↔◌, IsTrue};
 ghost use Rattle.icu_plurals.specs.FiveRules.{rules_of};
+ghost use Rattle.plural_checker.specs.WholeNumbers.{least_at};
 ghost use Rattle.message_report.specs.FormFaults.{HasNumbersOf};
 ghost use Rattle.message_report.specs.Inner.LanguageViews.{numbers_at, numbers_view};
-ghost use Rattle.message_report.specs.Inner.SeenNumbers.{seen_at};
 
-use crate::category_numbers::{CategoryNumbers, TwoNumbers};
-use crate::number_walk::numbers_from_two;
-use crate::seen_numbers::SeenNumbers;
+use crate::category_numbers::CategoryNumbers;
 use icu_plurals::provider::PluralRulesData;
 use icu_plurals::{Five, PluralCategory, PluralOperands, PluralRules};
 use plural_base::{at_category, make_five};
-use plural_checker::CategorySet;
+use plural_checker::{CategorySet, LeastNumbers, TwoNumbers, two_least_of_each};
 
 // The categories that a language has, and what is known of the numbers of each.
 #[derive(Clone, Copy, Debug)]
@@ -31,14 +29,14 @@ impl LanguageNumbers {
         let categories = CategorySet::of_rules(given);
         let of_zero = rules.category_for(PluralOperands::from(0u16));
         let of_one = rules.category_for(PluralOperands::from(1u16));
-        let seen = numbers_from_two(rules, categories);
+        let least = two_least_of_each(rules, 2);
         LanguageNumbers {
             categories,
             numbers: make_five!(
                 Five,
-                |category| numbers_of(of_zero, of_one, &seen, category)
+                |category| numbers_of(of_zero, of_one, &least, category)
             ),
-            other: numbers_of(of_zero, of_one, &seen, PluralCategory::Other),
+            other: numbers_of(of_zero, of_one, &least, PluralCategory::Other),
         }
     }
 
@@ -73,16 +71,16 @@ impl LanguageNumbers {
 fn numbers_of(
     of_zero: PluralCategory,
     of_one: PluralCategory,
-    seen: &SeenNumbers,
+    least: &LeastNumbers,
     category: PluralCategory,
 ) -> CategoryNumbers
     ensures zero { IsTrue result.zero ↔ of_zero ≡ category }
     ensures one { IsTrue result.one ↔ of_one ≡ category }
-    ensures from_two { result.from_two ≡ seen_at seen.now category }
+    ensures from_two { result.from_two ≡ least_at least.now category }
 {
     CategoryNumbers {
         zero: of_zero == category,
         one: of_one == category,
-        from_two: seen.at(category),
+        from_two: least.at(category),
     }
 }

@@ -14,12 +14,13 @@ ghost use Rattle.serde_json.specs.View.{members_view, view};
 use crate::cause::Cause;
 use crate::fault::{FormFault, form_fault, told_fault};
 use crate::form::{Form, OwnForms};
-use crate::found::{Found, MemberCheck};
+use crate::found::Found;
 use crate::keys::add_keys;
 use crate::language::Language;
 use crate::place::{LocalePlace, MessagePlace, Place};
 use crate::source_arguments::needs_number;
 use icu_plurals::{PluralCategory, PluralRuleType};
+use plural_documents::MemberCheck;
 use serde_json::{Map, Value};
 use std::alloc::{AllocError, Global};
 
@@ -44,7 +45,7 @@ pub(crate) struct MessageCheck<'l, 'a> {
     pub(crate) locale: LocalePlace<'a>,
 }
 
-impl<'l, 'a> MemberCheck<'a> for MessageCheck<'l, 'a> {
+impl<'l, 'a> MemberCheck<'a, Found<'a>> for MessageCheck<'l, 'a> {
     ghost finds = { λ check. IsFoundInMessage (language_lent check.language) (value_lent check.arguments) check.rule_type (locale_place_view check.locale) };
 
     fn add(

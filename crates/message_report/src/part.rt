@@ -11,11 +11,12 @@ ghost use Rattle.serde_json.specs.Find.{as_object, get};
 ghost use Rattle.serde_json.specs.View.{members_view, view};
 
 use crate::cause::Cause;
-use crate::found::{Found, add_members};
+use crate::found::Found;
 use crate::language::Language;
 use crate::message::MessageCheck;
 use crate::place::{LocalePlace, Place, type_name};
 use icu_plurals::PluralRuleType;
+use plural_documents::add_members;
 use serde_json::{Map, Value};
 use std::alloc::{AllocError, Global};
 

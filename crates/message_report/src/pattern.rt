@@ -11,11 +11,12 @@ ghost use Rattle.serde_json.specs.Find.{as_str};
 ghost use Rattle.serde_json.specs.View.{view};
 
 use crate::cause::Cause;
-use crate::found::{Found, MemberCheck};
+use crate::found::Found;
 use crate::languages::Languages;
 use crate::pattern_faults::tell_pattern;
 use crate::place::{LocalePlace, PatternPlace, Place};
 use message_pattern::{FaultKind, Part, PatternError, StyledPattern};
+use plural_documents::MemberCheck;
 use serde_json::Value;
 use std::alloc::{AllocError, Global};
 
@@ -26,7 +27,7 @@ pub(crate) struct PatternCheck<'l, 'a> {
     pub(crate) locale: LocalePlace<'a>,
 }
 
-impl<'l, 'a> MemberCheck<'a> for PatternCheck<'l, 'a> {
+impl<'l, 'a> MemberCheck<'a, Found<'a>> for PatternCheck<'l, 'a> {
     ghost finds = { λ check. IsFoundInPattern (languages_view check.languages.now) (locale_place_view check.locale) };
 
     fn add(

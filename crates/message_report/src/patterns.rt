@@ -10,10 +10,11 @@ ghost use Rattle.serde_json.specs.Find.{as_object, get};
 ghost use Rattle.serde_json.specs.View.{members_view, view};
 
 use crate::cause::Cause;
-use crate::found::{Found, add_members};
+use crate::found::Found;
 use crate::languages::Languages;
 use crate::pattern::PatternCheck;
 use crate::place::{LocalePlace, Place};
+use plural_documents::add_members;
 use serde_json::{Map, Value};
 use std::alloc::{AllocError, Global};
 

@@ -1,13 +1,14 @@
 //! The text of a report.
 
-ghost use Rattle.std.specs.Prelude.{◌≡◌, ◌++◌, IfOk, OnOk, map, string_bytes};
-ghost use Rattle.std.specs.List.{flat_map};
+ghost use Rattle.std.specs.Prelude.{◌≡◌, IfOk, string_bytes};
 ghost use Rattle.message_report.specs.MessageFindings.{finding_view};
+ghost use Rattle.message_report.specs.MessageFindings as listed;
 ghost use Rattle.message_report.specs.MessagesReportText.{counts_line_with, message_counts_line, messages_report_text, notes_text, printed_finding};
 
 use crate::counts::Counts;
 use crate::finding::Finding;
 use crate::found::Found;
+use plural_documents::{LinePrinter, push_lines};
 use std::alloc::{AllocError, Global};
 
 /// Returns the text of a report: a line for each finding, and one with the counts. It allocates; the
@@ -16,27 +17,31 @@ pub fn report_text(alloc: Global, found: &Found<'_>) -> Result<String, AllocErro
     ensures { IfOk result (λ text. string_bytes text ≡ messages_report_text found.now) }
 {
     let mut text = String::new(alloc);
-    push_lines(alloc, &mut text, found.findings())?;
+    push_lines(alloc, &mut FindingLines, found.findings(), &mut text)?;
     text.push_str(counts_line(alloc, found.counts())?.as_str())?;
     Ok(text)
 }
 
-// Appends the line of each finding.
-fn push_lines(alloc: Global, text: &mut String, findings: &[Finding<'_>]) -> Result<(), AllocError>
-    ensures { OnOk result (string_bytes text.new ≡ string_bytes text.old ++ flat_map printed_finding (map finding_view findings.now)) }
-{
-    for finding in findings {
-        push_line(alloc, text, finding)?;
-    }
-    Ok(())
-}
+// The lines of findings.
+#[derive(Drop)]
+struct FindingLines;
 
-// Appends the line of a finding, and a newline.
-fn push_line(alloc: Global, text: &mut String, finding: &Finding<'_>) -> Result<(), AllocError>
-    ensures { OnOk result (string_bytes text.new ≡ string_bytes text.old ++ printed_finding (finding_view finding.now)) }
-{
-    text.push_str(finding.line(alloc)?.as_str())?;
-    text.push_str("\n")
+impl<'a> LinePrinter<Finding<'a>> for FindingLines {
+    ghost Seen = { listed.Finding };
+
+    ghost seen = { finding_view };
+
+    ghost line_of = { λ lines. printed_finding };
+
+    fn push(
+        &mut self,
+        alloc: Global,
+        finding: &Finding<'a>,
+        text: &mut String,
+    ) -> Result<(), AllocError> {
+        text.push_str(finding.line(alloc)?.as_str())?;
+        text.push_str("\n")
+    }
 }
 
 // Returns the line with the counts.

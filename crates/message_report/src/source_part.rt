@@ -9,9 +9,10 @@ ghost use Rattle.serde_json.specs.Find.{as_object};
 ghost use Rattle.serde_json.specs.View.{view};
 
 use crate::cause::Cause;
-use crate::found::{Found, MemberCheck, add_members};
+use crate::found::Found;
 use crate::place::{LocalePlace, Place};
 use crate::source_arguments::is_text_list;
+use plural_documents::{MemberCheck, add_members};
 use serde_json::Value;
 use std::alloc::{AllocError, Global};
 
@@ -51,7 +52,7 @@ struct SourceCheck<'a> {
     locale: LocalePlace<'a>,
 }
 
-impl<'a> MemberCheck<'a> for SourceCheck<'a> {
+impl<'a> MemberCheck<'a, Found<'a>> for SourceCheck<'a> {
     ghost finds = { λ check. IsFoundInSource (locale_place_view check.locale) };
 
     fn add(

@@ -1,6 +1,6 @@
 -- The items of a block, and the fault of the first bad one.
 use Rattle.std.proofs.Common.{◌≡◌, ◌∙◌, ℕ, ◌+◌, ◌<◌, List, [], ◌∷◌, drop, get_or, length, map, refl, ap, sym, subst, true, false, Bool, Some, None}
-use Rattle.std.specs.Prelude.{Option, bytes_eq, not, if◌then◌else◌, is_some, slice_get}
+use Rattle.std.specs.Prelude.{Option, not, if◌then◌else◌, is_some, slice_get}
 use Rattle.std.specs.List.{list_all}
 use Rattle.std.specs.Cmp.{first_so, second_so}
 use Rattle.std.specs.Cmp.Derive.{both_true}
@@ -10,10 +10,11 @@ use Rattle.packed_list.specs.ListBytes.{ListBytes}
 use Rattle.packed_list.specs.Inner.ListReading.{items_in}
 use Rattle.message_pattern.specs.PatternParts.{Part}
 use Rattle.packed_pattern.specs.declared.error.BlockError.{BlockError}
-use Rattle.packed_pattern.specs.PackedParts.{is_packable, item_bytes, items_of, skip_of}
-use Rattle.packed_pattern.specs.PatternBlocks.{PatternBlock, first_item_fault, is_item_with, is_part_item, is_skip_of, item_fault, or_fault}
-use Rattle.packed_pattern.specs.Inner.PartReading.{IsBlock, part_in, skip_in}
-use Rattle.packed_pattern.proofs.PartBytes.{bytes_same, part_again, same_bytes, skip_again}
+use Rattle.packed_pattern.specs.PartOrder.{before_all, first_misplaced}
+use Rattle.packed_pattern.specs.PackedParts.{is_packable, item_bytes, items_of, place_bytes}
+use Rattle.packed_pattern.specs.PatternBlocks.{PatternBlock, first_item_fault, has_places, is_item_with, is_part_item, item_fault, items_fault, or_fault, order_fault}
+use Rattle.packed_pattern.specs.Inner.PartReading.{IsBlock, part_in, places_in}
+use Rattle.packed_pattern.proofs.PartBytes.{bytes_same, length-place_bytes, part_again, places_again, same_bytes}
 use Rattle.packed_pattern.specs.declared.error.BlockError.TheVariants as errors
 
 -- the items that parts are packed as hold these parts
@@ -21,7 +22,7 @@ pub parts_again : (parts : List Part) → list_all is_packable parts ≡ true �
 parts_again [] h = refl
 parts_again (p ∷ ps) h =
     rw (
-      part_again p (skip_of p.depth p.piece ps) (first_so (is_packable p) (list_all is_packable ps) h),
+      part_again p (place_bytes p ps) (length-place_bytes p.depth p.piece ps) (first_so (is_packable p) (list_all is_packable ps) h),
       parts_again ps (second_so (is_packable p) (list_all is_packable ps) h),
     ) refl
 
@@ -41,22 +42,23 @@ both_passed false skip f g h = (cc, cc)
 
 -- the item of a part has no fault
 item_passes : (place : ℕ) (p : Part) (ps : List Part) → is_packable p ≡ true → list_all is_packable ps ≡ true
-    → item_fault place (item_bytes p (skip_of p.depth p.piece ps)) (items_of ps) ≡ None
+    → item_fault place (item_bytes p (place_bytes p ps)) (items_of ps) ≡ None
 item_passes place p ps h g =
-    let skip = skip_of p.depth p.piece ps in
-    let item = item_bytes p skip in
-    let held : part_in item ≡ p = part_again p skip h in
+    let places = place_bytes p ps in
+    let room = length-place_bytes p.depth p.piece ps in
+    let item = item_bytes p places in
+    let held : part_in item ≡ p = part_again p places room h in
     let fits : is_packable (part_in item) ≡ true = ap is_packable held ∙ h in
-    let own : is_item_with item (skip_in item) ≡ true =
-    bytes_same item (item_bytes (part_in item) (skip_in item))
-    (sym (ap (λ q. item_bytes q (skip_in item)) held ∙ skip_again p skip)) in
+    let own : is_item_with item (places_in item) ≡ true =
+    bytes_same item (item_bytes (part_in item) (places_in item))
+    (sym (ap (λ q. item_bytes q (places_in item)) held ∙ ap (item_bytes p) (places_again p places room))) in
     let others : map part_in (items_of ps) ≡ ps = parts_again ps g in
-    let wanted : skip_of (part_in item).depth (part_in item).piece (map part_in (items_of ps)) ≡ skip =
-    ap (λ q. skip_of q.depth q.piece (map part_in (items_of ps))) held ∙ ap (skip_of p.depth p.piece) others in
-    let ends : is_skip_of item (items_of ps) ≡ true =
-    bytes_same item (item_bytes (part_in item) (skip_of (part_in item).depth (part_in item).piece (map part_in (items_of ps))))
-    (sym (ap (item_bytes (part_in item)) wanted ∙ ap (λ q. item_bytes q skip) held)) in
-    both_pass (is_part_item item) (is_skip_of item (items_of ps)) (errors.Part place) (errors.Skip place) (both_true fits own) ends
+    let wanted : place_bytes (part_in item) (map part_in (items_of ps)) ≡ places =
+    ap (λ q. place_bytes q (map part_in (items_of ps))) held ∙ ap (place_bytes p) others in
+    let ends : has_places item (items_of ps) ≡ true =
+    bytes_same item (item_bytes (part_in item) (place_bytes (part_in item) (map part_in (items_of ps))))
+    (sym (ap (item_bytes (part_in item)) wanted ∙ ap (λ q. item_bytes q places) held)) in
+    both_pass (is_part_item item) (has_places item (items_of ps)) (errors.Part place) (errors.Place place) (both_true fits own) ends
 
 -- neither have those of parts
 pub no_fault : (place : ℕ) (parts : List Part) → list_all is_packable parts ≡ true → first_item_fault place (items_of parts) ≡ None
@@ -72,19 +74,47 @@ neither : (first other : Option BlockError) → or_fault first other ≡ None �
 neither None other h = (refl, h)
 neither (Some fault) other h = (h, cc)
 
--- items without a fault are those of the parts that they hold
-pub is_block : (place : ℕ) (items : List (List ℕ)) → first_item_fault place items ≡ None → IsBlock items
-is_block place [] h = record { packable = refl; packed = refl }
-is_block place (item ∷ items) h =
+-- items of which none is bad are those of the parts that they hold, which can be packed
+pub record AreItems (items : List (List ℕ)) : Type 0 where
+  pub packable : list_all is_packable (map part_in items) ≡ true
+  pub packed : items_of (map part_in items) ≡ items
+
+pub are_items : (place : ℕ) (items : List (List ℕ)) → first_item_fault place items ≡ None → AreItems items
+are_items place [] h = record { packable = refl; packed = refl }
+are_items place (item ∷ items) h =
     let n = neither (item_fault place item items) (first_item_fault (place + 1) items) h in
-    let passed = both_passed (is_part_item item) (is_skip_of item items) (errors.Part place) (errors.Skip place) n.0 in
-    let others = is_block (place + 1) items n.1 in
-    let skip = skip_of (part_in item).depth (part_in item).piece (map part_in items) in
-    let here : item ≡ item_bytes (part_in item) skip = same_bytes item (item_bytes (part_in item) skip) passed.1 in
+    let passed = both_passed (is_part_item item) (has_places item items) (errors.Part place) (errors.Place place) n.0 in
+    let others = are_items (place + 1) items n.1 in
+    let places = place_bytes (part_in item) (map part_in items) in
+    let here : item ≡ item_bytes (part_in item) places = same_bytes item (item_bytes (part_in item) places) passed.1 in
     record {
-      packable = both_true (first_so (is_packable (part_in item)) (is_item_with item (skip_in item)) passed.0) others.packable;
+      packable = both_true (first_so (is_packable (part_in item)) (is_item_with item (places_in item)) passed.0) others.packable;
       packed = ap (λ x. x ∷ items_of (map part_in items)) (sym here) ∙ ap (λ xs. item ∷ xs) others.packed;
     }
+
+-- without a fault they are a block
+ordered : (at : Option ℕ) → order_fault at ≡ None → at ≡ None
+ordered None h = refl
+ordered (Some place) h = cc
+
+pub is_block : (items : List (List ℕ)) → items_fault items ≡ None → IsBlock items
+is_block items h =
+    let order = first_misplaced 0 before_all (map part_in items) in
+    let n = neither (first_item_fault 0 items) (order_fault order) h in
+    let are = are_items 0 items n.0 in
+    record { packable = are.packable; nested = ordered order n.1; packed = are.packed }
+
+-- where no item is bad, the order decides
+pub none_bad : (items : List (List ℕ)) → first_item_fault 0 items ≡ None
+    → items_fault items ≡ order_fault (first_misplaced 0 before_all (map part_in items))
+none_bad items h = ap (λ f. or_fault f (order_fault (first_misplaced 0 before_all (map part_in items)))) h
+
+-- the items of parts in their order have no fault
+pub no_items_fault : (parts : List Part) → list_all is_packable parts ≡ true → first_misplaced 0 before_all parts ≡ None
+    → items_fault (items_of parts) ≡ None
+no_items_fault parts h g =
+    none_bad (items_of parts) (no_fault 0 parts h)
+    ∙ ap (λ ps. order_fault (first_misplaced 0 before_all ps)) (parts_again parts h) ∙ ap order_fault g
 
 -- a fault that was found is the first one
 pub or_fault_some : (fault other : Option BlockError) → is_some fault ≡ true → or_fault fault other ≡ fault
@@ -128,5 +158,6 @@ parts_in_one law parts bytes h = ap (map part_in) (law (items_of parts) bytes h.
 pub is_pattern : (items : List (List ℕ)) (bytes : List ℕ) → IsBlock items → ListBytes items bytes → PatternBlock (map part_in items) bytes
 is_pattern items bytes block list = record {
   packable = block.packable;
+  nested = block.nested;
   packed = subst (λ (xs : List (List ℕ)). ListBytes xs bytes) (sym block.packed) list;
 }

@@ -1,5 +1,7 @@
 pub mod PartBytes
+pub mod PartPlaceNumbers
 pub mod BlockItems
 pub mod BlockFaults
 pub mod PartsPacked
 pub mod Joined
+pub mod BehindPlaces

@@ -1,2 +1,3 @@
--- No definitions of the subject: the reader of items, for the view of a block and private contracts.
+-- No definitions of the subject: the reader of items, and views, for private contracts.
 pub mod PartReading
+pub mod PlaceViews

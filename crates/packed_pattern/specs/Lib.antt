@@ -1,4 +1,6 @@
 -- patterns as blocks of bytes
+pub mod PartOrder
+pub mod PartPlaces
 pub mod PackedParts
 pub mod PatternBlocks
 -- not definitions of the subject

@@ -1,34 +1,10 @@
 -- The bytes that a part of a pattern is packed as.
-use Rattle.std.specs.Prelude.{ℕ, ◌+◌, List, [], ◌∷◌, ◌++◌, length, Bool, true, false, ◌&&◌, ◌||◌, nat_lt, nat_le, Option, Some, None, if◌then◌else◌}
+use Rattle.std.specs.Prelude.{ℕ, List, [], ◌∷◌, ◌++◌, length, flat_map, Bool, true, false, ◌&&◌, nat_le, Option, Some, None}
 use Rattle.packed_list.specs.ListBytes.{two_bytes}
 use Rattle.message_pattern.specs.declared.part.ArgumentKind.{ArgumentKind}
 use Rattle.message_pattern.specs.declared.part.ArgumentKind.TheVariants.{Plural, Ordinal, Select}
 use Rattle.message_pattern.specs.PatternParts.{Part, PatternPiece, Selector, Exactly, Keyword, Text, Hash, Argument, Begin, Branch, End}
-
--- ---- where branches and arguments end
-
--- how many parts at the front are in a branch at a depth: they are deeper
-abbrev pub branch_length : ℕ → List Part → ℕ
-branch_length depth [] = 0
-branch_length depth (p ∷ ps) = if nat_lt depth p.depth then branch_length depth ps + 1 else 0
-
-abbrev pub is_selector : PatternPiece → Bool
-is_selector (Branch selector) = true
-is_selector _ = false
-
--- how many parts stand before the end of an argument at a depth: its selectors, and what is deeper
-abbrev pub argument_length : ℕ → List Part → ℕ
-argument_length depth [] = 0
-argument_length depth (p ∷ ps) = if nat_lt depth p.depth || is_selector p.piece then argument_length depth ps + 1 else 0
-
--- how many parts, of those that follow a piece, belong to it: the parts of an argument up to its end, or
--- of a branch
-abbrev pub skip_of : ℕ → PatternPiece → List Part → ℕ
-skip_of depth (Begin kind name offset) rest = argument_length depth rest
-skip_of depth (Branch selector) rest = branch_length depth rest
-skip_of depth _ rest = 0
-
--- ---- the bytes
+use Rattle.packed_pattern.specs.PartPlaces.{places_of}
 
 -- the number of an argument's kind
 abbrev pub kind_tag : ArgumentKind → ℕ
@@ -56,23 +32,27 @@ abbrev pub selector_bytes : Selector → List ℕ
 selector_bytes (Exactly number) = number
 selector_bytes (Keyword word) = word
 
--- what a piece has, and how many parts it skips
-abbrev pub content_bytes : PatternPiece → ℕ → List ℕ
-content_bytes (Text text) skip = text
-content_bytes Hash skip = []
-content_bytes (Argument name) skip = name
-content_bytes (Begin kind name offset) skip = two_bytes skip ++ length name ∷ (name ++ offset_digits offset)
-content_bytes (Branch selector) skip = two_bytes skip ++ selector_bytes selector
-content_bytes End skip = []
+-- what a piece has of its own
+abbrev pub own_bytes : PatternPiece → List ℕ
+own_bytes (Text text) = text
+own_bytes Hash = []
+own_bytes (Argument name) = name
+own_bytes (Begin kind name offset) = length name ∷ (name ++ offset_digits offset)
+own_bytes (Branch selector) = selector_bytes selector
+own_bytes End = []
 
--- a part: its form, its depth, and what it has
-abbrev pub item_bytes : Part → ℕ → List ℕ
-item_bytes p skip = piece_tag p.piece ∷ p.depth ∷ content_bytes p.piece skip
+-- the places that a part has, which these parts follow
+abbrev pub place_bytes : Part → List Part → List ℕ
+place_bytes p rest = flat_map two_bytes (places_of p.depth p.piece rest)
+
+-- a part: its form, its depth, the bytes of its places, and what it has of its own
+abbrev pub item_bytes : Part → List ℕ → List ℕ
+item_bytes p places = piece_tag p.piece ∷ p.depth ∷ (places ++ own_bytes p.piece)
 
 -- the items that parts are packed as
 abbrev pub items_of : List Part → List (List ℕ)
 items_of [] = []
-items_of (p ∷ ps) = item_bytes p (skip_of p.depth p.piece ps) ∷ items_of ps
+items_of (p ∷ ps) = item_bytes p (place_bytes p ps) ∷ items_of ps
 
 -- ---- limits
 

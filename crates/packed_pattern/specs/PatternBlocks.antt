@@ -8,33 +8,35 @@ use Rattle.packed_pattern.specs.declared.error.BlockError.{BlockError}
 use Rattle.packed_pattern.specs.declared.error.BlockError.TheVariants as errors
 use Rattle.packed_pattern.specs.declared.error.PackPatternError.{PackPatternError}
 use Rattle.packed_pattern.specs.declared.error.PackPatternError.TheVariants as packing
-use Rattle.packed_pattern.specs.PackedParts.{item_bytes, items_of, skip_of, is_packable}
-use Rattle.packed_pattern.specs.Inner.PartReading.{part_in, skip_in}
+use Rattle.packed_pattern.specs.PartOrder.{before_all, first_misplaced}
+use Rattle.packed_pattern.specs.PackedParts.{item_bytes, items_of, place_bytes, is_packable}
+use Rattle.packed_pattern.specs.Inner.PartReading.{part_in, places_in}
 
 -- the bytes encode the parts
 pub record PatternBlock (parts : List Part) (bytes : List ℕ) : Type 0 where
   pub packable : IsTrue (list_all is_packable parts)
+  pub nested : first_misplaced 0 before_all parts ≡ None
   pub packed : ListBytes (items_of parts) bytes
 
 -- ---- What is wrong with the items of a packed list that is no pattern.
 
--- the item is that of the part that it holds, with this skip
-abbrev pub is_item_with : List ℕ → ℕ → Bool
-is_item_with item skip = bytes_eq item (item_bytes (part_in item) skip)
+-- the item is that of the part that it holds, with these places
+abbrev pub is_item_with : List ℕ → List ℕ → Bool
+is_item_with item places = bytes_eq item (item_bytes (part_in item) places)
 
--- the item is one of a part, whatever it skips
+-- the item is one of a part, whatever its places
 abbrev pub is_part_item : List ℕ → Bool
-is_part_item item = is_packable (part_in item) && is_item_with item (skip_in item)
+is_part_item item = is_packable (part_in item) && is_item_with item (places_in item)
 
--- it skips what it has to, before these items
-abbrev pub is_skip_of : List ℕ → List (List ℕ) → Bool
-is_skip_of item items = is_item_with item (skip_of (part_in item).depth (part_in item).piece (map part_in items))
+-- it has its places before these items
+abbrev pub has_places : List ℕ → List (List ℕ) → Bool
+has_places item items = is_item_with item (place_bytes (part_in item) (map part_in items))
 
 -- the fault of the item at a place, before these items
 abbrev pub item_fault : ℕ → List ℕ → List (List ℕ) → Option BlockError
 item_fault place item items =
     if not (is_part_item item) then Some (errors.Part place)
-    else if not (is_skip_of item items) then Some (errors.Skip place)
+    else if not (has_places item items) then Some (errors.Place place)
     else None
 
 -- a fault, or else that of what follows
@@ -47,10 +49,19 @@ abbrev pub first_item_fault : ℕ → List (List ℕ) → Option BlockError
 first_item_fault place [] = None
 first_item_fault place (item ∷ items) = or_fault (item_fault place item items) (first_item_fault (place + 1) items)
 
--- bytes are refused with a fault: they aren't a packed list, or it is that of the first bad item
+-- a part that may not stand where it does
+abbrev pub order_fault : Option ℕ → Option BlockError
+order_fault None = None
+order_fault (Some place) = Some (errors.Order place)
+
+-- the fault of items: that of the first bad one, or else of their order
+abbrev pub items_fault : List (List ℕ) → Option BlockError
+items_fault items = or_fault (first_item_fault 0 items) (order_fault (first_misplaced 0 before_all (map part_in items)))
+
+-- bytes are refused with a fault: they aren't a packed list, or it is that of the items
 abbrev pub HasBlockFault : List ℕ → BlockError → Type 0
 HasBlockFault bytes (errors.List fault) = HasFault bytes fault
-HasBlockFault bytes fault = (items : List (List ℕ)) × ListBytes items bytes × (first_item_fault 0 items ≡ Some fault)
+HasBlockFault bytes fault = (items : List (List ℕ)) × ListBytes items bytes × (items_fault items ≡ Some fault)
 
 -- ---- What can't be packed.
 
@@ -65,10 +76,12 @@ first_unpackable place (p ∷ ps) = if is_packable p then first_unpackable (plac
 abbrev pub block_error_text : BlockError → List ℕ
 block_error_text (errors.List fault) = list_error_text fault
 block_error_text (errors.Part place) = codes "bad part " ++ decimal place
-block_error_text (errors.Skip place) = codes "bad end of part " ++ decimal place
+block_error_text (errors.Place place) = codes "bad place in part " ++ decimal place
+block_error_text (errors.Order place) = codes "part " ++ decimal place ++ codes " out of order"
 
 abbrev pub pack_pattern_error_text : PackPatternError → List ℕ
 pack_pattern_error_text packing.CountLimit = codes "too many parts"
 pack_pattern_error_text (packing.Part place) = codes "part " ++ decimal place ++ codes " can't be packed"
+pack_pattern_error_text (packing.Order place) = codes "part " ++ decimal place ++ codes " out of order"
 pack_pattern_error_text packing.StartLimit = codes "pattern too long"
 pack_pattern_error_text packing.Memory = codes "out of memory"

@@ -1,15 +1,18 @@
 //! A packed pattern.
 
-ghost use Rattle.std.specs.Prelude.{◌≡◌, ◌↔◌, ◌≤◌, ◌<◌, ◌+◌, ℕ, List, map, drop, length, slice_get, option_map, IfOk, Ok, Err, Some};
+ghost use Rattle.std.specs.Prelude.{◌≡◌, ◌↔◌, ◌≤◌, ◌<◌, ◌+◌, ℕ, List, map, drop, length, slice_get, option_map, IfOk, MatchOption, Ok, Err, Some, None};
 ghost use Rattle.message_pattern.specs.PatternParts.{Part as SpecPart, part_view, parts_view};
 ghost use Rattle.message_pattern.specs.PatternPrinting.{PrintsExactly};
-ghost use Rattle.packed_pattern.specs.PatternBlocks.{HasBlockFault, PatternBlock, first_item_fault, item_fault};
+ghost use Rattle.packed_pattern.specs.PartPlaces.{IsPlaced};
+ghost use Rattle.packed_pattern.specs.PatternBlocks.{HasBlockFault, PatternBlock, first_item_fault, item_fault, items_fault};
 ghost use Rattle.packed_pattern.specs.Inner.PartReading.{part_in};
 
 use crate::error::BlockError;
-use crate::item::{is_item_of, is_packable, part_in, skip_in};
+use crate::item::{is_item_of, is_packable, part_in, places_in};
+use crate::order::first_misplaced;
 use crate::parts::ItemParts;
-use crate::skips::skip_of;
+use crate::placed::PlacedPart;
+use crate::places::places_of;
 use crate::source::PartSource;
 use message_pattern::{Part, Pattern};
 use packed_list::PackedList;
@@ -40,8 +43,9 @@ impl<'a> PackedPattern<'a> {
     /// Reads bytes as a packed pattern. It allocates nothing.
     ///
     /// The error is that the bytes aren't a packed list ([`BlockError::List`]), or the fault of the
-    /// first bad item: it isn't a part ([`BlockError::Part`]), or doesn't end where it says
-    /// ([`BlockError::Skip`]).
+    /// first bad item: it isn't a part ([`BlockError::Part`]), or what it begins doesn't end, or has
+    /// no branch, where it says ([`BlockError::Place`]); or else the first part that may not stand
+    /// where it does ([`BlockError::Order`]).
     pub fn parse_bytes(bytes: &'a [u8]) -> Result<PackedPattern<'a>, BlockError>
         ensures ok { IfOk result (λ pattern. PatternBlock pattern bytes.now) }
         ensures accepted { (parts : List SpecPart) → PatternBlock parts bytes.now → result ≡ Ok parts }
@@ -52,7 +56,7 @@ impl<'a> PackedPattern<'a> {
             Ok(list) => list,
             Err(fault) => return Err(BlockError::List(fault)),
         };
-        if let Some(fault) = first_fault_of(&list) {
+        if let Some(fault) = items_fault(&list) {
             return Err(fault);
         }
         Ok(PackedPattern { list })
@@ -78,6 +82,15 @@ impl<'a> PackedPattern<'a> {
     {
         let item = self.list.get(index)?;
         Some(part_in(item))
+    }
+
+    /// Returns the part at a place, with its places.
+    #[inline]
+    pub fn placed(&self, index: usize) -> Option<PlacedPart<'a>>
+        ensures { MatchOption result (slice_get self.now index ≡ None) (λ placed. IsPlaced placed self.now index) }
+    {
+        let item = self.list.get(index)?;
+        Some(PlacedPart { item })
     }
 
     /// Returns the pattern, as a list of parts. It allocates the list; the error is out of memory.
@@ -107,6 +120,20 @@ fn parts_of<'a>(alloc: Global, list: &PackedList<'a>) -> Result<Vec<Part<'a>>, A
         parts.push(part)?;
     }
     Ok(parts)
+}
+
+// What is wrong with the first bad item, or else with the order of the parts.
+fn items_fault(list: &PackedList<'_>) -> Option<BlockError>
+    requires { length list.now ≤ 65535 }
+    ensures { result ≡ items_fault list.now }
+{
+    if let Some(fault) = first_fault_of(list) {
+        return Some(fault);
+    }
+    match first_misplaced(ItemParts { list, next: 0 }) {
+        Some(place) => Some(BlockError::Order(place)),
+        None => None,
+    }
 }
 
 // What is wrong with the first bad item.
@@ -143,11 +170,11 @@ fn fault_of(place: usize, item: &[u8], rest: ItemParts<'_, '_>) -> Option<BlockE
     ensures { result ≡ item_fault place item.now (drop rest.entry.next rest.entry.list.now) }
 {
     let part = part_in(item);
-    if !is_packable(part) || !is_item_of(item, part, skip_in(item)) {
+    if !is_packable(part) || !is_item_of(item, part, places_in(item)) {
         return Some(BlockError::Part(place));
     }
-    if !is_item_of(item, part, skip_of(part, rest)) {
-        return Some(BlockError::Skip(place));
+    if !is_item_of(item, part, places_of(part, rest).as_slice()) {
+        return Some(BlockError::Place(place));
     }
     None
 }

@@ -14,8 +14,11 @@ pub enum BlockError {
     /// above 32, or its name is longer than the item.
     Part(usize),
     /// The item at this place is a part, and the argument or the branch that it begins doesn't end
-    /// where it says.
-    Skip(usize),
+    /// where it says, or a branch isn't where it says.
+    Place(usize),
+    /// The part at this place may not follow the one before it, or the parts end before it in an
+    /// argument.
+    Order(usize),
 }
 
 impl fmt::Display for BlockError {
@@ -28,7 +31,8 @@ impl fmt::Display for BlockError {
         match self {
             BlockError::List(fault) => write!(f, "{fault}"),
             BlockError::Part(place) => write!(f, "bad part {place}"),
-            BlockError::Skip(place) => write!(f, "bad end of part {place}"),
+            BlockError::Place(place) => write!(f, "bad place in part {place}"),
+            BlockError::Order(place) => write!(f, "part {place} out of order"),
         }
     }
 }
@@ -43,6 +47,9 @@ pub enum PackPatternError {
     /// The part at this place is more than 32 branches deep, or begins an argument whose name has
     /// more than 255 bytes, or whose offset has no digits.
     Part(usize),
+    /// The part at this place may not follow the one before it, or the parts end before it in an
+    /// argument.
+    Order(usize),
     /// A part would start after place 65535 of the data.
     StartLimit,
     /// Out of memory.
@@ -59,6 +66,7 @@ impl fmt::Display for PackPatternError {
         match self {
             PackPatternError::CountLimit => f.write_str("too many parts"),
             PackPatternError::Part(place) => write!(f, "part {place} can't be packed"),
+            PackPatternError::Order(place) => write!(f, "part {place} out of order"),
             PackPatternError::StartLimit => f.write_str("pattern too long"),
             PackPatternError::Memory => f.write_str("out of memory"),
         }

@@ -1,10 +1,9 @@
 //! The item of a part.
 
-ghost use Rattle.std.specs.Prelude.{◌≡◌, ◌≤◌, ◌∷◌, ◌++◌, ◌↔◌, ℕ, List, bytes_eq, length, IsTrue, IfSome, IfNone};
-ghost use Rattle.packed_list.specs.ListBytes.{two_bytes};
+ghost use Rattle.std.specs.Prelude.{◌≡◌, ◌∷◌, ◌++◌, ◌↔◌, ◌≤◌, take, drop, bytes_eq, length, IsTrue};
 ghost use Rattle.message_pattern.specs.PatternParts.{part_view, piece_view, selector_view, offset_view};
-ghost use Rattle.packed_pattern.specs.PackedParts.{content_bytes, has_digits, is_packable, is_packable_piece, item_bytes, kind_tag, offset_digits, piece_tag, selector_bytes};
-ghost use Rattle.packed_pattern.specs.Inner.PartReading.{behind_skip, begin_in, kind_in, offset_in, part_in, piece_in, skip_in};
+ghost use Rattle.packed_pattern.specs.PackedParts.{has_digits, is_packable, is_packable_piece, item_bytes, kind_tag, offset_digits, own_bytes, piece_tag, selector_bytes};
+ghost use Rattle.packed_pattern.specs.Inner.PartReading.{begin_in, kind_in, offset_in, part_in, piece_in, place_count, place_room, places_in};
 
 use message_pattern::{ArgumentKind, DEPTH_LIMIT, Part, Piece, Selector};
 
@@ -102,16 +101,6 @@ fn offset_in(digits: &[u8]) -> Option<&[u8]>
     }
 }
 
-// What stands behind the two bytes of a skip.
-fn behind_skip(content: &[u8]) -> &[u8]
-    ensures { result.now ≡ behind_skip content.now }
-{
-    match content {
-        [_, _, rest @ ..] => rest,
-        _ => &[],
-    }
-}
-
 // The beginning of an argument.
 fn begin_in(kind: ArgumentKind, content: &[u8]) -> Piece<'_>
     ensures { piece_view result ≡ begin_in kind content.now }
@@ -125,19 +114,40 @@ fn begin_in(kind: ArgumentKind, content: &[u8]) -> Piece<'_>
     }
 }
 
-// The piece of a form in what it has.
-fn piece_in(tag: u8, content: &[u8]) -> Piece<'_>
-    ensures { piece_view result ≡ piece_in tag content.now }
+// How many places a form has.
+pub(crate) fn place_count(tag: u8) -> usize
+    ensures count { result ≡ place_count tag }
+    ensures few { result ≤ 8 }
 {
     match tag {
-        0 => Piece::Text(content),
-        1 => Piece::Hash,
-        2 => Piece::Argument(content),
-        6 => Piece::Branch(Selector::Keyword(behind_skip(content))),
-        7 => Piece::Branch(Selector::Exactly(behind_skip(content))),
-        8 => Piece::End,
-        _ => begin_in(kind_in(tag), behind_skip(content)),
+        3 | 4 => 8,
+        5 | 7 => 2,
+        6 => 1,
+        _ => 0,
     }
+}
+
+// The piece of a form in what it has of its own.
+fn piece_in(tag: u8, own: &[u8]) -> Piece<'_>
+    ensures { piece_view result ≡ piece_in tag own.now }
+{
+    match tag {
+        0 => Piece::Text(own),
+        1 => Piece::Hash,
+        2 => Piece::Argument(own),
+        6 => Piece::Branch(Selector::Keyword(own)),
+        7 => Piece::Branch(Selector::Exactly(own)),
+        8 => Piece::End,
+        _ => begin_in(kind_in(tag), own),
+    }
+}
+
+// The bytes of the places of a form, as many as there are, and what stands behind them.
+fn split_places(tag: u8, content: &[u8]) -> (&[u8], &[u8])
+    ensures places { result.0.now ≡ take (place_room tag) content.now }
+    ensures own { result.1.now ≡ drop (place_room tag) content.now }
+{
+    content.split_at((2 * place_count(tag)).min(content.len()))
 }
 
 // The part that an item holds, if it is one.
@@ -147,7 +157,7 @@ pub(crate) fn part_in(item: &[u8]) -> Part<'_>
     match item {
         [tag, depth, content @ ..] => Part {
             depth: usize::from(*depth),
-            piece: piece_in(*tag, content),
+            piece: piece_in(*tag, split_places(*tag, content).1),
         },
         _ => Part {
             depth: 0,
@@ -156,26 +166,13 @@ pub(crate) fn part_in(item: &[u8]) -> Part<'_>
     }
 }
 
-// The skip that an item has, if it has one.
-pub(crate) fn skip_in(item: &[u8]) -> usize
-    ensures skip { result ≡ skip_in item.now }
-    ensures few { result ≤ 65535 }
+// The bytes of the places that an item has.
+pub(crate) fn places_in(item: &[u8]) -> &[u8]
+    ensures { result.now ≡ places_in item.now }
 {
     match item {
-        [_, _, low, high, ..] => usize::from(*low) + 256 * usize::from(*high),
-        _ => 0,
-    }
-}
-
-// What follows a skip, if it is in front.
-fn after_skip(skip: usize, content: &[u8]) -> Option<&[u8]>
-    ensures some { IfSome result (λ rest. content.now ≡ two_bytes skip ++ rest.now) }
-    ensures none { IfNone result ((rest : List ℕ) → content.now ≡ two_bytes skip ++ rest → ⊥) }
-{
-    match content {
-        [low, high, rest @ ..]
-            if usize::from(*low) == skip % 256 && usize::from(*high) == skip / 256 => Some(rest),
-        _ => None,
+        [tag, _, content @ ..] => split_places(*tag, content).0,
+        _ => &[],
     }
 }
 
@@ -202,42 +199,47 @@ fn is_begin(bytes: &[u8], name: &[u8], offset: Option<&[u8]>) -> bool
     }
 }
 
-// Whether these bytes are what a piece has.
-fn is_content(content: &[u8], piece: Piece<'_>, skip: usize) -> bool
-    ensures { IsTrue result ↔ (content.now ≡ content_bytes (piece_view piece.entry) skip) }
+// Whether these bytes are what a piece has of its own.
+fn is_own(bytes: &[u8], piece: Piece<'_>) -> bool
+    ensures { IsTrue result ↔ (bytes.now ≡ own_bytes (piece_view piece.entry)) }
 {
     match piece {
-        Piece::Text(text) => content == text,
-        Piece::Hash | Piece::End => content.is_empty(),
-        Piece::Argument(name) => content == name,
-        Piece::Begin(_, name, offset) => match after_skip(skip, content) {
-            Some(rest) => is_begin(rest, name, offset),
-            None => false,
-        },
-        Piece::Branch(selector) => match after_skip(skip, content) {
-            Some(rest) => rest == selector_bytes(selector),
-            None => false,
-        },
+        Piece::Text(text) => bytes == text,
+        Piece::Hash | Piece::End => bytes.is_empty(),
+        Piece::Argument(name) => bytes == name,
+        Piece::Begin(_, name, offset) => is_begin(bytes, name, offset),
+        Piece::Branch(selector) => bytes == selector_bytes(selector),
     }
 }
 
-// Whether an item is that of a part with a skip.
-fn holds(item: &[u8], part: Part<'_>, skip: usize) -> bool
-    ensures { IsTrue result ↔ (item.now ≡ item_bytes (part_view part.entry) skip) }
+// Whether these bytes are places and what a piece has of its own.
+fn is_content(content: &[u8], places: &[u8], piece: Piece<'_>) -> bool
+    ensures { IsTrue result ↔ (content.now ≡ places.now ++ own_bytes (piece_view piece.entry)) }
+{
+    if content.len() < places.len() {
+        return false;
+    }
+    let (front, own) = content.split_at(places.len());
+    front == places && is_own(own, piece)
+}
+
+// Whether an item is that of a part with these places.
+fn holds(item: &[u8], part: Part<'_>, places: &[u8]) -> bool
+    ensures { IsTrue result ↔ (item.now ≡ item_bytes (part_view part.entry) places.now) }
 {
     match item {
         [tag, depth, content @ ..] => {
             *tag == piece_tag(part.piece)
                 && usize::from(*depth) == part.depth
-                && is_content(content, part.piece, skip)
+                && is_content(content, places, part.piece)
         }
         _ => false,
     }
 }
 
 // The same as a test of bytes.
-pub(crate) fn is_item_of(item: &[u8], part: Part<'_>, skip: usize) -> bool
-    ensures { result ≡ bytes_eq item.now (item_bytes (part_view part.entry) skip) }
+pub(crate) fn is_item_of(item: &[u8], part: Part<'_>, places: &[u8]) -> bool
+    ensures { result ≡ bytes_eq item.now (item_bytes (part_view part.entry) places.now) }
 {
-    holds(item, part, skip)
+    holds(item, part, places)
 }

@@ -5,11 +5,15 @@ mod block;
 mod error;
 mod item;
 pub mod laws;
+mod order;
 mod packing;
 mod parts;
-mod skips;
+mod place_bytes;
+mod placed;
+mod places;
 mod source;
 
 pub use block::PackedPattern;
 pub use error::{BlockError, PackPatternError};
 pub use packing::pack;
+pub use placed::PlacedPart;

@@ -5,78 +5,76 @@ ghost use Rattle.std.specs.Result.{OnErr};
 ghost use Rattle.std.specs.List.{list_all};
 ghost use Rattle.message_pattern.specs.PatternParts.{part_view, parts_view, piece_view};
 ghost use Rattle.packed_list.specs.ListBytes.{StaysInFront, has_high_start};
-ghost use Rattle.packed_pattern.specs.PackedParts.{content_bytes, is_packable, is_packable_piece, items_of};
+ghost use Rattle.packed_pattern.specs.PartOrder.{before_all, first_misplaced};
+ghost use Rattle.packed_pattern.specs.PackedParts.{is_packable, is_packable_piece, items_of, own_bytes};
 ghost use Rattle.packed_pattern.specs.PatternBlocks.{PatternBlock, first_unpackable};
 
 use crate::error::PackPatternError;
 use crate::item::{is_packable, offset_digits, piece_tag, selector_bytes};
-use crate::skips::skip_of;
+use crate::order::first_misplaced;
+use crate::place_bytes::PlaceBytes;
+use crate::places::places_of;
 use message_pattern::{Part, Pattern, Piece};
 use packed_list::{ByteItem, ByteItems, ListWriter, PackError};
 use std::alloc::{AllocError, Global};
 
-// A part that is packed, and how many parts it skips.
+// A part that is packed, and its places.
 #[derive(Clone, Copy)]
 struct PartItem<'p> {
     part: Part<'p>,
-    skip: usize,
+    places: PlaceBytes,
     ghost packable: { is_packable (part_view part) ≡ true },
-    ghost few: { skip ≤ 65535 },
 }
 
 impl<'p> ByteItem for PartItem<'p> {
     ghost use Rattle.message_pattern.specs.PatternParts.{part_view};
     ghost use Rattle.packed_pattern.specs.PackedParts.{item_bytes};
+    ghost use Rattle.packed_pattern.specs.Inner.PlaceViews.{places_view};
 
-    ghost item_bytes = { λ item. item_bytes (part_view item.part) item.skip };
+    ghost item_bytes = { λ item. item_bytes (part_view item.part) (places_view item.places) };
 
     fn byte_count(&self) -> usize {
-        2 + content_count(self.part.piece)
+        2 + self.places.as_slice().len() + own_count(self.part.piece)
     }
 
     fn write_to(&self, bytes: &mut Vec<u8>) -> Result<(), AllocError> {
         bytes.extend_from_slice(&[piece_tag(self.part.piece), self.part.depth as u8])?;
-        write_content(self.part.piece, self.skip, bytes)
+        bytes.extend_from_slice(self.places.as_slice())?;
+        write_own(self.part.piece, bytes)
     }
 }
 
-// How many bytes a piece takes.
-fn content_count(piece: Piece<'_>) -> usize
+// How many bytes a piece has of its own.
+fn own_count(piece: Piece<'_>) -> usize
     requires { is_packable_piece (piece_view piece) ≡ true }
-    ensures count { (skip : ℕ) → result ≡ length (content_bytes (piece_view piece.entry) skip) }
+    ensures count { result ≡ length (own_bytes (piece_view piece.entry)) }
     ensures room { result < 2 ^ 63 + 300 }
 {
     match piece {
         Piece::Text(text) => text.len(),
         Piece::Hash | Piece::End => 0,
         Piece::Argument(name) => name.len(),
-        Piece::Begin(_, name, offset) => 3 + name.len() + offset_digits(offset).len(),
-        Piece::Branch(selector) => 2 + selector_bytes(selector).len(),
+        Piece::Begin(_, name, offset) => 1 + name.len() + offset_digits(offset).len(),
+        Piece::Branch(selector) => selector_bytes(selector).len(),
     }
 }
 
-// Writes what a piece has.
-fn write_content(piece: Piece<'_>, skip: usize, bytes: &mut Vec<u8>) -> Result<(), AllocError>
-    requires packable { is_packable_piece (piece_view piece) ≡ true }
-    requires few { skip ≤ 65535 }
-    ensures written { OnOk result (bytes.new.items ≡ bytes.old.items ++ content_bytes (piece_view piece.entry) skip) }
+// Writes what a piece has of its own.
+fn write_own(piece: Piece<'_>, bytes: &mut Vec<u8>) -> Result<(), AllocError>
+    requires { is_packable_piece (piece_view piece) ≡ true }
+    ensures written { OnOk result (bytes.new.items ≡ bytes.old.items ++ own_bytes (piece_view piece.entry)) }
     ensures kept { OnErr result (StaysInFront bytes.old.items bytes.new.items) }
 {
-    let low = (skip % 256) as u8;
-    let high = (skip / 256) as u8;
     match piece {
         Piece::Text(text) => bytes.extend_from_slice(text),
         Piece::Hash | Piece::End => Ok(()),
         Piece::Argument(name) => bytes.extend_from_slice(name),
         Piece::Begin(_, name, offset) => {
-            bytes.extend_from_slice(&[low, high, name.len() as u8])?;
+            bytes.push(name.len() as u8)?;
             bytes.extend_from_slice(name)?;
             bytes.extend_from_slice(offset_digits(offset))
         }
-        Piece::Branch(selector) => {
-            bytes.extend_from_slice(&[low, high])?;
-            bytes.extend_from_slice(selector_bytes(selector))
-        }
+        Piece::Branch(selector) => bytes.extend_from_slice(selector_bytes(selector)),
     }
 }
 
@@ -104,7 +102,7 @@ impl<'s, 'p> ByteItems for PartItems<'s, 'p> {
         self.parts = others;
         Some(PartItem {
             part,
-            skip: skip_of(part, others),
+            places: places_of(part, others),
         })
     }
 }
@@ -125,15 +123,19 @@ fn first_unpackable(parts: &[Part<'_>]) -> Option<usize>
 ///
 /// The errors, in the order in which they are looked for: more than 65535 parts
 /// ([`PackPatternError::CountLimit`]); the first part that is more than 32 branches deep, or begins
-/// an argument whose name has more than 255 bytes ([`PackPatternError::Part`]); a part that would
-/// start after place 65535 of the data ([`PackPatternError::StartLimit`]); out of memory
-/// ([`PackPatternError::Memory`]).
+/// an argument whose name has more than 255 bytes ([`PackPatternError::Part`]); the first part that
+/// may not stand where it does, as an end without a beginning ([`PackPatternError::Order`]), which no
+/// pattern that was read has; a part that would start after place 65535 of the data
+/// ([`PackPatternError::StartLimit`]); out of memory ([`PackPatternError::Memory`]).
 pub fn pack(alloc: Global, pattern: &Pattern<'_>) -> Result<Vec<u8>, PackPatternError>
     ensures ok { IfOk result (λ bytes. PatternBlock pattern.now bytes.items) }
     ensures count_limit { (result ≡ Err PackPatternError.CountLimit) ↔ (65535 < length pattern.now) }
     ensures part { (place : ℕ) → (result ≡ Err (PackPatternError.Part place)) ↔ ((length pattern.now ≤ 65535) × (first_unpackable 0 pattern.now ≡ Some place)) }
+    ensures order { (place : ℕ) → (result ≡ Err (PackPatternError.Order place))
+        ↔ ((length pattern.now ≤ 65535) × (first_unpackable 0 pattern.now ≡ None) × (first_misplaced 0 before_all pattern.now ≡ Some place)) }
     ensures start_limit { (result ≡ Err PackPatternError.StartLimit)
-        ↔ ((length pattern.now ≤ 65535) × (first_unpackable 0 pattern.now ≡ None) × IsTrue (has_high_start (items_of pattern.now))) }
+        ↔ ((length pattern.now ≤ 65535) × (first_unpackable 0 pattern.now ≡ None) × (first_misplaced 0 before_all pattern.now ≡ None)
+        × IsTrue (has_high_start (items_of pattern.now))) }
 {
     let parts = pattern.parts();
     if parts.len() > 65535 {
@@ -141,6 +143,9 @@ pub fn pack(alloc: Global, pattern: &Pattern<'_>) -> Result<Vec<u8>, PackPattern
     }
     if let Some(place) = first_unpackable(parts) {
         return Err(PackPatternError::Part(place));
+    }
+    if let Some(place) = first_misplaced(parts) {
+        return Err(PackPatternError::Order(place));
     }
     match ListWriter::new(PartItems { parts }) {
         Ok(list) => match list.to_bytes(alloc) {

@@ -18,3 +18,7 @@ pub mod StepTexts
 pub mod ShortChecks
 -- the words of a text
 pub mod SampleLemmas
+-- the least numbers of each category
+pub mod SeenNumbers
+pub mod ToldLists
+pub mod Soughts

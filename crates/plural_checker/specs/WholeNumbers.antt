@@ -5,11 +5,16 @@
 --     AreTwoLeastOf Holds first second      the two least ones, as far as there are two
 --     IsLeastFrom rules category start found      the least one from a start that has the category
 --     AreTwoLeast rules category first second      the two least ones that have it
+--     AreLeastOfEach rules start least      the least one from a start of each category
+--     AreTwoLeastOfEach rules start least      the two least ones of each
 use Rattle.std.specs.Prelude.{◌≡◌, ◌+◌, ◌≤◌, ◌<◌, ℕ, Option, Some, None}
 use Rattle.icu_plurals.specs.declared.PluralCategory.{PluralCategory}
+use Rattle.icu_plurals.specs.declared.PluralCategory.TheVariants.{Zero, One, Two, Few, Many, Other}
 use Rattle.icu_plurals.specs.FiveRules.{FiveRules, first_category}
 use Rattle.icu_plurals.specs.Operands.{of_whole}
 use Rattle.icu_plurals.specs.PackedTruth.{packed_truth}
+use Rattle.plural_checker.specs.declared.least_numbers.LeastNumbers.{LeastNumbers}
+use Rattle.plural_checker.specs.declared.two_numbers.TwoNumbers.{TwoNumbers}
 
 -- the whole numbers that are looked at are those below this one
 abbrev pub whole_limit : ℕ
@@ -25,15 +30,21 @@ HasWhole rules category n = first_category (packed_truth (of_whole n)) rules ≡
 abbrev pub HoldsNowhere : (ℕ → Type 0) → ℕ → ℕ → Type 0
 HoldsNowhere Holds start end = (n : ℕ) → start ≤ n → n < end → ¬ (Holds n)
 
--- the least number from a start, and below the limit, of which it holds, if there is one
-abbrev pub IsLeast : (ℕ → Type 0) → ℕ → Option ℕ → Type 0
-IsLeast Holds start None = HoldsNowhere Holds start whole_limit
-IsLeast Holds start (Some n) = (start ≤ n) × (n < whole_limit) × Holds n × HoldsNowhere Holds start n
+-- the least number from a start, and below an end, of which it holds, if there is one
+abbrev pub IsLeastBelow : (ℕ → Type 0) → ℕ → ℕ → Option ℕ → Type 0
+IsLeastBelow Holds start end None = HoldsNowhere Holds start end
+IsLeastBelow Holds start end (Some n) = (start ≤ n) × (n < end) × Holds n × HoldsNowhere Holds start n
 
 -- the second is the least one after the first; without a first there is none
+abbrev pub AreTwoBelow : (ℕ → Type 0) → ℕ → ℕ → Option ℕ → Option ℕ → Type 0
+AreTwoBelow Holds start end None second = IsLeastBelow Holds start end None × (second ≡ None)
+AreTwoBelow Holds start end (Some first) second = IsLeastBelow Holds start end (Some first) × IsLeastBelow Holds (first + 1) end second
+
+abbrev pub IsLeast : (ℕ → Type 0) → ℕ → Option ℕ → Type 0
+IsLeast Holds start found = IsLeastBelow Holds start whole_limit found
+
 abbrev pub AreTwoLeastOf : (ℕ → Type 0) → Option ℕ → Option ℕ → Type 0
-AreTwoLeastOf Holds None second = IsLeast Holds 0 None × (second ≡ None)
-AreTwoLeastOf Holds (Some first) second = IsLeast Holds 0 (Some first) × IsLeast Holds (first + 1) second
+AreTwoLeastOf Holds first second = AreTwoBelow Holds 0 whole_limit first second
 
 -- ---- Those that have a category
 
@@ -42,3 +53,23 @@ IsLeastFrom rules category start found = IsLeast (λ n. HasWhole rules category 
 
 abbrev pub AreTwoLeast : FiveRules → PluralCategory → Option ℕ → Option ℕ → Type 0
 AreTwoLeast rules category first second = AreTwoLeastOf (λ n. HasWhole rules category n) first second
+
+-- the two least ones from a start
+abbrev pub AreTwoLeastFrom : FiveRules → PluralCategory → ℕ → TwoNumbers → Type 0
+AreTwoLeastFrom rules category start two = AreTwoBelow (λ n. HasWhole rules category n) start whole_limit two.first two.second
+
+-- ---- Those of each category
+
+abbrev pub least_at : LeastNumbers → PluralCategory → TwoNumbers
+least_at least Zero = least.five.zero
+least_at least One = least.five.one
+least_at least Two = least.five.two
+least_at least Few = least.five.few
+least_at least Many = least.five.many
+least_at least Other = least.other
+
+pub record AreLeastOfEach (rules : FiveRules) (start : ℕ) (least : LeastNumbers) : Type 0 where
+  pub at : (c : PluralCategory) → IsLeastFrom rules c start (least_at least c).first
+
+pub record AreTwoLeastOfEach (rules : FiveRules) (start : ℕ) (least : LeastNumbers) : Type 0 where
+  pub at : (c : PluralCategory) → AreTwoLeastFrom rules c start (least_at least c)

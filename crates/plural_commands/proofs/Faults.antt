@@ -1,25 +1,15 @@
 -- A fault of a step is the fault of the whole.
 use Rattle.std.proofs.Common.{◌≡◌, ℕ, List, Result, Ok, Err, refl, sym, ◌∙◌, ap, subst}
 use Rattle.std.specs.Cow.{cow_str_bytes}
-use Rattle.plural_commands.specs.Answer.{AnswersFrom}
+use Rattle.plural_commands.specs.Answer.{AnswersFrom, run_origin}
 use Rattle.plural_commands.specs.Inner.CallAnswers.{GivesAnswer, GivesRunFault, GivesText, GivesValue, Text}
+use Rattle.plural_documents.proofs.InputLemmas as faults
 use Rattle.plural_documents.specs.Steps.{After, HasNoFault, Then, ◌>>=◌}
 use Rattle.plural_commands.specs.declared.error.RunError.{RunError}
-use Rattle.plural_commands.specs.declared.error.RunError.TheVariants.{Usage, Condition, Number, Read, TooLong}
-use Rattle.plural_commands.specs.declared.error.RunError.TheVariants.{Json, Document, Locale, Write, Memory}
 
 -- a call that gives a fault of one kind also gives a fault of a wider kind
 pub mapped : (P Q : RunError → Type 0) → ((fault : RunError) → P fault → Q fault) → (e : RunError) → GivesRunFault P e → GivesRunFault Q e
-mapped P Q f Usage h = f _ h
-mapped P Q f (Condition k) h = f _ h
-mapped P Q f (Number k) h = f _ h
-mapped P Q f Read h = h
-mapped P Q f TooLong h = f _ h
-mapped P Q f Json h = f _ h
-mapped P Q f (Document k) h = f _ h
-mapped P Q f Locale h = f _ h
-mapped P Q f Write h = h
-mapped P Q f Memory h = tt
+mapped P Q f e h = faults.mapped (run_origin e) (f e) h
 
 -- `?` passes on the error of the call
 pub handed_on : {X : Type 0} (r : Result X RunError) (e : RunError) (p : (f : RunError) × (r ≡ Err f) × (f ≡ e)) → r ≡ Err e

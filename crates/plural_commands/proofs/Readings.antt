@@ -1,5 +1,6 @@
 -- The answer after the input was read, or could not be read.
 use Rattle.std.proofs.Common.{◌≡◌, ◌≤◌, ℕ, List, length, Option, Some, None, Result, Ok, Err, refl, sym, subst}
+use Rattle.std.specs.Cow.{cow_str_bytes}
 use Rattle.std.specs.Prelude.{⊤}
 use Rattle.std.specs.Io.KnownBytes.{Keeps}
 use Rattle.plural_commands.specs.Answer.{IsAnswered, IsNotRead, run_origin}
@@ -12,39 +13,7 @@ use Rattle.plural_commands.specs.declared.error.RunError.TheVariants.{Json, Docu
 use Rattle.plural_documents.specs.Inputs.{GivesInput, IsInput, IsRead, IsReadAfter, IsReadToEnd, input_origin, most_bytes}
 use Rattle.plural_documents.specs.declared.InputError.{InputError}
 use Rattle.plural_documents.specs.declared.InputError.TheVariants as cause
-use Rattle.plural_documents.proofs.InputLemmas.{all_is_some, beyond, none_read, some_input, within}
-
--- ---- The answer of a call that may read
-
--- what a call without reading gives, a call with reading may give
-pub without_reading : (IsAnswer : Result (List ℕ) RunError → Type 0) (r : Result Text RunError)
-    → GivesText IsAnswer r → GivesTextAfterReading IsAnswer r
-without_reading IsAnswer (Ok text) h = h
-without_reading IsAnswer (Err Usage) h = h
-without_reading IsAnswer (Err (Condition k)) h = h
-without_reading IsAnswer (Err (Number k)) h = h
-without_reading IsAnswer (Err Read) h = tt
-without_reading IsAnswer (Err TooLong) h = h
-without_reading IsAnswer (Err Json) h = h
-without_reading IsAnswer (Err (Document k)) h = h
-without_reading IsAnswer (Err Locale) h = h
-without_reading IsAnswer (Err Write) h = h
-without_reading IsAnswer (Err Memory) h = tt
-
--- a call that gives an answer of one kind also gives an answer of a wider kind
-pub implied : (P Q : Result (List ℕ) RunError → Type 0) → ((a : Result (List ℕ) RunError) → P a → Q a)
-    → (r : Result Text RunError) → GivesTextAfterReading P r → GivesTextAfterReading Q r
-implied P Q f (Ok text) h = f _ h
-implied P Q f (Err Usage) h = f _ h
-implied P Q f (Err (Condition k)) h = f _ h
-implied P Q f (Err (Number k)) h = f _ h
-implied P Q f (Err Read) h = tt
-implied P Q f (Err TooLong) h = f _ h
-implied P Q f (Err Json) h = f _ h
-implied P Q f (Err (Document k)) h = f _ h
-implied P Q f (Err Locale) h = f _ h
-implied P Q f (Err Write) h = h
-implied P Q f (Err Memory) h = tt
+use Rattle.plural_documents.proofs.InputLemmas.{all_is_some, beyond, none_read, some_input, within, without_reading}
 
 -- ---- The input can't be read
 
@@ -88,7 +57,7 @@ pub of_all : (Next : WholeDocument → Result (List ℕ) RunError → Type 0) (w
 of_all Next whole bytes short same r h =
     let all = subst (λ (read : List ℕ). GivesText (After Next (document_of read)) r) same h in
     subst (λ (document : Result WholeDocument RunError). GivesTextAfterReading (After Next document) r) (sym (within TooLong document_of whole short))
-    (without_reading (After Next (document_of whole)) r all)
+    (without_reading run_origin cow_str_bytes (After Next (document_of whole)) r all)
 
 -- if no answer says that the input is too long, it was read to its end
 pub to_the_end : (IsAnswer : Result (List ℕ) RunError → Type 0) (old new : Option (List ℕ)) → (IsAnswer (Err TooLong) → ⊥)

@@ -7,7 +7,8 @@ use Rattle.std.proofs.lemmas.List.{append-nil, length-append}
 use Rattle.std.specs.Io.KnownBytes.{Consumes, IsAtEnd}
 use Rattle.std.specs.declared.alloc.Global.{Global}
 use Rattle.std.proofs.KnownBytes.{Consumes-nil}
-use Rattle.plural_documents.specs.Inputs.{GivesInput, IsInput, IsRead, IsReadToEnd, IsReadUpTo, input_origin, most_bytes, within_limit}
+use Rattle.plural_documents.specs.Inputs.{GivesBy, GivesByReading, GivesInput, IsFaultOf, IsFaultOfReading, IsInput, IsRead, IsReadToEnd, IsReadUpTo, Origin}
+use Rattle.plural_documents.specs.Inputs.{from_answer, from_length, from_memory, from_reader, from_writer, input_origin, most_bytes, within_limit}
 use Rattle.plural_documents.specs.declared.input.InputError.{InputError}
 use Rattle.plural_documents.specs.declared.input.InputError.TheVariants.{Read, TooLong, Memory}
 
@@ -96,3 +97,37 @@ one_more n most h = omega arith
 -- an input that was read to its end is at most as long as the limit
 pub all_is_some : (old new : Option (List ℕ)) → IsReadToEnd old new → IsReadUpTo old new
 all_is_some old new read = (read.0, read.1, one_more (length read.0) most_bytes read.3)
+
+-- a call that gives a fault of one kind also gives a fault of a wider kind
+pub mapped : (origin : Origin) {P Q : Type 0} → (P → Q) → IsFaultOf origin P → IsFaultOf origin Q
+mapped from_reader f h = h
+mapped from_length f h = f h
+mapped from_writer f h = h
+mapped from_memory f h = tt
+mapped from_answer f h = f h
+
+-- what a call without reading gives, a call with reading may give
+pub without_reading : {A B E : Type 0} (origin : E → Origin) (seen : A → B) (IsAnswer : Result B E → Type 0) (r : Result A E)
+    → GivesBy origin seen IsAnswer r → GivesByReading origin seen IsAnswer r
+without_reading origin seen IsAnswer (Ok x) h = h
+without_reading origin seen IsAnswer (Err e) h = by_origin (origin e) (IsAnswer (Err e)) h
+  where
+    by_origin : (o : Origin) (Is : Type 0) → IsFaultOf o Is → IsFaultOfReading o Is
+    by_origin from_reader Is h = tt
+    by_origin from_length Is h = h
+    by_origin from_writer Is h = h
+    by_origin from_memory Is h = tt
+    by_origin from_answer Is h = h
+
+-- a call that gives an answer of one kind also gives an answer of a wider kind
+pub implied : {A B E : Type 0} (origin : E → Origin) (seen : A → B) (P Q : Result B E → Type 0) → ((answer : Result B E) → P answer → Q answer)
+    → (r : Result A E) → GivesByReading origin seen P r → GivesByReading origin seen Q r
+implied origin seen P Q f (Ok x) h = f _ h
+implied origin seen P Q f (Err e) h = by_origin (origin e) (P (Err e)) (Q (Err e)) (f (Err e)) h
+  where
+    by_origin : (o : Origin) (P Q : Type 0) → (P → Q) → IsFaultOfReading o P → IsFaultOfReading o Q
+    by_origin from_reader P Q f h = tt
+    by_origin from_length P Q f h = f h
+    by_origin from_writer P Q f h = h
+    by_origin from_memory P Q f h = tt
+    by_origin from_answer P Q f h = f h

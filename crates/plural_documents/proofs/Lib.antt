@@ -8,6 +8,7 @@ pub mod HeldTokenLemmas
 pub mod HeldValues
 pub mod OutlineLemmas
 pub mod KindLemmas
+pub mod MemberSteps
 pub mod NumberLemmas
 pub mod OpenLemmas
 pub mod OutlinedLemmas

@@ -55,6 +55,32 @@ input_origin Read = from_reader
 input_origin TooLong = from_length
 input_origin Memory = from_memory
 
+-- a fault of this origin, which is this one; or out of memory; the call neither reads nor writes
+abbrev pub IsFaultOf : Origin → Type 0 → Type 0
+IsFaultOf from_reader Is = ⊥
+IsFaultOf from_length Is = Is
+IsFaultOf from_writer Is = ⊥
+IsFaultOf from_memory Is = ⊤
+IsFaultOf from_answer Is = Is
+
+-- the same of a call that reads, which may fail
+abbrev pub IsFaultOfReading : Origin → Type 0 → Type 0
+IsFaultOfReading from_reader Is = ⊤
+IsFaultOfReading from_length Is = Is
+IsFaultOfReading from_writer Is = ⊥
+IsFaultOfReading from_memory Is = ⊤
+IsFaultOfReading from_answer Is = Is
+
+-- the result of a call that neither reads nor writes, in the words of the definitions, or out of memory
+abbrev pub GivesBy : {A B E : Type 0} → (E → Origin) → (A → B) → (Result B E → Type 0) → Result A E → Type 0
+GivesBy origin seen IsAnswer (Ok x) = IsAnswer (Ok (seen x))
+GivesBy origin seen IsAnswer (Err e) = IsFaultOf (origin e) (IsAnswer (Err e))
+
+-- the same of a call that reads
+abbrev pub GivesByReading : {A B E : Type 0} → (E → Origin) → (A → B) → (Result B E → Type 0) → Result A E → Type 0
+GivesByReading origin seen IsAnswer (Ok x) = IsAnswer (Ok (seen x))
+GivesByReading origin seen IsAnswer (Err e) = IsFaultOfReading (origin e) (IsAnswer (Err e))
+
 -- ---- What is read
 
 -- all that remained in the reader, within the limit

@@ -5,5 +5,6 @@ pub mod Steps
 pub mod Outlines
 -- the lines of a report
 pub mod FirstLines
+pub mod FoundMembers
 -- not definitions of the subject
 pub mod Inner

@@ -12,9 +12,9 @@ use crate::locales::{Locales, Part};
 use serde_json::{Map, Value};
 use std::str;
 
-// The most bytes of a locale that is looked up. Of a longer one the length tells it apart from most
-// keys, and a look-up would read all of it.
-const MOST_LOOKED_UP: usize = 64;
+/// The most bytes of a locale that a JSON document looks up. Of a longer one the length tells it
+/// apart from most keys, and a look-up would read all of it.
+pub const MOST_LOOKED_UP: usize = 64;
 
 /// A document of rules and ranges: the keys of each part, and as parents the texts of its part
 /// `parents`.

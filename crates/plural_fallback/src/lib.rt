@@ -14,6 +14,7 @@ mod unknown;
 pub use chain::next_locale;
 pub use error::FallbackError;
 pub use first_key::{MOST_LOCALES, find_first};
+pub use json::MOST_LOOKED_UP;
 pub use locale::{is_same, language};
 pub use locales::{Locales, Part};
 pub use provider::{FallbackProvider, Loaded};

@@ -1,16 +1,25 @@
 //! The kinds of rows: one file a subject.
 
 mod asked_categories;
+mod catalogs;
 mod categories;
 mod conditions;
 mod decimals;
-mod error_texts;
+mod elements;
+mod elements_json;
 mod five_rules;
 mod integer_categories;
 mod lists;
 mod locales;
+mod messages;
 mod operands;
+mod packed_patterns;
 mod packed_rules;
+mod packed_texts;
+mod packing;
+mod pattern_texts;
+mod patterns;
+mod plural_forms;
 mod prepared_categories;
 mod range_categories;
 mod ranges;
@@ -20,21 +29,27 @@ mod rules_bytes;
 mod rules_json;
 mod runs;
 mod samples;
+mod styled_patterns;
+mod text_arguments;
 mod text_categories;
 mod tokens;
 mod trees;
-mod upper;
 
-use crate::call::Call;
+use row_calls::call::Call;
+use row_calls::run::Kinds;
 
-/// Makes the call of a kind, and prints its result as a short text. Returns whether there is such a
-/// kind.
-pub fn make(kind: &str, call: &mut Call) -> bool {
-    of_texts(kind, call)
-        || of_packed(kind, call)
-        || of_languages(kind, call)
-        || of_documents(kind, call)
-        || upper::make(kind, call)
+/// The calls of rows.
+pub struct Calls;
+
+impl Kinds for Calls {
+    fn make(kind: &str, call: &mut Call) -> bool {
+        of_texts(kind, call)
+            || of_packed(kind, call)
+            || of_languages(kind, call)
+            || of_documents(kind, call)
+            || of_elements(kind, call)
+            || of_patterns(kind, call)
+    }
 }
 
 // Kinds of texts and numbers.
@@ -65,11 +80,30 @@ fn of_languages(kind: &str, call: &mut Call) -> bool {
         || rules_bytes::make(kind, call)
 }
 
-// Kinds of ranges, documents and errors.
+// Kinds of ranges and documents.
 fn of_documents(kind: &str, call: &mut Call) -> bool {
     range_categories::make(kind, call)
         || ranges::make(kind, call)
         || rules_json::make(kind, call)
         || locales::make(kind, call)
-        || error_texts::make(kind, call)
+}
+
+// Kinds of elements and messages.
+fn of_elements(kind: &str, call: &mut Call) -> bool {
+    elements::make(kind, call)
+        || packing::make(kind, call)
+        || packed_texts::make(kind, call)
+        || elements_json::make(kind, call)
+        || messages::make(kind, call)
+}
+
+// Kinds of patterns and of gettext's files.
+fn of_patterns(kind: &str, call: &mut Call) -> bool {
+    patterns::make(kind, call)
+        || styled_patterns::make(kind, call)
+        || pattern_texts::make(kind, call)
+        || packed_patterns::make(kind, call)
+        || plural_forms::make(kind, call)
+        || catalogs::make(kind, call)
+        || text_arguments::make(kind, call)
 }

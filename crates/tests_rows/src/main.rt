@@ -5,19 +5,14 @@
 //! are none.
 #![tactic(auto)]
 
-mod arguments;
-mod call;
-mod fault;
 mod kinds;
-mod row;
-mod run;
-mod tally;
 
-use run::run;
+use kinds::Calls;
+use row_calls::run::run;
 use std::process::ExitCode;
 
 fn main(rt: HostRuntime) -> ExitCode {
-    match run(&rt) {
+    match run::<Calls>(&rt) {
         Ok(true) => ExitCode::SUCCESS,
         Ok(false) => ExitCode::FAILURE,
         Err(fault) => {

@@ -34,8 +34,7 @@ use arb_locale::locale_of_name;
 use document_places::{PlacesFound, places_of_document};
 use fault::tell_fault;
 use found_messages::{add_found, messages_in, tell_repeated};
-use icu_message::category_named;
-use icu_plurals::PluralRuleType;
+use icu_plurals::{PluralCategory, PluralRuleType};
 use json::Scratch;
 use message_report::RulesOfLocales;
 use serde_json::{Map, Value};
@@ -146,7 +145,9 @@ fn has_forms(message: &Value) -> bool {
         return false;
     };
     for (name, form) in forms.iter() {
-        if matches!(form, Value::String(_)) && category_named(name.as_bytes()).is_some() {
+        if matches!(form, Value::String(_))
+            && PluralCategory::get_for_cldr_string(name.as_str()).is_some()
+        {
             return true;
         }
     }

@@ -5,15 +5,16 @@ use Rattle.icu_plurals.specs.declared.PluralCategory.{PluralCategory}
 use Rattle.icu_plurals.specs.declared.PluralCategory.TheVariants.{Zero, One, Two, Few, Many, Other}
 use Rattle.plural_documents.specs.declared.InputError.{InputError}
 use Rattle.plural_documents.specs.declared.InputError.TheVariants as cause
-use Rattle.document_report.specs.CheckAnswer.{Answer}
+use Rattle.document_report.specs.CheckAnswer.{Answer, check_origin}
 use Rattle.document_report.specs.declared.error.CheckError.{CheckError}
-use Rattle.document_report.specs.declared.error.CheckError.TheVariants.{Read, TooLong, Write, Memory}
+use Rattle.document_report.specs.declared.error.CheckError.TheVariants.{Read, TooLong, Memory}
 use Rattle.document_report.specs.declared.run.Answer.{Answer as CodeAnswer}
 use Rattle.plural_checker.specs.declared.Fault.{Fault}
 use Rattle.document_report.specs.DocumentFindings.{Finding}
 use Rattle.document_report.specs.DocumentPlaces.{LocalePlace}
 use Rattle.document_report.specs.DocumentReport.{text_finding}
 use Rattle.plural_documents.specs.FirstLines.{most_told}
+use Rattle.plural_documents.specs.Inputs.{GivesBy, GivesByReading, IsFaultOf}
 
 -- ---- Values
 
@@ -38,15 +39,11 @@ category_numbered number =
 
 -- a fault of this kind, or out of memory; the call neither reads nor writes
 abbrev pub GivesFault : (CheckError → Type 0) → CheckError → Type 0
-GivesFault IsFault Memory = ⊤
-GivesFault IsFault Read = ⊥
-GivesFault IsFault Write = ⊥
-GivesFault IsFault fault = IsFault fault
+GivesFault IsFault fault = IsFaultOf (check_origin fault) (IsFault fault)
 
 -- the result, in the words of the definitions, or out of memory
 abbrev pub Gives : {A B : Type 0} → (A → B) → (Result B CheckError → Type 0) → Result A CheckError → Type 0
-Gives seen IsAnswer (Ok x) = IsAnswer (Ok (seen x))
-Gives seen IsAnswer (Err e) = GivesFault (λ fault. IsAnswer (Err fault)) e
+Gives seen = GivesBy check_origin seen
 
 -- the same if there is only one result
 abbrev pub GivesOnly : {A B : Type 0} → (A → B) → Result B CheckError → Result A CheckError → Type 0
@@ -54,8 +51,7 @@ GivesOnly seen value = Gives seen (λ answer. value ≡ answer)
 
 -- the result of a call that reads, which may fail
 abbrev pub GivesAfterReading : (Result Answer CheckError → Type 0) → Result CodeAnswer CheckError → Type 0
-GivesAfterReading IsAnswer (Err Read) = ⊤
-GivesAfterReading IsAnswer result = Gives answer_view IsAnswer result
+GivesAfterReading = GivesByReading check_origin answer_view
 
 -- the finding of a fault, if few enough of the same text come before it
 abbrev pub told_after : LocalePlace → ℕ → Fault → List Finding

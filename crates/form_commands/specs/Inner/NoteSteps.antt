@@ -1,14 +1,27 @@
 -- Not a definition of the subject: notes are written after an answer.
-use Rattle.std.specs.Prelude.{◌≡◌, ◌⊎◌, ℕ, List, IfOk, Option, Result, Ok, Err}
+use Rattle.std.specs.Prelude.{◌≡◌, ◌⊎◌, ℕ, List, [], IfOk, Option, Result, Ok, Err, String, string_bytes}
 use Rattle.std.specs.Io.KnownBytes.{Appends, Keeps}
 use Rattle.std.specs.declared.alloc.AllocError.{AllocError}
+use Rattle.std.specs.declared.alloc.Global.{Global}
+use Rattle.plural_fallback.specs.declared.error.FallbackError.{FallbackError}
+use Rattle.plural_fallback.specs.declared.locales.Part.{Part}
 use Rattle.form_commands.specs.Inner.RunSteps.{WritesAnswer}
+use Rattle.form_commands.specs.KeyNotes.{note_text}
 use Rattle.form_commands.specs.PrintedTexts.{PrintedText}
 use Rattle.form_commands.specs.declared.error.LanguageError.{LanguageError}
 use Rattle.plural_documents.specs.Inputs.{IsPartWritten}
 use Rattle.form_commands.specs.declared.error.FormsError.{FormsError}
 use Rattle.form_commands.specs.declared.error.FormsError.TheVariants.{Write, Memory}
 use Rattle.form_commands.specs.declared.error.Verdict.{Verdict}
+use Rattle.form_commands.specs.declared.outline.KeptRules.{KeptRules}
+
+-- the note of the key that is kept
+abbrev pub note_of_key : Part → List ℕ → Result (String Global) FallbackError → List ℕ
+note_of_key part locale (Ok key) = note_text [] part locale (string_bytes key)
+note_of_key part locale (Err reason) = []
+
+abbrev pub IsKeptNote : KeptRules → Part → List ℕ → List ℕ → Type 0
+IsKeptNote kept part locale note = note ≡ note_of_key part locale kept.key
 
 -- all notes, or that the writer failed; without an answer none
 abbrev pub Notes : Result Verdict FormsError → List ℕ → Option (List ℕ) → Option (List ℕ) → Result Verdict FormsError → Type 0

@@ -1,6 +1,6 @@
 -- Not a definition of the subject: what is kept of a document of rules for one locale, and when it
 -- serves as the whole does.
-use Rattle.std.specs.Prelude.{◌≡◌, ℕ, ◌<◌, List, [], ◌∷◌, codes, Bool, true, ◌||◌, bytes_eq, length, map, take, Some, None, Result, Ok, Err, if◌then◌else◌}
+use Rattle.std.specs.Prelude.{◌≡◌, ℕ, ◌<◌, List, [], ◌∷◌, codes, Bool, true, ◌||◌, bytes_eq, length, map, take, Some, None, Result, Ok, Err, string_bytes, if◌then◌else◌}
 use Rattle.std.specs.Borrow.{Bor}
 use Rattle.std.specs.List.{list_any}
 use Rattle.plural_documents.specs.Inputs.{json_of}
@@ -17,13 +17,13 @@ use Rattle.plural_fallback.specs.declared.error.FallbackError.{FallbackError}
 use Rattle.plural_fallback.specs.declared.locales.Part.{Part}
 use Rattle.serde_json.specs.Data.{Data}
 use Rattle.serde_json.specs.View.{view}
-use Rattle.serde_json.specs.declared.Value.{Value}
-use Rattle.form_commands.specs.KeyNotes.{IsKeyNote}
-use Rattle.form_commands.specs.Languages.{HasNoKey, IsFoundFor, IsKeyOf, key_after, most_locales}
+use Rattle.form_commands.specs.Languages.{HasNoKey, IsFoundAt, IsKeyOf, key_after, most_locales, value_at}
 use Rattle.form_commands.specs.declared.error.LanguageError.{LanguageError}
+use Rattle.form_commands.specs.declared.error.LanguageError.TheVariants.{NotFound}
 use Rattle.form_commands.specs.declared.language.Language.{Language}
 use Rattle.form_commands.specs.declared.outline.KeptLocales.{KeptLocales}
 use Rattle.form_commands.specs.declared.outline.KeptLocales.TheVariants.{All, Fronts, These}
+use Rattle.form_commands.specs.declared.outline.KeptRules.{KeptRules}
 use Rattle.form_commands.specs.declared.outline.RulesSieve.{RulesSieve}
 use Rattle.form_commands.specs.declared.outline.RulesSieve.TheVariants.{Document, Keys, Parents}
 
@@ -64,24 +64,49 @@ IsInsideAt locales document part locale n =
 abbrev pub StaysInside : KeptLocales → Data → Part → List ℕ → Type 0
 StaysInside locales document part locale = (n : ℕ) → n < most_locales → IsInsideAt locales document part locale n
 
--- what is found for the locale is found in the whole
-abbrev pub Serves : Part → List ℕ → Data → Data → Type 0
-Serves part locale document whole =
-    ((answer : Result Language LanguageError) → IsFoundFor document part locale answer → IsFoundFor whole part locale answer)
-    × ((place note : List ℕ) → IsKeyNote document place part locale note → IsKeyNote whole place part locale note)
-    × ((key : List ℕ) → IsKeyOf document part locale key → IsKeyOf whole part locale key)
-    × ((reason : FallbackError) → HasNoKey document part locale reason → HasNoKey whole part locale reason)
+-- the first key, or why there is none
+abbrev pub IsFirst : Data → Part → List ℕ → Result (List ℕ) FallbackError → Type 0
+IsFirst document part locale (Ok key) = IsKeyOf document part locale key
+IsFirst document part locale (Err reason) = HasNoKey document part locale reason
+
+-- a key as its text
+abbrev pub key_by : {K : Type 0} → (K → List ℕ) → Result K FallbackError → Result (List ℕ) FallbackError
+key_by text (Ok key) = Ok (text key)
+key_by text (Err reason) = Err reason
+
+-- it is found before the chain leaves the kept locales
+abbrev pub IsFirstInside : KeptLocales → Data → Part → List ℕ → Result (List ℕ) FallbackError → Type 0
+IsFirstInside locales document part locale first = StaysInside locales document part locale × IsFirst document part locale first
+
+-- the first key of the whole has in a document what it has in the whole
+abbrev pub ServesAt : Part → List ℕ → Data → Data → Result (List ℕ) FallbackError → Type 0
+ServesAt part locale document whole (Ok key) = IsKeyOf whole part locale key × (value_at document part key ≡ value_at whole part key)
+ServesAt part locale document whole (Err reason) = HasNoKey whole part locale reason
+
+-- so has that of what is kept
+abbrev pub Serves : Part → List ℕ → KeptRules → Data → Type 0
+Serves part locale kept whole = ServesAt part locale (view kept.document) whole (key_by string_bytes kept.key)
 
 -- the part and the parents are held of the text
 abbrev pub HoldsPart : Part → HeldText → Type 0
 HoldsPart part text = text.names ≡ Some (part_name part ∷ codes "parents" ∷ [])
 
 -- the same of the value that the bytes write
-abbrev pub IsServedBy : Part → List ℕ → List ℕ → Data → Type 0
-IsServedBy part locale bytes document = (whole : Data) × (json_of bytes ≡ Some whole) × Serves part locale document whole
+abbrev pub IsServedBy : Part → List ℕ → List ℕ → KeptRules → Type 0
+IsServedBy part locale bytes kept = (whole : Data) × (json_of bytes ≡ Some whole) × Serves part locale kept whole
 
--- a value serves; or the bytes are no JSON text, or memory ran out, which needs a byte
-abbrev pub GivesRulesOutline : Part → List ℕ → List ℕ → Result Value JsonTextError → Type 0
-GivesRulesOutline part locale bytes (Ok value) = IsServedBy part locale bytes (view value)
-GivesRulesOutline part locale bytes (Err fault.Json) = json_of bytes ≡ None
-GivesRulesOutline part locale bytes (Err fault.Memory) = 0 < length bytes
+-- what is kept serves; or the bytes are no JSON text, or memory ran out, which needs a byte
+abbrev pub GivesKeptRules : Part → List ℕ → List ℕ → Result KeptRules JsonTextError → Type 0
+GivesKeptRules part locale bytes (Ok kept) = IsServedBy part locale bytes kept
+GivesKeptRules part locale bytes (Err fault.Json) = json_of bytes ≡ None
+GivesKeptRules part locale bytes (Err fault.Memory) = 0 < length bytes
+
+-- ---- What is found by it
+
+-- what stands under the key, or why there is none
+abbrev pub IsFoundUnder : Data → Part → List ℕ → Result (List ℕ) FallbackError → Result Language LanguageError → Type 0
+IsFoundUnder document part locale (Ok key) answer = IsFoundAt document part key answer
+IsFoundUnder document part locale (Err reason) answer = answer ≡ Err (NotFound part locale reason)
+
+abbrev pub IsFoundBy : KeptRules → Part → List ℕ → Result Language LanguageError → Type 0
+IsFoundBy kept part locale = IsFoundUnder (view kept.document) part locale (key_by string_bytes kept.key)

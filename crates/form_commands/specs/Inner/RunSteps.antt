@@ -1,7 +1,8 @@
 -- Not a definition of the subject: the results of private calls.
-use Rattle.std.specs.Prelude.{◌≡◌, ◌⊎◌, ℕ, ◌<◌, List, length, Option, Some, None, Result, Ok, Err, ⊤}
+use Rattle.std.specs.Prelude.{◌≡◌, ◌⊎◌, ℕ, ◌<◌, List, length, Bool, false, Option, Some, None, Result, Ok, Err, ⊤, String, string_bytes}
 use Rattle.std.specs.Io.KnownBytes.{Appends, Keeps}
 use Rattle.std.specs.declared.alloc.AllocError.{AllocError}
+use Rattle.std.specs.declared.alloc.Global.{Global}
 use Rattle.icu_plurals.specs.DocumentJson.{Document, document_of_json}
 use Rattle.icu_plurals.specs.declared.JsonError.{JsonError}
 use Rattle.message_report.specs.FoundInMessages.{Found}
@@ -10,6 +11,8 @@ use Rattle.message_report.specs.declared.counts.Counts.{Counts}
 use Rattle.message_report.specs.declared.error.ReportError.{ReportError}
 use Rattle.message_report.specs.declared.file.MessageFile.{MessageFile}
 use Rattle.plural_documents.specs.Inputs.{most_bytes, IsPartWritten, json_of}
+use Rattle.plural_fallback.specs.UnknownLanguages.{is_unknown}
+use Rattle.plural_fallback.specs.declared.error.FallbackError.{FallbackError}
 use Rattle.plural_fallback.specs.declared.locales.Part.{Part}
 use Rattle.serde_json.specs.Data.{Data}
 use Rattle.serde_json.specs.View.{view}
@@ -17,13 +20,14 @@ use Rattle.serde_json.specs.declared.Value.{Value}
 use Rattle.form_commands.specs.FormsAnswers.{IsDocumentIn, IsNoJson, IsStreamed, IsUntouched, rules_source, verdict_of_counts}
 use Rattle.form_commands.specs.Inner.FormsInputFaults.{report_fault}
 use Rattle.form_commands.specs.Inner.RulesOutline.{Serves}
-use Rattle.form_commands.specs.Languages.{IsFoundFor, IsKnown, IsKnownIn, IsUnknown, IsUnknownIn, unknown_error}
+use Rattle.form_commands.specs.Languages.{IsKnown, IsKnownIn, IsUnknown, IsUnknownIn, unknown_error}
 use Rattle.form_commands.specs.PrintedTexts.{PrintedText, verdict_of}
 use Rattle.form_commands.specs.declared.error.FormsError.{FormsError}
 use Rattle.form_commands.specs.declared.error.FormsError.TheVariants.{Rules, TooLong, Json, Refused, Language, Numbers, Write, Memory}
 use Rattle.form_commands.specs.declared.error.LanguageError.{LanguageError}
 use Rattle.form_commands.specs.declared.error.Verdict.{Verdict}
 use Rattle.form_commands.specs.declared.language.Language as code
+use Rattle.form_commands.specs.declared.outline.KeptRules.{KeptRules}
 
 -- the result of a report
 abbrev pub result_of_report : Result Counts ReportError → Result Verdict FormsError
@@ -56,7 +60,15 @@ GivesDocument input (Err Numbers) = ⊥
 GivesDocument input (Err Write) = ⊥
 GivesDocument input (Err Memory) = ⊤
 
--- ---- A document that serves a locale
+-- ---- The rules of a locale
+
+-- the key that is kept is `root`, which wasn't asked for
+abbrev pub is_roots_key : List ℕ → Result (String Global) FallbackError → Bool
+is_roots_key locale (Ok key) = is_unknown locale (string_bytes key)
+is_roots_key locale (Err reason) = false
+
+abbrev pub has_roots_key : List ℕ → KeptRules → Bool
+has_roots_key locale kept = is_roots_key locale kept.key
 
 -- the language of a locale is known by the bytes' value; or it is unknown, and the error says so;
 -- or they have none
@@ -77,26 +89,26 @@ abbrev pub IsToldUnknown : Part → List ℕ → Data → FormsError → Type 0
 IsToldUnknown part locale whole error =
     IsUnknown whole part locale × (error ≡ Language (unknown_error whole part locale))
 
--- an outline of the bytes' value, or the value, where the language is known; or that it is unknown,
--- or that they have none
-abbrev pub GivesRulesIn : Part → List ℕ → List ℕ → Result Value FormsError → Type 0
-GivesRulesIn part locale bytes (Ok value) =
-    (whole : Data) × (json_of bytes ≡ Some whole) × Serves part locale (view value) whole × IsKnown whole part locale
+-- what is kept of the bytes' value, where the language is known; or that it is unknown, or that they
+-- have none
+abbrev pub GivesRulesIn : Part → List ℕ → List ℕ → Result KeptRules FormsError → Type 0
+GivesRulesIn part locale bytes (Ok kept) =
+    (whole : Data) × (json_of bytes ≡ Some whole) × Serves part locale kept whole × IsKnown whole part locale
 GivesRulesIn part locale bytes (Err error) =
     GivesJsonValue bytes (Err error) ⊎ ((whole : Data) × (json_of bytes ≡ Some whole) × IsToldUnknown part locale whole error)
 
 -- the same of an input
-abbrev pub GivesRules : Part → List ℕ → List ℕ → Result Value FormsError → Type 0
-GivesRules part locale input (Ok value) =
-    (whole : Data) × IsDocumentIn input whole × Serves part locale (view value) whole × IsKnown whole part locale
+abbrev pub GivesRules : Part → List ℕ → List ℕ → Result KeptRules FormsError → Type 0
+GivesRules part locale input (Ok kept) =
+    (whole : Data) × IsDocumentIn input whole × Serves part locale kept whole × IsKnown whole part locale
 GivesRules part locale input (Err error) =
     GivesDocument input (Err error) ⊎ ((whole : Data) × IsDocumentIn input whole × IsToldUnknown part locale whole error)
 
--- what is printed by the rules of the first key, or why there are none
-abbrev pub AnswersFirst : (code.Language → PrintedText → Type 0) → Part → List ℕ → Data → Result PrintedText LanguageError → Type 0
-AnswersFirst Prints part locale document (Ok printed) =
-    (language : code.Language) × IsFoundFor document part locale (Ok language) × Prints language printed
-AnswersFirst Prints part locale document (Err error) = IsFoundFor document part locale (Err error)
+-- what is printed by the rules that are found, or why there are none
+abbrev pub AnswersFirst : (code.Language → PrintedText → Type 0) → (Result code.Language LanguageError → Type 0)
+    → Result PrintedText LanguageError → Type 0
+AnswersFirst Prints IsFound (Ok printed) = (language : code.Language) × IsFound (Ok language) × Prints language printed
+AnswersFirst Prints IsFound (Err error) = IsFound (Err error)
 
 -- ---- What is written
 
@@ -114,12 +126,12 @@ WritesAnswer (Err error) old new result = (result ≡ Err Memory) × Keeps old n
 
 -- ---- The lines of another input
 
--- the answers by the rules of the first key, or that there are none
-abbrev pub AnswersLines : Data → Part → List ℕ → Option (List ℕ) → Option (List ℕ) → Option (List ℕ) → Option (List ℕ)
+-- the answers by the rules that are found, or that there are none
+abbrev pub AnswersLines : (Result code.Language LanguageError → Type 0) → Option (List ℕ) → Option (List ℕ) → Option (List ℕ) → Option (List ℕ)
     → Result Verdict FormsError → Type 0
-AnswersLines document part locale before left old new result =
-    ((language : code.Language) × IsFoundFor document part locale (Ok language) × IsStreamed language.rules before left old new result)
-    ⊎ (((error : LanguageError) × IsFoundFor document part locale (Err error) × (result ≡ Err (Language error))
+AnswersLines IsFound before left old new result =
+    ((language : code.Language) × IsFound (Ok language) × IsStreamed language.rules before left old new result)
+    ⊎ (((error : LanguageError) × IsFound (Err error) × (result ≡ Err (Language error))
     × IsUntouched before left old new)
     ⊎ ((result ≡ Err Memory) × IsUntouched before left old new))
 

@@ -1,22 +1,16 @@
 -- Not a definition of the subject: what is known of the numbers of a category, and the two that
 -- choose its form.
-use Rattle.std.specs.Prelude.{◌≡◌, ◌↔◌, ◌+◌, ◌&&◌, not, ℕ, Bool, true, false, IsTrue, Option, Some, None}
+use Rattle.std.specs.Prelude.{◌↔◌, ◌&&◌, not, Bool, true, false, IsTrue, Some}
 use Rattle.icu_plurals.specs.declared.PluralCategory.{PluralCategory}
 use Rattle.icu_plurals.specs.FiveRules.{FiveRules}
-use Rattle.plural_checker.specs.WholeNumbers.{HasWhole, IsLeastFrom}
+use Rattle.plural_checker.specs.WholeNumbers.{AreTwoLeastFrom, HasWhole}
 use Rattle.message_report.specs.declared.category_numbers.CategoryNumbers.{CategoryNumbers}
-use Rattle.message_report.specs.declared.category_numbers.TwoNumbers.{TwoNumbers}
-
--- the two least from 2
-abbrev pub AreTwoFrom : FiveRules → PluralCategory → Option ℕ → Option ℕ → Type 0
-AreTwoFrom rules category None second = IsLeastFrom rules category 2 None × (second ≡ None)
-AreTwoFrom rules category (Some first) second =
-    IsLeastFrom rules category 2 (Some first) × IsLeastFrom rules category (first + 1) second
+use Rattle.plural_checker.specs.declared.two_numbers.TwoNumbers.{TwoNumbers}
 
 pub record AreNumbersOf (rules : FiveRules) (category : PluralCategory) (numbers : CategoryNumbers) : Type 0 where
   pub zero : IsTrue numbers.zero ↔ HasWhole rules category 0
   pub one : IsTrue numbers.one ↔ HasWhole rules category 1
-  pub from_two : AreTwoFrom rules category numbers.from_two.first numbers.from_two.second
+  pub from_two : AreTwoLeastFrom rules category 2 numbers.from_two
 
 -- by whether 0 and 1 choose the form
 abbrev pub chosen_by : Bool → Bool → TwoNumbers → TwoNumbers

@@ -8,9 +8,11 @@ use Rattle.plural_commands.specs.Commands.{Command}
 use Rattle.plural_commands.specs.Inner.PrivateViews.{query_view}
 use Rattle.plural_commands.specs.NumberWords.{ReadsNumberWord, IsNumberOf}
 use Rattle.plural_commands.specs.Queries.{AsksDocument, CommandAsks, Query, of_document, truth}
+use Rattle.plural_commands.specs.Answer.{run_origin}
+use Rattle.plural_documents.specs.Inputs.{GivesBy, GivesByReading, IsFaultOf}
 use Rattle.plural_documents.specs.Steps.{HasNoFault}
 use Rattle.plural_commands.specs.declared.error.RunError.{RunError}
-use Rattle.plural_commands.specs.declared.error.RunError.TheVariants.{Read, Write, Memory, TooLong}
+use Rattle.plural_commands.specs.declared.error.RunError.TheVariants.{Read, Memory, TooLong}
 use Rattle.plural_commands.specs.declared.query.Query.{Query as CodeQuery}
 use Rattle.plural_documents.specs.declared.InputError.{InputError}
 use Rattle.plural_documents.specs.declared.InputError.TheVariants as cause
@@ -19,15 +21,11 @@ use Rattle.plural_documents.specs.declared.InputError.TheVariants as cause
 
 -- a fault of this kind, or out of memory; nothing is read or written
 abbrev pub GivesRunFault : (RunError → Type 0) → RunError → Type 0
-GivesRunFault IsFault Memory = ⊤
-GivesRunFault IsFault Read = ⊥
-GivesRunFault IsFault Write = ⊥
-GivesRunFault IsFault fault = IsFault fault
+GivesRunFault IsFault fault = IsFaultOf (run_origin fault) (IsFault fault)
 
 -- the result, in the words of the definitions, or out of memory
 abbrev pub GivesAnswer : {A B : Type 0} → (A → B) → (Result B RunError → Type 0) → Result A RunError → Type 0
-GivesAnswer seen IsAnswer (Ok x) = IsAnswer (Ok (seen x))
-GivesAnswer seen IsAnswer (Err e) = GivesRunFault (λ fault. IsAnswer (Err fault)) e
+GivesAnswer seen = GivesBy run_origin seen
 
 -- as `GivesAnswer`, with one possible result
 abbrev pub GivesValue : {A B : Type 0} → (A → B) → Result B RunError → Result A RunError → Type 0
@@ -44,8 +42,7 @@ GivesText = GivesAnswer cow_str_bytes
 
 -- as `GivesText`, of a call that reads, and may fail at it
 abbrev pub GivesTextAfterReading : (Result (List ℕ) RunError → Type 0) → Result Text RunError → Type 0
-GivesTextAfterReading IsAnswer (Err Read) = ⊤
-GivesTextAfterReading IsAnswer result = GivesText IsAnswer result
+GivesTextAfterReading = GivesByReading run_origin cow_str_bytes
 
 -- ---- Words
 

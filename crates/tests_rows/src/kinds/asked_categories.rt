@@ -1,8 +1,8 @@
 //! The categories of numbers by rules that are asked for many, in a row.
 
-use crate::call::Call;
 use icu_plurals::provider::RawPluralCategory;
 use icu_plurals::{AskedRules, PluralCategory, PluralRules};
+use row_calls::call::Call;
 use serde_json::Value;
 
 /// Makes the call of a kind of this file. Returns whether there is such a kind.

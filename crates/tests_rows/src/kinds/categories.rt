@@ -1,10 +1,11 @@
 //! Categories, and the categories that rules choose.
 
-use crate::arguments::FiveTexts;
-use crate::call::Call;
 use fixed_decimal::{CompactDecimal, Decimal};
 use plural_base::{PluralCategory, PluralRules, PluralRulesData, RawPluralCategory};
 use plural_reference::PluralOperands;
+use row_calls::arguments::FiveTexts;
+use row_calls::call::Call;
+use row_calls::rules::name_of;
 use std::fmt::Write;
 
 /// Makes the call of a kind of this file. Returns whether there is such a kind.
@@ -26,27 +27,12 @@ pub fn make(kind: &str, call: &mut Call) -> bool {
     true
 }
 
-/// Returns a category's name in CLDR.
-pub fn name_of(category: PluralCategory) -> &'static str {
-    RawPluralCategory::from(category).as_str()
-}
-
 // The name of a category, or `none`.
 fn name_or_none(category: Option<PluralCategory>) -> &'static str {
     match category {
         Some(category) => name_of(category),
         None => "none",
     }
-}
-
-/// Returns the category that an argument names.
-pub fn category(call: &mut Call) -> PluralCategory {
-    let name = call.text();
-    if let Some(category) = PluralCategory::get_for_cldr_string(name.as_str()) {
-        return category;
-    }
-    call.not("a category");
-    PluralCategory::Other
 }
 
 // Every category, and how many are still to come.
@@ -109,13 +95,13 @@ fn category_of_name(call: &mut Call) {
 
 // The name of a category, and what it prints.
 fn category_name(call: &mut Call) {
-    let category = category(call);
+    let category = call.category();
     let _ = write!(call, "{} {category}", category.as_str());
 }
 
 // The number of a category, and its name.
 fn raw_category(call: &mut Call) {
-    let category = category(call);
+    let category = call.category();
     let raw = RawPluralCategory::from(category);
     if PluralCategory::from(raw) != category {
         return call.print("another category");
@@ -126,15 +112,15 @@ fn raw_category(call: &mut Call) {
 
 // How one category stands to another.
 fn category_order(call: &mut Call) {
-    let first = category(call);
-    let second = category(call);
+    let first = call.category();
+    let second = call.category();
     call.print_name(&first.cmp(&second));
 }
 
 // How one raw category stands to another.
 fn raw_category_order(call: &mut Call) {
-    let first = RawPluralCategory::from(category(call));
-    let second = RawPluralCategory::from(category(call));
+    let first = RawPluralCategory::from(call.category());
+    let second = RawPluralCategory::from(call.category());
     call.print_name(&first.cmp(&second));
 }
 

@@ -1,8 +1,8 @@
 //! Conditions: read, printed, and their truth.
 
-use crate::call::Call;
 use plural_reference::ast::Condition;
 use plural_reference::{ReadError, parse_condition, serialize_condition, test_condition};
+use row_calls::call::Call;
 
 /// Makes the call of a kind of this file. Returns whether there is such a kind.
 pub fn make(kind: &str, call: &mut Call) -> bool {

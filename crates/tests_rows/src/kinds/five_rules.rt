@@ -1,9 +1,10 @@
 //! The rules of a language, read from texts and cloned.
 
-use crate::call::Call;
-use crate::kinds::categories::{category_by, name_of};
+use crate::kinds::categories::category_by;
 use plural_base::{PluralRulesData, RulesTextError};
 use plural_reference::PluralOperands;
+use row_calls::call::Call;
+use row_calls::rules::name_of;
 use std::fmt::Write;
 
 /// Makes the call of a kind of this file. Returns whether there is such a kind.
@@ -15,14 +16,6 @@ pub fn make(kind: &str, call: &mut Call) -> bool {
         _ => return false,
     }
     true
-}
-
-/// Prints rules as JSON.
-pub fn print_rules(call: &mut Call, rules: &PluralRulesData<'_>) {
-    match rules.to_json(call.alloc) {
-        Ok(value) => call.print_json(&value),
-        Err(_) => call.out_of_memory(),
-    }
 }
 
 // The rules of five texts, or the first text that gives none.
@@ -49,7 +42,7 @@ fn rules_of_texts(call: &mut Call) {
 // Prints rules as JSON, if they are read from it and cloned as they are.
 fn print_copied(call: &mut Call, rules: &PluralRulesData<'_>) {
     if is_cloned(call, rules) && is_read_again(call, rules) {
-        print_rules(call, rules);
+        call.print_rules(rules);
     } else {
         call.print("another copy");
     }

@@ -1,8 +1,8 @@
 //! The categories of integers in a row.
 
-use crate::call::Call;
 use icu_plurals::provider::RawPluralCategory;
 use icu_plurals::{PluralCategory, PluralOperands, PluralRules};
+use row_calls::call::Call;
 use std::fmt::Write;
 
 // In the order of CLDR.

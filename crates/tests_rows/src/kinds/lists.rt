@@ -1,8 +1,8 @@
 //! Packed lists of byte items.
 
-use crate::call::Call;
 use crate::kinds::runs::Runs;
 use packed_list::{PackError, PackedList};
+use row_calls::call::Call;
 use std::fmt::Write;
 
 /// Makes the call of a kind of this file. Returns whether there is such a kind.

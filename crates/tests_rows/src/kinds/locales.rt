@@ -1,14 +1,12 @@
 //! What a document has for a locale.
 
-use crate::call::Call;
-use crate::kinds::categories::name_of;
-use crate::kinds::decimals::next_compact;
-use crate::kinds::five_rules::print_rules;
 use fixed_decimal::CompactDecimal;
 use plural_base::{
     DataError, JsonProvider, PluralCategory, PluralRuleType, PluralRules, PluralRulesOptions,
     PluralsProvider,
 };
+use row_calls::call::Call;
+use row_calls::rules::name_of;
 
 /// Makes the call of a kind of this file. Returns whether there is such a kind.
 pub fn make(kind: &str, call: &mut Call) -> bool {
@@ -23,30 +21,6 @@ pub fn make(kind: &str, call: &mut Call) -> bool {
     true
 }
 
-/// Returns the provider of a document.
-pub fn next_provider(call: &mut Call) -> Option<JsonProvider> {
-    let document = call.value();
-    let provider = JsonProvider::from_value(call.alloc, &document).ok();
-    if provider.is_none() {
-        call.not("a document");
-    }
-    provider
-}
-
-/// Returns the type of rules that a text names, or none for `null`.
-pub fn next_type(call: &mut Call) -> Option<PluralRuleType> {
-    let name = call.optional_text();
-    match name.as_deref() {
-        Some("cardinal") => Some(PluralRuleType::Cardinal),
-        Some("ordinal") => Some(PluralRuleType::Ordinal),
-        Some(_) => {
-            call.not("a type of rules");
-            None
-        }
-        None => None,
-    }
-}
-
 /// Returns the options that name this type, or none.
 pub fn options_of(rule_type: Option<PluralRuleType>) -> PluralRulesOptions {
     match rule_type {
@@ -57,7 +31,7 @@ pub fn options_of(rule_type: Option<PluralRuleType>) -> PluralRulesOptions {
 
 // The rules of a locale, as JSON.
 fn loaded_rules(call: &mut Call) {
-    if let Some(provider) = next_provider(call) {
+    if let Some(provider) = call.provider() {
         print_loaded_rules(call, &provider);
     }
 }
@@ -65,19 +39,19 @@ fn loaded_rules(call: &mut Call) {
 // Prints the rules that a provider has for a locale, as JSON.
 fn print_loaded_rules(call: &mut Call, provider: &JsonProvider) {
     let locale = call.text();
-    let loaded = match next_type(call) {
+    let loaded = match call.rule_type() {
         Some(PluralRuleType::Ordinal) => provider.load_ordinal(locale.as_str()),
         _ => provider.load_cardinal(locale.as_str()),
     };
     match loaded {
-        Ok(rules) => print_rules(call, &rules),
+        Ok(rules) => call.print_rules(&rules),
         Err(error) => call.print_error(&error),
     }
 }
 
 // The ranges of a locale, as JSON.
 fn loaded_ranges(call: &mut Call) {
-    if let Some(provider) = next_provider(call) {
+    if let Some(provider) = call.provider() {
         print_loaded_ranges(call, &provider);
     }
 }
@@ -113,7 +87,7 @@ fn rules_of_one(call: &mut Call) {
         Some(provider) => print_loaded_rules(call, &provider),
         None => {
             let _ = call.text();
-            let _ = next_type(call);
+            let _ = call.rule_type();
         }
     }
 }
@@ -131,10 +105,10 @@ fn ranges_of_one(call: &mut Call) {
 // The category of a compact decimal by the rules of a locale, which are those that the options
 // name.
 fn category_of_locale(call: &mut Call) {
-    let provider = next_provider(call);
+    let provider = call.provider();
     let locale = call.text();
-    let rule_type = next_type(call);
-    let number = next_compact(call);
+    let rule_type = call.rule_type();
+    let number = call.compact();
     if let (Some(provider), Some(number)) = (provider, number) {
         print_category(call, &provider, locale.as_str(), rule_type, &number);
     }

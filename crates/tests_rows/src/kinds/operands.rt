@@ -1,10 +1,10 @@
 //! The operands of numbers.
 
-use crate::call::Call;
-use crate::kinds::decimals::{next_compact, next_decimal, next_unsigned};
+use crate::kinds::decimals::{next_decimal, next_unsigned};
 use fixed_decimal::CompactDecimal;
 use plural_reference::ast::Operand;
 use plural_reference::{PluralOperands, RawPluralOperands};
+use row_calls::call::Call;
 use std::fmt::Write;
 
 /// Makes the call of a kind of this file. Returns whether there is such a kind.
@@ -76,7 +76,7 @@ fn unsigned_operands(call: &mut Call) {
 
 // The operands of the significand and the exponent of a compact decimal.
 fn significand_operands(call: &mut Call) {
-    if let Some(number) = next_compact(call) {
+    if let Some(number) = call.compact() {
         let absolute = &number.significand().absolute;
         let exponent = number.exponent();
         let operands = PluralOperands::from_significand_and_exponent(absolute, exponent);

@@ -1,10 +1,10 @@
 //! Rules as packed bytes, their texts and their trees.
 
-use crate::call::Call;
 use crate::kinds::runs::Runs;
 use crate::kinds::trees;
 use plural_reference::{PluralOperands, RawPluralOperands, parse_condition};
 use plural_runtime::{Rule, RuleError, test_rule};
+use row_calls::call::Call;
 
 /// Makes the call of a kind of this file. Returns whether there is such a kind.
 pub fn make(kind: &str, call: &mut Call) -> bool {

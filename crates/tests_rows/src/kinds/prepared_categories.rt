@@ -1,9 +1,9 @@
 //! The categories of integers by prepared rules, and by their table, and whether rules have few
 //! ranges, in a row.
 
-use crate::call::Call;
 use icu_plurals::provider::RawPluralCategory;
 use icu_plurals::{CategoryTable, PluralRules, PreparedRules};
+use row_calls::call::Call;
 
 /// Makes the call of a kind of this file. Returns whether there is such a kind.
 pub fn make(kind: &str, call: &mut Call) -> bool {

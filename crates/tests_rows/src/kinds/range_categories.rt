@@ -1,13 +1,13 @@
 //! The categories of ranges of numbers.
 
-use crate::call::Call;
-use crate::kinds::categories::{category, name_of};
 use crate::kinds::decimals::next_decimal;
-use crate::kinds::locales::{next_provider, next_type, options_of};
+use crate::kinds::locales::options_of;
 use plural_base::{
     DataError, JsonProvider, PluralCategory, PluralRuleType, PluralRules, PluralRulesWithRanges,
 };
 use plural_reference::PluralOperands;
+use row_calls::call::Call;
+use row_calls::rules::name_of;
 
 /// Makes the call of a kind of this file. Returns whether there is such a kind.
 pub fn make(kind: &str, call: &mut Call) -> bool {
@@ -23,7 +23,7 @@ pub fn make(kind: &str, call: &mut Call) -> bool {
 
 // The category of a pair by given rules and the locale's ranges.
 fn resolved_range(call: &mut Call) {
-    if let Some(provider) = next_provider(call) {
+    if let Some(provider) = call.provider() {
         let locale = call.text();
         let rules = PluralRules::from_data(call.rules());
         print_resolved(call, &provider, locale.as_str(), &rules);
@@ -32,8 +32,8 @@ fn resolved_range(call: &mut Call) {
 
 // Prints the category of a pair by given rules and the locale's ranges.
 fn print_resolved(call: &mut Call, provider: &JsonProvider, locale: &str, rules: &PluralRules<'_>) {
-    let start = category(call);
-    let end = category(call);
+    let start = call.category();
+    let end = call.category();
     match PluralRulesWithRanges::try_new_with_rules_unstable(provider, locale, rules) {
         Ok(ranges) => call.print(name_of(ranges.resolve_range(start, end))),
         Err(error) => call.print_error(&error),
@@ -50,7 +50,7 @@ fn next_operands(call: &mut Call) -> PluralOperands {
 
 // The category of a range of decimals by given rules and the locale's ranges.
 fn range_of_rules(call: &mut Call) {
-    if let Some(provider) = next_provider(call) {
+    if let Some(provider) = call.provider() {
         let locale = call.text();
         let rules = PluralRules::from_data(call.rules());
         print_range(call, &provider, locale.as_str(), rules);
@@ -69,7 +69,7 @@ fn print_range(call: &mut Call, provider: &JsonProvider, locale: &str, rules: Pl
 
 // The category of an integer by the rules that stand beside the ranges.
 fn rules_beside_ranges(call: &mut Call) {
-    if let Some(provider) = next_provider(call) {
+    if let Some(provider) = call.provider() {
         let locale = call.text();
         let rules = PluralRules::from_data(call.rules());
         print_beside(call, &provider, locale.as_str(), &rules);
@@ -88,7 +88,7 @@ fn print_beside(call: &mut Call, provider: &JsonProvider, locale: &str, rules: &
 // The category of a range of integers by the locale's own rules, which are those that the options
 // name.
 fn range_category(call: &mut Call) {
-    if let Some(provider) = next_provider(call) {
+    if let Some(provider) = call.provider() {
         let locale = call.text();
         print_by_locale(call, &provider, locale.as_str());
     }
@@ -97,7 +97,7 @@ fn range_category(call: &mut Call) {
 // Prints the category of a range of integers, if the rules of the type and of the options choose
 // it.
 fn print_by_locale(call: &mut Call, provider: &JsonProvider, locale: &str) {
-    let rule_type = next_type(call);
+    let rule_type = call.rule_type();
     let start = PluralOperands::from(call.number());
     let end = PluralOperands::from(call.number());
     let options = options_of(rule_type);

@@ -1,8 +1,8 @@
 //! Ranges of categories, and tables of them.
 
-use crate::arguments::items_of;
-use crate::call::Call;
 use plural_base::{PluralCategory, PluralRanges, RawPluralCategory, UnvalidatedPluralRange};
+use row_calls::arguments::items_of;
+use row_calls::call::Call;
 use serde_json::Value;
 use std::fmt::Write;
 

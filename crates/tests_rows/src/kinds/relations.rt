@@ -1,10 +1,10 @@
 //! The relations of packed rules, and the parts that they are made of.
 
-use crate::call::Call;
 use crate::kinds::operands::next_operand;
 use crate::kinds::trees;
 use plural_reference::ast;
 use plural_runtime::{AndOrPolarityOperand, Operand, RangeOrValue, Relation, Rule};
+use row_calls::call::Call;
 use std::fmt::Write;
 
 /// Makes the call of a kind of this file. Returns whether there is such a kind.

@@ -1,8 +1,8 @@
 //! The truth of packed rules, and how many ranges were needed.
 
-use crate::call::Call;
 use plural_reference::{PluralOperands, parse_condition, test_condition};
 use plural_runtime::{Rule, Steps, test_rule, test_rule_counted};
+use row_calls::call::Call;
 use std::fmt::Write;
 
 /// Makes the call of a kind of this file. Returns whether there is such a kind.

@@ -1,11 +1,11 @@
 //! The rules of a language as one block of bytes.
 
-use crate::call::Call;
-use crate::kinds::categories::{category_by, name_of};
-use crate::kinds::five_rules::print_rules;
+use crate::kinds::categories::category_by;
 use crate::kinds::runs::Runs;
 use plural_base::PluralRulesData;
 use plural_reference::PluralOperands;
+use row_calls::call::Call;
+use row_calls::rules::name_of;
 use std::alloc::Global;
 
 /// Makes the call of a kind of this file. Returns whether there is such a kind.
@@ -76,7 +76,7 @@ fn rules_of_bytes(call: &mut Call) {
 // Prints the rules that bytes hold as JSON, which have these bytes again.
 fn print_rules_of(call: &mut Call, bytes: &[u8]) {
     match PluralRulesData::from_bytes(bytes) {
-        Ok(rules) if has_bytes(call.alloc, &rules, bytes) => print_rules(call, &rules),
+        Ok(rules) if has_bytes(call.alloc, &rules, bytes) => call.print_rules(&rules),
         Ok(_) => call.print("rules with other bytes"),
         Err(error) => call.print_error(&error),
     }

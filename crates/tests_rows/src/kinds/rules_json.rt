@@ -1,11 +1,10 @@
 //! Rules and documents as JSON.
 
-use crate::call::Call;
-use crate::kinds::five_rules::print_rules;
 use plural_base::{
     JsonError, JsonProvider, PluralRulesData, PluralsProvider, rule_from_json, rule_to_json,
 };
 use plural_runtime::Rule;
+use row_calls::call::Call;
 use serde_json::Value;
 use std::fmt::Write;
 
@@ -45,7 +44,7 @@ fn print_rule(call: &mut Call, rule: &Rule<'_>) {
 fn rules_json(call: &mut Call) {
     let value = call.value();
     match PluralRulesData::from_json(call.alloc, &value) {
-        Ok(rules) => print_rules(call, &rules),
+        Ok(rules) => call.print_rules(&rules),
         Err(error) => call.print_error(&error),
     }
 }

@@ -1,6 +1,6 @@
 //! Results of many calls in one text.
 
-use crate::call::Call;
+use row_calls::call::Call;
 use std::fmt::Write;
 
 /// The results of a call for 0, 1, 2 and so on bytes. Equal neighbours are one run.

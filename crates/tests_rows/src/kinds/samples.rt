@@ -1,11 +1,11 @@
 //! Whole rules, and their samples.
 
-use crate::call::Call;
 use crate::kinds::conditions::{next_condition, print_condition, print_read_error};
 use plural_reference::ast::{Rule, SampleList};
 use plural_reference::{
     is_read_whole, parse, parse_without_samples, serialize, serialize_sample_list,
 };
+use row_calls::call::Call;
 
 /// Makes the call of a kind of this file. Returns whether there is such a kind.
 pub fn make(kind: &str, call: &mut Call) -> bool {

@@ -1,9 +1,9 @@
 //! The categories of texts by rules and by prepared rules in a row.
 
-use crate::call::Call;
 use fixed_decimal::DecimalError;
 use icu_plurals::provider::RawPluralCategory;
 use icu_plurals::{PluralCategory, PluralRules, PreparedRules};
+use row_calls::call::Call;
 
 /// Makes the call of a kind of this file. Returns whether there is such a kind.
 pub fn make(kind: &str, call: &mut Call) -> bool {

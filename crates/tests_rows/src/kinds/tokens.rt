@@ -1,8 +1,8 @@
 //! The tokens of texts.
 
-use crate::call::Call;
 use plural_reference::ast::{Operand, Operator};
 use plural_reference::{Lexer, Token};
+use row_calls::call::Call;
 use std::fmt::Write;
 
 /// Makes the call of a kind of this file. Returns whether there is such a kind.

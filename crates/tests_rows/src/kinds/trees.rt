@@ -1,9 +1,9 @@
 //! Trees of rules, made from arguments.
 
-use crate::arguments::items_of;
-use crate::call::Call;
 use crate::kinds::operands::operand_of;
 use plural_reference::ast;
+use row_calls::arguments::items_of;
+use row_calls::call::Call;
 use serde_json::Value;
 
 /// Returns the tree of a list of and-conditions, each a list of relations.

@@ -1,9 +1,9 @@
 //! Where the messages of a document stand in its text.
 
-use crate::json_file::icu_message::category_named;
 use crate::json_file::members::{Member, Members};
 use crate::lines::{FormLine, MessageKind, MessageLines};
 use crate::places::Places;
+use icu_plurals::PluralCategory;
 use json::Scratch;
 use message_report::Form;
 use std::alloc::{AllocError, Global};
@@ -153,7 +153,7 @@ fn form_named(key: &str) -> Option<Form> {
     match key {
         "explicit_zero" => Some(Form::ExplicitZero),
         "explicit_one" => Some(Form::ExplicitOne),
-        _ => match category_named(key.as_bytes()) {
+        _ => match PluralCategory::get_for_cldr_string(key) {
             Some(category) => Some(Form::Category(category)),
             None => None,
         },

@@ -123,22 +123,9 @@ fn form_of(selector: Selector<'_>) -> Option<Form> {
         Selector::Exactly(b"0") => Some(Form::ExplicitZero),
         Selector::Exactly(b"1") => Some(Form::ExplicitOne),
         Selector::Exactly(_) => None,
-        Selector::Keyword(name) => match category_named(name) {
+        Selector::Keyword(name) => match PluralCategory::get_for_cldr_bytes(name) {
             Some(category) => Some(Form::Category(category)),
             None => None,
         },
-    }
-}
-
-// The category of a name.
-pub(crate) fn category_named(name: &[u8]) -> Option<PluralCategory> {
-    match name {
-        b"zero" => Some(PluralCategory::Zero),
-        b"one" => Some(PluralCategory::One),
-        b"two" => Some(PluralCategory::Two),
-        b"few" => Some(PluralCategory::Few),
-        b"many" => Some(PluralCategory::Many),
-        b"other" => Some(PluralCategory::Other),
-        _ => None,
     }
 }

@@ -32,19 +32,6 @@ pub(crate) fn suffixed_key(is_outermost: bool, name: &str) -> Option<SuffixedKey
 
 // What stands before the suffix of a category, and the category.
 fn before_category(name: &str) -> Option<(&str, PluralCategory)> {
-    if let Some(front) = name.strip_suffix("_other") {
-        Some((front, PluralCategory::Other))
-    } else if let Some(front) = name.strip_suffix("_one") {
-        Some((front, PluralCategory::One))
-    } else if let Some(front) = name.strip_suffix("_few") {
-        Some((front, PluralCategory::Few))
-    } else if let Some(front) = name.strip_suffix("_many") {
-        Some((front, PluralCategory::Many))
-    } else if let Some(front) = name.strip_suffix("_two") {
-        Some((front, PluralCategory::Two))
-    } else if let Some(front) = name.strip_suffix("_zero") {
-        Some((front, PluralCategory::Zero))
-    } else {
-        None
-    }
+    let (front, suffix) = name.rsplit_once('_')?;
+    Some((front, PluralCategory::get_for_cldr_string(suffix)?))
 }

@@ -4,8 +4,8 @@ use crate::code::NoticeCode;
 use crate::counts::Fate;
 use crate::gathered::Gathered;
 use crate::json_file::android_message::{AndroidText, android_message};
-use crate::json_file::icu_message::category_named;
 use crate::lines::MessageKind;
+use icu_plurals::PluralCategory;
 use plural_documents::name_text;
 use serde_json::{Map, Value};
 use std::alloc::{AllocError, Global};
@@ -120,7 +120,7 @@ fn texts_of(
 // The text of a form.
 fn text_of<'v>(name: &str, form: &'v Value) -> Option<AndroidText<'v>> {
     Some(AndroidText {
-        category: category_named(name.as_bytes())?,
+        category: PluralCategory::get_for_cldr_string(name)?,
         text: text_under("text", form)?,
         line: line_of(form)?,
     })

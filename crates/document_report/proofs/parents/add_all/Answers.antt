@@ -2,15 +2,16 @@ use Rattle.std.proofs.Common.{string_bytes, ap, subst, ◌∙◌}
 use Rattle.serde_json.specs.View.{view, members_view}
 use Rattle.document_report.specs.Inner.ParentRows.{named_parent}
 use Rattle.document_report.specs.ParentFaults.{IsFoundInParent, short_next}
-use Rattle.document_report.specs.FoundInDocuments.{HasGrownBy}
-use Rattle.document_report.proofs.FoundTogether.{Completes, begins, ends, goes_on}
+use Rattle.document_report.specs.FoundInDocuments.{HasGrownBy, nothing_found, together}
+use Rattle.document_report.proofs.FoundTogether.{together-nothing, together_assoc}
+use Rattle.plural_documents.proofs.MemberSteps.{Completes, begins, ends, goes_on}
 use Rattle.document_report.proofs.parents.add_all.Goals as goal
 
 pub loop-key-init : goal.loop-key-init
 loop-key-init c =
     let parent = named_parent c.args.parents.now in (
       c.in_ok-chains.ensures (short_next parent),
-      begins (IsFoundInParent parent) (members_view c.args.members.now.entries) c.args.found.now _
+      begins nothing_found together (IsFoundInParent parent) (members_view c.args.members.now.entries) c.args.found.now _
           (ap members_view (c.into_iter-key-iterator.ensures.into_iter_gives ∙ c.iter-key-items.ensures.rest)),
     )
 
@@ -20,9 +21,9 @@ loop-key-preserved c =
     let all = members_view c.args.members.now.entries in
     let value = view c.in-Some.value.now in (
       c.in_ok-add_member.ensures.known,
-      goes_on Is all c.args.found.now (string_bytes c.in-Some.key.now) value (members_view c.next.new.self) c.loop-key.found
+      goes_on nothing_found together Is all c.args.found.now together_assoc (string_bytes c.in-Some.key.now) value (members_view c.next.new.self) c.loop-key.found
           c.add_member.new.found
-          (subst (λ es. Completes Is (members_view es) all c.loop-key.found c.args.found.now) c.in-Some.ensures.steps c.loop-key.invariant.1)
+          (subst (λ es. Completes nothing_found together Is (members_view es) all c.loop-key.found c.args.found.now) c.in-Some.ensures.steps c.loop-key.invariant.1)
           (subst (λ key. HasGrownBy (Is key value) c.loop-key.found c.add_member.new.found) c.as_str.ensures.value
           c.in_ok-add_member.ensures.found),
     )
@@ -31,6 +32,6 @@ pub returns : goal.returns
 returns c =
     let Is = IsFoundInParent (named_parent c.args.parents.now) in
     let all = members_view c.args.members.now.entries in
-    ends Is all c.args.found.now c.loop-key.found
-    (subst (λ es. Completes Is (members_view es) all c.loop-key.found c.args.found.now) c.in-None.ensures.steps.0
+    ends nothing_found together Is all c.args.found.now together-nothing c.loop-key.found
+    (subst (λ es. Completes nothing_found together Is (members_view es) all c.loop-key.found c.args.found.now) c.in-None.ensures.steps.0
     c.loop-key.invariant.1)

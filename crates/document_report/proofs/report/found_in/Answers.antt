@@ -25,5 +25,5 @@ returns c =
       parents.1,
       five_added keys.0 cardinal.0 ordinal.0 ranges.0 parents.0 c.add_members_of.new.found c.add_rules.new.found
           c.add_rules-2.new.found c.add_ranges.new.found c.add_parents.new.found
-          (keys.2 ∙ ap (λ (f : Found). together f keys.0) c.new-found.ensures) cardinal.2 ordinal.2 ranges.2 parents.2,
+          (keys.2 ∙ ap (λ (f : Found). together f keys.0) c.nothing-found.ensures) cardinal.2 ordinal.2 ranges.2 parents.2,
     )

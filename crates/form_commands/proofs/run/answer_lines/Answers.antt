@@ -1,5 +1,4 @@
 use Rattle.std.proofs.Common.{[]}
-use Rattle.serde_json.specs.View.{view}
 use Rattle.form_commands.specs.FormsAnswers.{IsAnsweredLines}
 use Rattle.form_commands.specs.KeyNotes.{IsNote}
 use Rattle.form_commands.proofs.NoteLemmas.{lines_noted_by, none_noted}
@@ -11,7 +10,7 @@ pub returns-in-Ok-clause-answers : goal.returns-in-Ok-clause-answers
 returns-in-Ok-clause-answers g c =
     let d = c.in-Ok.ensures.document in
     let rules = d.2 in
-    let served = lines_served c.args.part c.args.locale.now (view c.in-Ok.document) rules.0 rules.2 rules.3 (g.N.Read.remaining c.args.numbers.now)
+    let served = lines_served c.args.part c.args.locale.now c.in-Ok.kept rules.0 rules.2 rules.3 (g.N.Read.remaining c.args.numbers.now)
     (g.N.Read.remaining c.noted_lines.new.numbers) (g.W.Write.contents c.args.writer.now) (g.W.Write.contents c.noted_lines.new.writer)
     (g.E.Write.contents c.args.notes.now) (g.E.Write.contents c.noted_lines.new.notes) c.noted_lines.result c.noted_lines.ensures.answers in
     let both = lines_noted_by c.args.part c.args.locale.now (λ document note. IsNote document [] c.args.part c.args.locale.now note) d.0
@@ -36,7 +35,7 @@ pub returns-in-Ok-clause-reads : goal.returns-in-Ok-clause-reads
 returns-in-Ok-clause-reads g c =
     let d = c.in-Ok.ensures.document in
     let rules = d.2 in
-    let served = lines_served c.args.part c.args.locale.now (view c.in-Ok.document) rules.0 rules.2 rules.3 (g.N.Read.remaining c.args.numbers.now)
+    let served = lines_served c.args.part c.args.locale.now c.in-Ok.kept rules.0 rules.2 rules.3 (g.N.Read.remaining c.args.numbers.now)
     (g.N.Read.remaining c.noted_lines.new.numbers) (g.W.Write.contents c.args.writer.now) (g.W.Write.contents c.noted_lines.new.writer)
     (g.E.Write.contents c.args.notes.now) (g.E.Write.contents c.noted_lines.new.notes) c.noted_lines.result c.noted_lines.ensures.answers in
     let before = g.N.Read.remaining c.args.numbers.now in

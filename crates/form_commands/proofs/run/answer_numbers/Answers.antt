@@ -1,5 +1,4 @@
 use Rattle.std.proofs.Common.{[]}
-use Rattle.serde_json.specs.View.{view}
 use Rattle.form_commands.specs.FormsAnswers.{Answers, IsAnsweredText, IsNumbersAnswer}
 use Rattle.form_commands.specs.Inner.QuestionViews.{words_view}
 use Rattle.form_commands.specs.KeyNotes.{IsNote}
@@ -12,7 +11,7 @@ pub returns-in-Ok-clause-answers : goal.returns-in-Ok-clause-answers
 returns-in-Ok-clause-answers g c =
     let d = c.in-Ok.ensures.document in
     let rules = d.2 in
-    let served = text_served c.args.part c.args.locale.now (view c.in-Ok.document) rules.0 rules.2 rules.3 (IsNumbersAnswer (words_view c.args.numbers.now))
+    let served = text_served c.args.part c.args.locale.now c.in-Ok.kept rules.0 rules.2 rules.3 (IsNumbersAnswer (words_view c.args.numbers.now))
     (g.W.Write.contents c.args.writer.now) (g.W.Write.contents c.numbers_by.new.writer) (g.E.Write.contents c.args.notes.now)
     (g.E.Write.contents c.numbers_by.new.notes) c.numbers_by.result c.numbers_by.ensures.answers in
     let both = printed_noted (Answers (IsNumbersAnswer (words_view c.args.numbers.now)) c.args.part c.args.locale.now)
@@ -38,7 +37,7 @@ returns-in-Ok-clause-reads g c =
     let IsAnswer = Answers (IsNumbersAnswer (words_view c.args.numbers.now)) c.args.part c.args.locale.now in
     let d = c.in-Ok.ensures.document in
     let rules = d.2 in
-    let served = text_served c.args.part c.args.locale.now (view c.in-Ok.document) rules.0 rules.2 rules.3 (IsNumbersAnswer (words_view c.args.numbers.now))
+    let served = text_served c.args.part c.args.locale.now c.in-Ok.kept rules.0 rules.2 rules.3 (IsNumbersAnswer (words_view c.args.numbers.now))
     (g.W.Write.contents c.args.writer.now) (g.W.Write.contents c.numbers_by.new.writer) (g.E.Write.contents c.args.notes.now)
     (g.E.Write.contents c.numbers_by.new.notes) c.numbers_by.result c.numbers_by.ensures.answers in
     let old = g.W.Write.contents c.args.writer.now in

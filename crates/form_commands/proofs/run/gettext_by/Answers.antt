@@ -1,7 +1,6 @@
-use Rattle.std.proofs.Common.{[], Err, inl, inr, refl, sym, subst}
+use Rattle.std.proofs.Common.{Err, inl, inr, refl, sym, subst}
 use Rattle.std.proofs.KnownBytes.{Keeps-refl}
-use Rattle.serde_json.specs.View.{view}
-use Rattle.form_commands.specs.KeyNotes.{IsKeyNote}
+use Rattle.form_commands.specs.Inner.NoteSteps.{IsKeptNote}
 use Rattle.form_commands.proofs.LeftAlone.{nothing_written}
 use Rattle.form_commands.proofs.run.gettext_by.Goals as goal
 
@@ -11,7 +10,7 @@ returns-in-Ok-clause-answers g c =
       c.write_answer-answer.result,
       c.as_str.result.now,
       (c.gettext_of-written.result, c.gettext_of-written.ensures, c.write_answer-answer.ensures.answers),
-      subst (IsKeyNote (view c.args.document.now) [] c.args.part c.args.locale.now) (sym c.as_str.ensures.value) c.in-Ok.ensures,
+      subst (IsKeptNote c.args.kept.now c.args.part c.args.locale.now) (sym c.as_str.ensures.value) c.in-Ok.ensures,
       c.write_notes.ensures.written,
     )
 

@@ -3,6 +3,7 @@ use Rattle.icu_plurals.specs.FiveRules.{FiveRules}
 use Rattle.icu_plurals.specs.RulesJson.{rules_of_json}
 use Rattle.serde_json.specs.View.{view}
 use Rattle.form_commands.specs.GettextLines.{IsGettextLine}
+use Rattle.form_commands.specs.Inner.RulesOutline.{key_by}
 use Rattle.form_commands.proofs.GettextLemmas.{found_language, one_rules}
 use Rattle.form_commands.proofs.run.gettext_of.Goals as goal
 
@@ -17,7 +18,8 @@ returns-in_ok-text-in-Ok c =
         text,
         subst (λ (rules : FiveRules). IsGettextLine rules text)
             (one_rules (rules_of_json (view c.in-Ok.language.value.now)) line.0 c.in-Ok.language.rules line.1
-            (found_language (view c.args.document.now) c.args.part c.args.locale.now c.in-Ok.language answered)) line.2,
+            (found_language (view c.args.kept.now.document) c.args.part c.args.locale.now (key_by string_bytes c.args.kept.now.key)
+            c.in-Ok.language answered)) line.2,
         c.of.ensures,
       ),
     )

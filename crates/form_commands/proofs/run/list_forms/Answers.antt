@@ -1,4 +1,3 @@
-use Rattle.serde_json.specs.View.{view}
 use Rattle.form_commands.specs.FormsAnswers.{Answers, IsListAnswer}
 use Rattle.form_commands.proofs.AnswerLemmas.{document_answered}
 use Rattle.form_commands.proofs.RulesRead.{answer_read}
@@ -9,7 +8,7 @@ pub returns-in-Ok-clause-answers : goal.returns-in-Ok-clause-answers
 returns-in-Ok-clause-answers g c =
     let d = c.in-Ok.ensures.document in
     let rules = d.2 in
-    let printed = printed_served c.args.part c.args.locale.now (view c.in-Ok.document) rules.0 rules.2 rules.3 (IsListAnswer c.args.part c.args.locale.now)
+    let printed = printed_served c.args.part c.args.locale.now c.in-Ok.kept rules.0 rules.2 rules.3 (IsListAnswer c.args.part c.args.locale.now)
     c.list_of.result c.list_of.ensures in (
       d.0,
       d.1,
@@ -31,7 +30,7 @@ returns-in-Ok-clause-reads g c =
     let IsAnswer = Answers (IsListAnswer c.args.part c.args.locale.now) c.args.part c.args.locale.now in
     let d = c.in-Ok.ensures.document in
     let rules = d.2 in
-    let printed = printed_served c.args.part c.args.locale.now (view c.in-Ok.document) rules.0 rules.2 rules.3 (IsListAnswer c.args.part c.args.locale.now)
+    let printed = printed_served c.args.part c.args.locale.now c.in-Ok.kept rules.0 rules.2 rules.3 (IsListAnswer c.args.part c.args.locale.now)
     c.list_of.result c.list_of.ensures in
     let old = g.W.Write.contents c.args.writer.now in
     let new = g.W.Write.contents c.write_answer.new.writer in

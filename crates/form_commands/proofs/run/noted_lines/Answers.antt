@@ -1,8 +1,7 @@
-use Rattle.std.proofs.Common.{[], inl, inr, refl, sym, subst}
+use Rattle.std.proofs.Common.{inl, inr, refl, sym, subst}
 use Rattle.std.specs.Prelude.{IsTrue}
 use Rattle.std.proofs.KnownBytes.{Keeps-refl}
-use Rattle.serde_json.specs.View.{view}
-use Rattle.form_commands.specs.KeyNotes.{IsKeyNote}
+use Rattle.form_commands.specs.Inner.NoteSteps.{IsKeptNote}
 use Rattle.form_commands.specs.FormsErrors.{is_of_rules}
 use Rattle.form_commands.proofs.LeftAlone.{left_by_notes, write_not_of_rules}
 use Rattle.form_commands.proofs.run.noted_lines.Goals as goal
@@ -13,7 +12,7 @@ returns-in-Ok-clause-answers g c =
       c.lines_by-answer.result,
       c.as_str.result.now,
       c.lines_by-answer.ensures.answers,
-      subst (IsKeyNote (view c.args.document.now) [] c.args.part c.args.locale.now) (sym c.as_str.ensures.value) c.in-Ok.ensures,
+      subst (IsKeptNote c.args.kept.now c.args.part c.args.locale.now) (sym c.as_str.ensures.value) c.in-Ok.ensures,
       c.write_notes.ensures.written,
     )
 

@@ -1,6 +1,6 @@
 use Rattle.std.proofs.Common.{Err, ap, inl}
-use Rattle.serde_json.specs.declared.Value.{Value}
 use Rattle.form_commands.specs.declared.error.FormsError.{FormsError}
+use Rattle.form_commands.specs.declared.outline.KeptRules.{KeptRules}
 use Rattle.form_commands.proofs.AnswerLemmas.{no_document}
 use Rattle.form_commands.proofs.RulesRead.{read_on, rules_read}
 use Rattle.form_commands.proofs.RulesServe.{rules_in}
@@ -27,5 +27,5 @@ returns-in-Ok-clause-reads g c =
 
 pub returns-in-Err-clause-reads : goal.returns-in-Err-clause-reads
 returns-in-Err-clause-reads g c =
-    read_on {B = Value} (g.R.Read.remaining c.args.reader.now) (g.R.Read.remaining c.read_input.new.reader) c.in-Err.reason (Err c.from.result)
+    read_on {B = KeptRules} (g.R.Read.remaining c.args.reader.now) (g.R.Read.remaining c.read_input.new.reader) c.in-Err.reason (Err c.from.result)
     (ap (λ (e : FormsError). Err e) c.from.ensures) c.in-Err.ensures.read

@@ -1,5 +1,4 @@
 use Rattle.std.proofs.Common.{[]}
-use Rattle.serde_json.specs.View.{view}
 use Rattle.form_commands.specs.FormsAnswers.{Answers, IsAnsweredText, IsGettextAnswer}
 use Rattle.form_commands.specs.KeyNotes.{IsNote}
 use Rattle.form_commands.proofs.NoteLemmas.{none_noted, printed_noted}
@@ -11,7 +10,7 @@ pub returns-in-Ok-clause-answers : goal.returns-in-Ok-clause-answers
 returns-in-Ok-clause-answers g c =
     let d = c.in-Ok.ensures.document in
     let rules = d.2 in
-    let served = text_served c.args.part c.args.locale.now (view c.in-Ok.document) rules.0 rules.2 rules.3 IsGettextAnswer
+    let served = text_served c.args.part c.args.locale.now c.in-Ok.kept rules.0 rules.2 rules.3 IsGettextAnswer
     (g.W.Write.contents c.args.writer.now) (g.W.Write.contents c.gettext_by.new.writer) (g.E.Write.contents c.args.notes.now)
     (g.E.Write.contents c.gettext_by.new.notes) c.gettext_by.result c.gettext_by.ensures.answers in
     let both = printed_noted (Answers IsGettextAnswer c.args.part c.args.locale.now)
@@ -37,7 +36,7 @@ returns-in-Ok-clause-reads g c =
     let IsAnswer = Answers IsGettextAnswer c.args.part c.args.locale.now in
     let d = c.in-Ok.ensures.document in
     let rules = d.2 in
-    let served = text_served c.args.part c.args.locale.now (view c.in-Ok.document) rules.0 rules.2 rules.3 IsGettextAnswer
+    let served = text_served c.args.part c.args.locale.now c.in-Ok.kept rules.0 rules.2 rules.3 IsGettextAnswer
     (g.W.Write.contents c.args.writer.now) (g.W.Write.contents c.gettext_by.new.writer) (g.E.Write.contents c.args.notes.now)
     (g.E.Write.contents c.gettext_by.new.notes) c.gettext_by.result c.gettext_by.ensures.answers in
     let old = g.W.Write.contents c.args.writer.now in

@@ -1,4 +1,3 @@
-use Rattle.std.proofs.Common.{◌≡◌, take, drop, length, sym}
 use Rattle.std.proofs.lemmas.Bool.Decides.{Decides-eqb}
 use Rattle.std.proofs.lemmas.Slice.Eq.{slice_eq-Decides}
 use Rattle.packed_pattern.proofs.Joined.{front_decides, rest_decides}

@@ -1,4 +1,4 @@
-use Rattle.std.proofs.Common.{◌≡◌, ◌∙◌, ◌<◌, arith, length, ap, sym}
+use Rattle.std.proofs.Common.{◌∙◌, ◌<◌, arith, length, refl, ap, sym}
 use Rattle.std.specs.Prelude.{Err}
 use Rattle.std.proofs.lemmas.List.{length-map}
 use Rattle.message_pattern.specs.PatternParts.{part_view, parts_view}
@@ -11,6 +11,15 @@ invariant_of-new c = record {
   packable = all_packable 0 (parts_view c.parts-parts.result.now) (sym c.first_unpackable.ensures ∙ c.in_default.is);
   few = omega arith;
 }
+
+pub first_misplaced-requires : goal.first_misplaced-requires
+first_misplaced-requires c κs = (
+  (refl, tt),
+  (
+    omega (arith, length-map c.parts-parts.result.now part_view),
+    all_packable 0 (parts_view c.parts-parts.result.now) (sym c.first_unpackable.ensures ∙ c.in_default.is),
+  ),
+)
 
 pub returns-in-Err-CountLimit-clause-count_limit : goal.returns-in-Err-CountLimit-clause-count_limit
 returns-in-Err-CountLimit-clause-count_limit c =

@@ -1,14 +1,15 @@
 use Rattle.std.proofs.Common.{ℕ, List, Bor, map, Ok, Err, inl, inr, refl, sym, ◌∙◌, subst, rules}
 use Rattle.std.proofs.lemmas.Result.{err_from_is_err_and}
+use Rattle.std.specs.Cow.{cow_str_bytes}
 use Rattle.std.specs.Prelude.{⊤}
-use Rattle.plural_commands.specs.Answer.{AnswersQuery, AnswersWords}
+use Rattle.plural_commands.specs.Answer.{AnswersQuery, AnswersWords, run_origin}
 use Rattle.plural_commands.specs.Commands.{command_of}
 use Rattle.plural_commands.specs.Inner.PrivateViews.{query_view}
 use Rattle.plural_commands.specs.Queries.{Asks}
 use Rattle.plural_commands.proofs.Faults.{fault_of_first, handed_on, no_error, same_error, same_fault}
-use Rattle.plural_documents.proofs.InputLemmas.{some_input}
+use Rattle.plural_documents.proofs.InputLemmas.{implied, some_input, without_reading}
 use Rattle.plural_commands.proofs.Questions.{needs, needs_input, settled}
-use Rattle.plural_commands.proofs.Readings.{faultless, implied, not_blamed, not_written, without_reading}
+use Rattle.plural_commands.proofs.Readings.{faultless, not_blamed, not_written}
 use Rattle.plural_commands.proofs.run.run.Goals as goal
 
 pub returns-in_err-query-clause-answers : goal.returns-in_err-query-clause-answers
@@ -21,7 +22,7 @@ returns-in_err-query-clause-answers g c =
       input.1,
       not_written IsAnswer (g.W.Write.contents c.args.writer.now) e c.from_residual.result
           (handed_on _ _ (err_from_is_err_and c.from_residual.result c.from_residual.ensures.1))
-          (without_reading IsAnswer (Err e)
+          (without_reading run_origin cow_str_bytes IsAnswer (Err e)
           (fault_of_first (Asks words) (λ query. AnswersQuery query input.0) e c.in_err-query.ensures.query)),
     )
 
@@ -50,7 +51,7 @@ returns-in_err-text-clause-answers g c =
       a.1,
       not_written (AnswersWords words a.0) (g.W.Write.contents c.args.writer.now) e c.from_residual-in_err-text.result
           (handed_on _ _ (err_from_is_err_and c.from_residual-in_err-text.result c.from_residual-in_err-text.ensures.1))
-          (implied (AnswersQuery query a.0) (AnswersWords words a.0)
+          (implied run_origin cow_str_bytes (AnswersQuery query a.0) (AnswersWords words a.0)
           (λ answer h. (Ok query, c.in_ok-query.ensures.query.0, h)) (Err e) a.2),
     )
 

@@ -1,7 +1,0 @@
-use Rattle.std.proofs.Common.{ap, ◌∙◌}
-use Rattle.finding_formats.proofs.NoFloats.{finding_without}
-use Rattle.finding_formats.proofs.json_lines.push_finding.Goals as goal
-use Rattle.serde_json.specs.Written.{has_float}
-
-pub push_line-requires : goal.push_line-requires
-push_line-requires c = ap has_float c.in_ok-value.ensures ∙ finding_without _

@@ -1,0 +1,67 @@
+//! A part of a block, with its places.
+
+ghost use Rattle.std.specs.Prelude.{◌≡◌, ◌≤◌, ◌<◌, ℕ, slice_index};
+ghost use Rattle.message_pattern.specs.PatternParts.{part_view};
+ghost use Rattle.packed_list.specs.Inner.ListReading.{numbers};
+
+use crate::item::{part_in, place_count};
+use message_pattern::Part;
+use std::marker::Model;
+
+/// A part of a packed pattern, and its places: of an argument its length, of a plural then the place
+/// of the first branch by a number, and those of the branches of the categories zero, one, two, few,
+/// many and other, of a select that of the branch `other`; of a selector the length of its branch,
+/// and if it is a number the place of the next branch by a number.
+///
+/// The length counts the parts before the end of an argument, or of a branch. The place of a branch
+/// counts the parts from this one up to its selector; 0 is no branch.
+#[derive(Debug, Drop)]
+pub struct PlacedPart<'a> {
+    pub(crate) item: &'a [u8],
+}
+
+impl<'a> Model for PlacedPart<'a> {
+    ghost use Rattle.packed_pattern.specs.PartPlaces.{PlacedPart};
+
+    ghost Value = { PlacedPart };
+
+    ghost use Rattle.packed_pattern.specs.Inner.PartReading.{item_places, part_in};
+
+    ghost view = { λ placed. record { part = part_in placed.item.now; places = item_places placed.item.now } };
+}
+
+impl<'a> PlacedPart<'a> {
+    /// Returns the part.
+    #[inline]
+    pub fn part(&self) -> Part<'a>
+        ensures { part_view result ≡ self.now.part }
+    {
+        part_in(self.item)
+    }
+
+    /// Returns a place, and 0 if there are fewer.
+    #[inline]
+    pub fn place(&self, index: usize) -> usize
+        ensures place { result ≡ slice_index self.now.places index }
+        ensures few { result ≤ 65535 }
+    {
+        match self.item {
+            [tag, _, content @ ..] if index < place_count(*tag) => number_at(content, index),
+            _ => 0,
+        }
+    }
+}
+
+// The number in the pair of bytes at a place, and 0 if there are fewer.
+#[inline]
+fn number_at(content: &[u8], index: usize) -> usize
+    requires { index < 8 }
+    ensures number { (count : ℕ) → index < count → result ≡ slice_index (numbers count content.now) index }
+    ensures few { result ≤ 65535 }
+{
+    if 2 * index + 1 < content.len() {
+        usize::from(content[2 * index]) + 256 * usize::from(content[2 * index + 1])
+    } else {
+        0
+    }
+}

@@ -1,0 +1,42 @@
+//! The kinds of rows: one file a subject.
+
+mod callers;
+mod checker;
+mod document_findings;
+mod document_reports;
+mod error_texts;
+mod exported_bytes;
+mod exports;
+mod fallback;
+mod findings;
+mod forms;
+mod json_files;
+mod located_findings;
+mod message_reports;
+mod sarif_members;
+mod translations;
+
+use row_calls::call::Call;
+use row_calls::run::Kinds;
+
+/// The calls of rows.
+pub struct Calls;
+
+impl Kinds for Calls {
+    fn make(kind: &str, call: &mut Call) -> bool {
+        checker::make(kind, call)
+            || fallback::make(kind, call)
+            || document_reports::make(kind, call)
+            || document_findings::make(kind, call)
+            || message_reports::make(kind, call)
+            || findings::make(kind, call)
+            || located_findings::make(kind, call)
+            || forms::make(kind, call)
+            || callers::make(kind, call)
+            || exports::make(kind, call)
+            || exported_bytes::make(kind, call)
+            || json_files::make(kind, call)
+            || translations::make(kind, call)
+            || error_texts::make(kind, call)
+    }
+}

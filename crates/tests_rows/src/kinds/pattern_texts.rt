@@ -1,0 +1,83 @@
+//! What patterns say with their arguments.
+
+use message_format::{Argument, FormatError, Rules, Value, format};
+use message_pattern::Pattern;
+use row_calls::call::Call;
+use std::fmt::Write;
+
+/// Makes the call of a kind of this file. Returns whether there is such a kind.
+pub fn make(kind: &str, call: &mut Call) -> bool {
+    match kind {
+        "pattern_text" => pattern_text(call),
+        _ => return false,
+    }
+    true
+}
+
+// What a pattern says, between quotes, or its fault.
+fn pattern_text(call: &mut Call) {
+    let text = call.text();
+    let numbers = call.texts();
+    let texts = call.texts();
+    let cardinal = call.plural_rules();
+    let ordinal = call.plural_rules();
+    let rules = Rules {
+        cardinal: &cardinal,
+        ordinal: &ordinal,
+    };
+    let mut arguments = Vec::new(call.alloc);
+    add_numbers(call, &mut arguments, &numbers);
+    add_texts(call, &mut arguments, &texts);
+    match Pattern::parse(call.alloc, text.as_bytes()) {
+        Ok(pattern) => print_said(call, &pattern, &arguments, &rules),
+        Err(fault) => call.print_error(&fault),
+    }
+}
+
+// Adds numbers under the names before them.
+fn add_numbers<'a>(call: &mut Call, arguments: &mut Vec<Argument<'a>>, pairs: &'a [String]) {
+    for pair in pairs.chunks_exact(2) {
+        if let [name, number] = pair {
+            let argument = Argument {
+                name: name.as_str(),
+                value: Value::Number(number.as_str()),
+            };
+            call.add_item(arguments, argument);
+        }
+    }
+}
+
+// Adds texts under the names before them.
+fn add_texts<'a>(call: &mut Call, arguments: &mut Vec<Argument<'a>>, pairs: &'a [String]) {
+    for pair in pairs.chunks_exact(2) {
+        if let [name, text] = pair {
+            let argument = Argument {
+                name: name.as_str(),
+                value: Value::Text(text.as_str()),
+            };
+            call.add_item(arguments, argument);
+        }
+    }
+}
+
+// Prints what a pattern says.
+fn print_said(
+    call: &mut Call,
+    pattern: &Pattern<'_>,
+    arguments: &[Argument<'_>],
+    rules: &Rules<'_, '_>,
+) {
+    match format(call.alloc, pattern, arguments, rules) {
+        Ok(said) => call.print_quoted(shown(&said)),
+        Err(FormatError::Argument(fault, name)) => {
+            let _ = write!(call, "error {fault:?} ");
+            call.print(shown(name));
+        }
+        Err(FormatError::Memory) => call.out_of_memory(),
+    }
+}
+
+// Bytes as a text.
+fn shown(bytes: &[u8]) -> &str {
+    std::str::from_utf8(bytes).unwrap_or("?")
+}
