@@ -1,3 +1,4 @@
+use Rattle.std.proofs.Common.{sym, ◌∙◌}
 use Rattle.form_commands.proofs.UnknownLemmas.{another_given, known_given, unknown_given}
 use Rattle.form_commands.proofs.run.known_rules.Goals as goal
 
