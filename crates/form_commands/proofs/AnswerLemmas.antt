@@ -20,7 +20,7 @@ use Rattle.serde_json.specs.declared.Value.{Value}
 use Rattle.form_commands.specs.FormsAnswers.{IsAnsweredLines, IsAnsweredText, IsCheckedAs, IsDocumentIn, IsStreamed}
 use Rattle.form_commands.specs.Inner.FormsInputFaults.{rules_input_fault, refused_rules}
 use Rattle.form_commands.specs.Inner.RunSteps.{AnswersLines, Checks, GivesDocument, GivesJsonValue, WritesAnswer, WritesText}
-use Rattle.form_commands.specs.Languages.{IsKnown}
+use Rattle.form_commands.specs.Languages.{IsFoundFor, IsKnown}
 use Rattle.form_commands.specs.PrintedTexts.{PrintedText}
 use Rattle.form_commands.specs.declared.error.FormsError.{FormsError}
 use Rattle.form_commands.specs.declared.error.FormsError.TheVariants.{Rules, TooLong, Json, Refused, Language, Numbers, Write, Memory}

@@ -21,7 +21,7 @@ use Rattle.form_commands.specs.Inner.NoteSteps.{Notes, NotesAfter, Writes}
 use Rattle.form_commands.specs.Inner.RunSteps.{AnswersLines, Checks}
 use Rattle.form_commands.specs.Inner.PrintedSteps.{Grows}
 use Rattle.form_commands.specs.KeyNotes.{AreFileNotes, AreLocaleNotes, AreMemberNotes, AreNoted, IsFileNote, IsKeyNote, IsNote, IsNoted, IsNoteIf, has_members, is_asked, note_text}
-use Rattle.form_commands.specs.Languages.{IsKeyOf, IsKnown, IsKnownIn}
+use Rattle.form_commands.specs.Languages.{IsFoundFor, IsKeyOf, IsKnown, IsKnownIn}
 use Rattle.form_commands.specs.PrintedTexts.{PrintedText}
 use Rattle.form_commands.specs.declared.error.FormsError.{FormsError}
 use Rattle.form_commands.specs.declared.error.FormsError.TheVariants.{Memory}

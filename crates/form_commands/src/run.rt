@@ -402,10 +402,13 @@ fn known_rules(
 ) -> Result<KeptRules, FormsError>
     ensures { IsServedBy part locale.now bytes.now kept → GivesRulesIn part locale.now bytes.now result }
 {
-    if has_roots_key(&kept, locale) {
-        known_in(alloc, part, locale, bytes)?;
+    if !has_roots_key(&kept, locale) {
+        return Ok(kept);
     }
-    Ok(kept)
+    match known_in(alloc, part, locale, bytes) {
+        Ok(()) => Ok(kept),
+        Err(error) => Err(error),
+    }
 }
 
 // Returns the document in a reader.
