@@ -130,7 +130,7 @@ impl Code {
         }
     }
 
-    // Returns what it means, in a sentence.
+    // What it means, in a sentence.
     pub(crate) fn meaning(self) -> &'static str
         ensures { result.now ≡ code_meaning self }
     {
@@ -159,7 +159,7 @@ impl Code {
         }
     }
 
-    // Returns its place in the list of rules.
+    // Its place in the list of rules.
     pub(crate) fn place(self) -> u8
         ensures { result ≡ code_place self }
     {
@@ -189,7 +189,7 @@ impl Code {
     }
 }
 
-// Returns the code of a text's fault.
+// The code of a text's fault.
 fn of_text(fault: &TextFault) -> Code
     ensures { result ≡ code_of_text fault.now }
 {
@@ -203,7 +203,7 @@ fn of_text(fault: &TextFault) -> Code
     }
 }
 
-// Returns the code of the fault of a range's entry.
+// The code of the fault of a range's entry.
 fn of_entry(fault: EntryFault) -> Code
     ensures { result ≡ code_of_entry fault }
 {

@@ -23,14 +23,14 @@ const NO_TOTALS: Totals = Totals {
     left_out: 0,
 };
 
-// Returns a command for each finding.
+// A command for each finding.
 pub(crate) fn report_commands(alloc: Global, report: &Report<'_>) -> Result<String, AllocError>
     ensures { IfOk result (λ text. string_bytes text ≡ report_commands report.now) }
 {
     file_commands(alloc, INPUT_NAME, report)
 }
 
-// Returns a command for each finding in a file.
+// A command for each finding in a file.
 pub(crate) fn file_commands(
     alloc: Global,
     file: &str,
@@ -74,7 +74,7 @@ impl<'f, 'a> LinePrinter<Finding<'a>> for FileCommands<'f> {
     }
 }
 
-// Returns the command of a text with a code, told of a file.
+// The command of a text with a code, told of a file.
 fn file_command(alloc: Global, file: &str, code: &str, text: &str) -> Result<String, AllocError>
     ensures { IfOk result (λ command. string_bytes command ≡ file_command file.now code.now text.now) }
 {
@@ -82,7 +82,7 @@ fn file_command(alloc: Global, file: &str, code: &str, text: &str) -> Result<Str
     print_located(alloc, Format::GitHub, &[located], NO_TOTALS)
 }
 
-// Returns a text with a code, told of a file.
+// A text with a code, told of a file.
 fn file_located<'a>(file: &'a str, code: &'a str, text: &'a str) -> Located<'a>
     ensures { located_view result ≡ file_located file.now code.now text.now }
 {

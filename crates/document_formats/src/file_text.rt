@@ -10,7 +10,7 @@ use document_report::{Counts, Finding, Report};
 use plural_documents::{LinePrinter, push_lines};
 use std::alloc::{AllocError, Global};
 
-// Returns a line for each finding, and one with the counts, each after the file's name.
+// A line for each finding, and one with the counts, each after the file's name.
 pub(crate) fn file_text(
     alloc: Global,
     file: &str,
@@ -48,7 +48,7 @@ impl<'f, 'a> LinePrinter<Finding<'a>> for FileLines<'f> {
     }
 }
 
-// Returns the line of a finding, with a newline.
+// The line of a finding, with a newline.
 fn finding_line(alloc: Global, file: &str, finding: &Finding<'_>) -> Result<String, AllocError>
     ensures { IfOk result (λ line. string_bytes line ≡ finding_line_in file.now (finding_view finding.now)) }
 {
@@ -56,7 +56,7 @@ fn finding_line(alloc: Global, file: &str, finding: &Finding<'_>) -> Result<Stri
     format!(in alloc; "{file}: {text}\n")
 }
 
-// Returns the line with the counts.
+// The line with the counts.
 fn file_counts_line(alloc: Global, file: &str, counts: Counts) -> Result<String, AllocError>
     ensures { IfOk result (λ line. string_bytes line ≡ counts_line_in file.now counts) }
 {
@@ -64,7 +64,7 @@ fn file_counts_line(alloc: Global, file: &str, counts: Counts) -> Result<String,
     format!(in alloc; "{file}: {text}")
 }
 
-// Returns counts, with a newline.
+// Counts, with a newline.
 fn counts_line(alloc: Global, counts: Counts) -> Result<String, AllocError>
     ensures { IfOk result (λ text. string_bytes text ≡ counts_line counts.locales counts.rules counts.numbers counts.faults) }
 {

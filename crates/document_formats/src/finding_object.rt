@@ -15,7 +15,7 @@ use std::alloc::{AllocError, Global};
 // The name of the document, standard input.
 pub(crate) const INPUT_NAME: &str = "-";
 
-// Returns the object of a finding in a file.
+// The object of a finding in a file.
 pub(crate) fn finding_value(
     alloc: Global,
     file: &str,
@@ -35,7 +35,7 @@ pub(crate) fn finding_value(
     })
 }
 
-// Returns the object of a cause.
+// The object of a cause.
 fn cause_value(alloc: Global, cause: &Cause) -> Result<Value, AllocError>
     ensures { IfOk result (λ value. view value ≡ cause_data cause.now) }
 {
@@ -43,14 +43,14 @@ fn cause_value(alloc: Global, cause: &Cause) -> Result<Value, AllocError>
     json!(in alloc; {"code": Code::of(cause).as_str(), "text": &text})
 }
 
-// Returns what is printed for a cause.
+// What is printed for a cause.
 fn cause_text(alloc: Global, cause: &Cause) -> Result<String, AllocError>
     ensures { IfOk result (λ text. string_bytes text ≡ cause_text cause.now) }
 {
     format!(in alloc; "{cause}")
 }
 
-// Returns the object of the line with the counts.
+// The object of the line with the counts.
 pub(crate) fn counts_value(alloc: Global, counts: Counts) -> Result<Value, AllocError>
     ensures { IfOk result (λ value. view value ≡ counts_data counts) }
 {
@@ -58,7 +58,7 @@ pub(crate) fn counts_value(alloc: Global, counts: Counts) -> Result<Value, Alloc
     json!(in alloc; {"counts": counts})
 }
 
-// Returns the same of a file.
+// The same of a file.
 pub(crate) fn file_counts_value(
     alloc: Global,
     file: &str,
@@ -70,7 +70,7 @@ pub(crate) fn file_counts_value(
     json!(in alloc; {"counts": counts, "file": file})
 }
 
-// Returns the object of counts.
+// The object of counts.
 fn numbers_value(alloc: Global, counts: Counts) -> Result<Value, AllocError>
     ensures { IfOk result (λ value. view value ≡ numbers_data counts) }
 {

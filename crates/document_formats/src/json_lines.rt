@@ -13,7 +13,7 @@ use finding_formats::push_value;
 use plural_documents::{LinePrinter, push_lines};
 use std::alloc::{AllocError, Global};
 
-// Returns a line for each finding, and one with the counts.
+// A line for each finding, and one with the counts.
 pub(crate) fn json_lines(alloc: Global, report: &Report<'_>) -> Result<String, AllocError>
     ensures { IfOk result (λ text. string_bytes text ≡ report_lines report.now) }
 {
@@ -25,7 +25,7 @@ pub(crate) fn json_lines(alloc: Global, report: &Report<'_>) -> Result<String, A
     Ok(text)
 }
 
-// Returns the same of a file.
+// The same of a file.
 pub(crate) fn file_lines(
     alloc: Global,
     file: &str,

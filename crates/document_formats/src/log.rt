@@ -17,14 +17,14 @@ use finding_formats::log::{
 use serde_json::Value;
 use std::alloc::{AllocError, Global};
 
-// Returns the log.
+// The log.
 pub(crate) fn report_log(alloc: Global, report: &Report<'_>) -> Result<String, AllocError>
     ensures { IfOk result (λ text. string_bytes text ≡ report_log report.now) }
 {
     file_log(alloc, INPUT_NAME, report)
 }
 
-// Returns the log of a file.
+// The log of a file.
 pub(crate) fn file_log(alloc: Global, file: &str, report: &Report<'_>) -> Result<String, AllocError>
     ensures { IfOk result (λ text. string_bytes text ≡ file_report_log file.now report.now) }
 {

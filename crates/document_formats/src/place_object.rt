@@ -13,7 +13,7 @@ use icu_plurals::provider::RawPluralCategory;
 use serde_json::{Value, json};
 use std::alloc::{AllocError, Global};
 
-// Returns the object of a place.
+// The object of a place.
 pub(crate) fn place_value(alloc: Global, place: FindingPlace<'_>) -> Result<Value, AllocError>
     ensures { IfOk result (λ value. view value ≡ place_data (finding_place_view place.entry)) }
 {
@@ -28,7 +28,7 @@ pub(crate) fn place_value(alloc: Global, place: FindingPlace<'_>) -> Result<Valu
     }
 }
 
-// Returns the object of a locale.
+// The object of a locale.
 fn locale_value(alloc: Global, locale: LocalePlace<'_>) -> Result<Value, AllocError>
     ensures { IfOk result (λ value. view value
         ≡ object (with_text (codes "kind") (codes "locale") (locale_members (locale_place_view locale.entry)))) }
@@ -36,7 +36,7 @@ fn locale_value(alloc: Global, locale: LocalePlace<'_>) -> Result<Value, AllocEr
     json!(in alloc; {"kind": "locale", "locale": locale.locale, "part": locale.part.as_str()})
 }
 
-// Returns the object of the text of a category.
+// The object of the text of a category.
 fn text_value(
     alloc: Global,
     locale: LocalePlace<'_>,
@@ -54,7 +54,7 @@ fn text_value(
     })
 }
 
-// Returns the object of a key of a locale.
+// The object of a key of a locale.
 fn key_value(alloc: Global, locale: LocalePlace<'_>, key: &str) -> Result<Value, AllocError>
     ensures { IfOk result (λ value. view value
         ≡ object (with_text (codes "key") key.now (with_text (codes "kind") (codes "key")

@@ -47,7 +47,7 @@ pub(crate) struct KnownChains<'p> {
 }
 
 impl<'p> KnownChains<'p> {
-    // Returns so many places, where nothing is known.
+    // So many places, where nothing is known.
     pub(crate) fn new(alloc: Global, count: usize) -> Result<KnownChains<'p>, AllocError>
         ensures { IfOk result (λ chains. (next : List ℕ → Option (List ℕ)) → AreKnown next chains) }
     {
@@ -56,7 +56,7 @@ impl<'p> KnownChains<'p> {
         Ok(KnownChains { rows, last: None })
     }
 
-    // Returns how many steps the chain of the next locale has, if that is known.
+    // How many steps the chain of the next locale has, if that is known.
     fn steps_of(&self, step: Step<'_>) -> Option<u8>
         ensures { (next : List ℕ → Option (List ℕ)) → AreKnown next self.now
             → IfSome result (λ steps. HasSteps next step.entry.locale.now steps) }
@@ -96,7 +96,7 @@ impl<'p> KnownChains<'p> {
     }
 }
 
-// Returns the steps of a known chain, if it is that of the locale.
+// The steps of a known chain, if it is that of the locale.
 fn steps_if(known: Option<KnownChain<'_>>, locale: &[u8]) -> Option<u8>
     ensures { (next : List ℕ → Option (List ℕ)) → IsKnown next known.entry
         → IfSome result (λ steps. HasSteps next locale.now steps) }
@@ -107,7 +107,7 @@ fn steps_if(known: Option<KnownChain<'_>>, locale: &[u8]) -> Option<u8>
     }
 }
 
-// Returns how many steps a chain of so many has after the first ones, if that shows.
+// How many steps a chain of so many has after the first ones, if that shows.
 fn steps_left(before: usize, steps: usize) -> Option<u8>
     ensures { (next : List ℕ → Option (List ℕ)) (locale at : List ℕ) → HasSteps next locale steps
         → locale_at next locale before ≡ Some at → IfSome result (λ left. HasSteps next at left) }
@@ -123,7 +123,7 @@ fn steps_left(before: usize, steps: usize) -> Option<u8>
     }
 }
 
-// Returns whether a chain goes on after all the locales that are looked up.
+// Whether a chain goes on after all the locales that are looked up.
 pub(crate) fn goes_on<'p>(
     alloc: Global,
     parents: &'p Parents<'_>,
@@ -141,8 +141,7 @@ pub(crate) fn goes_on<'p>(
     Ok(steps >= MOST_LOCALES)
 }
 
-// Returns how many steps the chain of a locale has, and appends the locales on the way to which rows
-// lead.
+// How many steps the chain of a locale has; the locales on the way to which rows lead are appended.
 fn walk<'p>(
     alloc: Global,
     parents: &'p Parents<'_>,
@@ -183,8 +182,8 @@ fn walk<'p>(
     Ok(steps)
 }
 
-// Returns whether a further step of a walk shows something: up to MOST_LOCALES of its first locale,
-// and then of one after the other on the way, as long as these are to be kept.
+// Whether a further step of a walk shows something: up to MOST_LOCALES of its first locale, and
+// then of one after the other on the way, as long as these are to be kept.
 fn shows_more(path: &[Stop<'_>], steps: usize) -> bool
     ensures { MatchBool result (steps < MOST_STEPS) (MOST_LOCALES ≤ steps) }
 {
@@ -200,7 +199,7 @@ fn shows_more(path: &[Stop<'_>], steps: usize) -> bool
     }
 }
 
-// Returns the next step of a chain; a long locale is the last.
+// The next step of a chain; a long locale is the last.
 fn short_next<'p>(
     alloc: Global,
     parents: &'p Parents<'_>,

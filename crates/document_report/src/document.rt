@@ -20,7 +20,7 @@ use plural_fallback::Part;
 use serde_json::{Map, Value};
 use std::alloc::{AllocError, Global};
 
-// Returns the document that the bytes write: a value whose parts and locales are objects.
+// The document that the bytes write: a value whose parts and locales are objects.
 pub(crate) fn value_of(alloc: Global, bytes: &[u8]) -> Result<Value, CheckError>
     ensures { GivesOnly view (document_of_bytes bytes.now) result }
 {
@@ -29,7 +29,7 @@ pub(crate) fn value_of(alloc: Global, bytes: &[u8]) -> Result<Value, CheckError>
     Ok(value)
 }
 
-// Returns the JSON value that the bytes write.
+// The JSON value that the bytes write.
 fn json_of(alloc: Global, bytes: &[u8]) -> Result<Value, CheckError>
     ensures { GivesOnly view (or_fault Json (json_of bytes.now)) result }
 {
@@ -40,7 +40,7 @@ fn json_of(alloc: Global, bytes: &[u8]) -> Result<Value, CheckError>
     }
 }
 
-// Returns the members of a part of a document, by locale.
+// The members of a part of a document, by locale.
 pub(crate) fn members_of(document: &Value, part: Part) -> Option<&Map<String, Value>>
     ensures { option_map (λ m. members_view m.now.entries) result
         ≡ option_and_then as_object (get (part_name part) (view document.now)) }
@@ -48,7 +48,7 @@ pub(crate) fn members_of(document: &Value, part: Part) -> Option<&Map<String, Va
     document.get(part.as_str())?.as_object()
 }
 
-// Returns the value of a locale in a part of a document.
+// The value of a locale in a part of a document.
 pub(crate) fn value_at<'a>(document: &'a Value, part: Part, locale: &str) -> Option<&'a Value>
     ensures { option_map (λ v. view v.now) result ≡ option_and_then (get locale.now) (get (part_name part) (view document.now)) }
 {

@@ -40,7 +40,7 @@ impl fmt::Display for EntryFault {
     }
 }
 
-// Returns the fault of an entry under these cardinal rules, if it has one.
+// The fault of an entry under these cardinal rules, if it has one.
 pub(crate) fn entry_fault(texts: &LanguageTexts<'_>, key: &str, value: &Value) -> Option<EntryFault>
     ensures { HasEntryFault (six_texts texts.now) key.now (view value.now) result }
 {
@@ -50,21 +50,21 @@ pub(crate) fn entry_fault(texts: &LanguageTexts<'_>, key: &str, value: &Value) -
     }
 }
 
-// Returns the category of a range's start.
+// The category of a range's start.
 fn start_of(range: UnvalidatedPluralRange) -> PluralCategory
     ensures { result ≡ category_numbered (range.0 / 16) }
 {
     category_numbered(range.0 / 16)
 }
 
-// Returns the category of a range's end.
+// The category of a range's end.
 fn end_of(range: UnvalidatedPluralRange) -> PluralCategory
     ensures { result ≡ category_numbered (range.0 % 16) }
 {
     category_numbered(range.0 % 16)
 }
 
-// Returns the category of a number in a range's byte.
+// The category of a number in a range's byte.
 fn category_numbered(number: u8) -> PluralCategory
     ensures { result ≡ category_numbered number }
 {
@@ -78,7 +78,7 @@ fn category_numbered(number: u8) -> PluralCategory
     }
 }
 
-// Returns the fault of a range and its value, if there is one.
+// The fault of a range and its value, if there is one.
 fn range_fault(
     texts: &LanguageTexts<'_>,
     start: PluralCategory,
@@ -96,7 +96,7 @@ fn range_fault(
     value_fault(texts, value)
 }
 
-// Returns the fault of an entry's value, if it has one.
+// The fault of an entry's value, if it has one.
 fn value_fault(texts: &LanguageTexts<'_>, value: &Value) -> Option<EntryFault>
     ensures { HasValueFault (six_texts texts.now) (view value.now) result }
 {

@@ -5,7 +5,7 @@ ghost use Rattle.std.specs.Prelude.{◌≡◌, IfOk};
 use plural_checker::{PrintedRule, SampleFault, TextFault};
 use std::alloc::{AllocError, Global};
 
-// Returns a copy of the fault of a text.
+// A copy of the fault of a text.
 pub(crate) fn fault_copy(alloc: Global, fault: &TextFault) -> Result<TextFault, AllocError>
     ensures { IfOk result (λ copy. copy ≡ fault.now) }
 {
@@ -21,7 +21,7 @@ pub(crate) fn fault_copy(alloc: Global, fault: &TextFault) -> Result<TextFault, 
     }
 }
 
-// Returns a copy of the text of a rule.
+// A copy of the text of a rule.
 fn rule_copy(alloc: Global, printed: &PrintedRule) -> Result<PrintedRule, AllocError>
     ensures { IfOk result (λ copy. copy ≡ printed.now) }
 {
@@ -29,7 +29,7 @@ fn rule_copy(alloc: Global, printed: &PrintedRule) -> Result<PrintedRule, AllocE
     Ok(PrintedRule(text))
 }
 
-// Returns a copy of the fault of a sample.
+// A copy of the fault of a sample.
 fn sample_copy(fault: &SampleFault) -> Result<SampleFault, AllocError>
     ensures { IfOk result (λ copy. copy ≡ fault.now) }
 {

@@ -28,7 +28,7 @@ impl Finding<'_> {
     }
 }
 
-// Returns the line of a cause, given what is printed for the place.
+// The line of a cause, given what is printed for the place.
 fn line_of(alloc: Global, place: &str, cause: &Cause) -> Result<String, AllocError>
     ensures { IfOk result (λ line. string_bytes line ≡ place.now ++ (codes ": " ++ cause_text cause.now)) }
 {

@@ -76,14 +76,14 @@ impl<'a> PrintedPlace for FindingPlace<'a> {
     }
 }
 
-// Returns whether both are one locale of a part.
+// Whether both are one locale of a part.
 fn is_same_locale(first: LocalePlace<'_>, second: LocalePlace<'_>) -> bool
     ensures { OnTrue result (locale_place_view first.entry ≡ locale_place_view second.entry) }
 {
     first.part == second.part && first.locale == second.locale
 }
 
-// Returns what is printed for the parent of a locale.
+// What is printed for the parent of a locale.
 fn parent_text(alloc: Global, locale: &str) -> Result<String, AllocError>
     ensures { IfOk result (λ text. string_bytes text ≡ named (codes "parents") (name_text locale.now)) }
 {
@@ -91,7 +91,7 @@ fn parent_text(alloc: Global, locale: &str) -> Result<String, AllocError>
     named(alloc, "parents", name.as_str())
 }
 
-// Returns what is printed for a locale.
+// What is printed for a locale.
 fn locale_text(alloc: Global, locale: LocalePlace<'_>) -> Result<String, AllocError>
     ensures { IfOk result (λ text. string_bytes text ≡ locale_place_text (locale_place_view locale.entry)) }
 {
@@ -99,7 +99,7 @@ fn locale_text(alloc: Global, locale: LocalePlace<'_>) -> Result<String, AllocEr
     named(alloc, locale.part.as_str(), name.as_str())
 }
 
-// Returns what is printed for what has a name in a locale.
+// What is printed for what has a name in a locale.
 fn named_in(alloc: Global, locale: LocalePlace<'_>, name: &str) -> Result<String, AllocError>
     ensures { IfOk result (λ text. string_bytes text ≡ named (locale_place_text (locale_place_view locale.entry)) name.now) }
 {
@@ -107,7 +107,7 @@ fn named_in(alloc: Global, locale: LocalePlace<'_>, name: &str) -> Result<String
     named(alloc, place.as_str(), name)
 }
 
-// Returns what is printed for a key of a locale.
+// What is printed for a key of a locale.
 fn key_text(alloc: Global, locale: LocalePlace<'_>, key: &str) -> Result<String, AllocError>
     ensures { IfOk result (λ text. string_bytes text ≡ named (locale_place_text (locale_place_view locale.entry)) (name_text key.now)) }
 {
@@ -115,7 +115,7 @@ fn key_text(alloc: Global, locale: LocalePlace<'_>, key: &str) -> Result<String,
     named_in(alloc, locale, name.as_str())
 }
 
-// Returns what is printed for what has a name at a place.
+// What is printed for what has a name at a place.
 fn named(alloc: Global, place: &str, name: &str) -> Result<String, AllocError>
     ensures { IfOk result (λ text. string_bytes text ≡ named place.now name.now) }
 {

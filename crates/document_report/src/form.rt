@@ -77,7 +77,7 @@ fn check_locales(alloc: Global, part: Part, members: &Map<String, Value>) -> Res
     Ok(())
 }
 
-// Returns whether a locale's value has the form of the part.
+// Whether a locale's value has the form of the part.
 fn has_form(part: Part, value: &Value) -> bool
     ensures { result ≡ has_part_form part (view value.now) }
 {
@@ -87,14 +87,14 @@ fn has_form(part: Part, value: &Value) -> bool
     }
 }
 
-// Returns the value of `ranges` in a locale's value, if it is an object.
+// The value of `ranges` in a locale's value, if it is an object.
 pub(crate) fn table_in(value: &Value) -> Option<&Map<String, Value>>
     ensures { option_map (λ m. members_view m.now.entries) result ≡ table_in (view value.now) }
 {
     value.get("ranges")?.as_object()
 }
 
-// Returns the error for a locale.
+// The error for a locale.
 fn no_object(alloc: Global, part: Part, locale: &str) -> CheckError
     ensures { GivesFault (λ fault. fault ≡ NoObject (place.Locale part (name_text locale.now))) result }
 {

@@ -61,28 +61,28 @@ impl<'a> Findings for Found<'a> {
 }
 
 impl<'a> Found<'a> {
-    // Returns the findings, in their order.
+    // The findings, in their order.
     pub(crate) fn findings(&self) -> &[Finding<'a>]
         ensures { map finding_view result.now ≡ self.now.findings }
     {
         self.findings.as_slice()
     }
 
-    // Returns how many faults there are.
+    // How many faults there are.
     pub(crate) fn faults(&self) -> u64
         ensures { result ≡ self.now.faults }
     {
         self.faults
     }
 
-    // Returns how many rule texts were checked.
+    // How many rule texts were checked.
     pub(crate) fn checked(&self) -> u64
         ensures { result ≡ self.now.checked }
     {
         self.checked
     }
 
-    // Returns how many numbers they have.
+    // How many numbers they have.
     pub(crate) fn cases(&self) -> u64
         ensures { result ≡ self.now.cases }
     {

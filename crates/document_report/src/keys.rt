@@ -110,7 +110,7 @@ fn add_part<'a>(key: &'a str, found: &mut Found<'a>) -> Result<(), AllocError>
     found.add_fault(FindingPlace::Part(key), Cause::NotAPart)
 }
 
-// Returns whether a key names a part that programs know.
+// Whether a key names a part that programs know.
 fn is_part_name(key: &str) -> bool
     ensures { result ≡ is_part_name key.now }
 {

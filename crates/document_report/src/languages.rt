@@ -76,7 +76,7 @@ fn add_language<'a>(
     add_categories(alloc, place, value.as_object(), found)
 }
 
-// Returns the texts of a language's rules.
+// The texts of a language's rules.
 pub(crate) fn texts_of(value: &Value) -> LanguageTexts<'_>
     ensures { six_texts result ≡ all_texts_in (view value.now) }
 {
@@ -90,14 +90,14 @@ pub(crate) fn texts_of(value: &Value) -> LanguageTexts<'_>
     }
 }
 
-// Returns the text under the name of a category.
+// The text under the name of a category.
 fn text_under(value: &Value, category: PluralCategory) -> Option<&str>
     ensures { option_copied result ≡ text_under category (view value.now) }
 {
     value.get(name_of(category))?.as_str()
 }
 
-// Returns the name of a category.
+// The name of a category.
 pub(crate) fn name_of(category: PluralCategory) -> &'static str
     ensures { result.now ≡ name_of category }
 {
@@ -118,7 +118,7 @@ fn add_other<'a>(
     found.add_fault(FindingPlace::Locale(place), Cause::NoOther)
 }
 
-// Returns whether the value of other is absent or null.
+// Whether the value of other is absent or null.
 fn lacks_other(value: &Value) -> bool
     ensures { result ≡ lacks_other (view value.now) }
 {

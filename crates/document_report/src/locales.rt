@@ -11,7 +11,7 @@ use plural_fallback::Part;
 use serde_json::{Map, Value};
 use std::alloc::AllocError;
 
-// Returns how many locales there are. A count that is too large is reported as out of memory.
+// How many locales there are. A count that is too large is reported as out of memory.
 pub(crate) fn locale_count(document: &Value) -> Result<u64, AllocError>
     ensures { IfOk result (λ count. count ≡ locale_count (view document.now)) }
 {
@@ -21,7 +21,7 @@ pub(crate) fn locale_count(document: &Value) -> Result<u64, AllocError>
     sum(sum(cardinal, ordinal)?, ranges)
 }
 
-// Returns how many locales are in a part but in no earlier part.
+// How many locales are in a part but in no earlier part.
 fn first_count(document: &Value, part: Part) -> Result<u64, AllocError>
     ensures { IfOk result (λ count. count ≡ first_count part (view document.now)) }
 {
@@ -31,7 +31,7 @@ fn first_count(document: &Value, part: Part) -> Result<u64, AllocError>
     }
 }
 
-// Returns how many of these locales are in no earlier part.
+// How many of these locales are in no earlier part.
 fn count_first(
     document: &Value,
     part: Part,
@@ -49,7 +49,7 @@ fn count_first(
     Ok(count)
 }
 
-// Returns whether a locale is in no earlier part.
+// Whether a locale is in no earlier part.
 fn is_first_in(document: &Value, part: Part, locale: &str) -> bool
     ensures { result ≡ is_first_in part (view document.now) locale.now }
 {
@@ -63,7 +63,7 @@ fn is_first_in(document: &Value, part: Part, locale: &str) -> bool
     }
 }
 
-// Returns whether a part has a locale.
+// Whether a part has a locale.
 fn has_locale(document: &Value, part: Part, locale: &str) -> bool
     ensures { result ≡ has_locale part (view document.now) locale.now }
 {

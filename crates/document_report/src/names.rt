@@ -6,14 +6,14 @@ ghost use Rattle.document_report.specs.Names.{has_underscore, is_long_name};
 // The most bytes of a name that isn't long.
 pub(crate) const MOST_NAME_BYTES: usize = 255;
 
-// Returns whether a name is long.
+// Whether a name is long.
 pub(crate) fn is_long_name(name: &str) -> bool
     ensures { result ≡ is_long_name name.now }
 {
     name.len() > MOST_NAME_BYTES
 }
 
-// Returns whether a name has `_`.
+// Whether a name has `_`.
 pub(crate) fn has_underscore(name: &str) -> bool
     ensures { result ≡ has_underscore name.now }
 {

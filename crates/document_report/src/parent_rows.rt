@@ -21,9 +21,9 @@ pub(crate) struct Row<'a> {
 }
 
 impl<'a> Row<'a> {
-    // Returns the place, if the row leads from its own name to the next locale, or has that as its
-    // parent: then it leads nowhere else, but by what stands before the last subtag of a locale in
-    // another case.
+    // The place, if the row leads from its own name to the next locale, or has that as its parent:
+    // then it leads nowhere else, but by what stands before the last subtag of a locale in another
+    // case.
     pub(crate) fn place_if_always(&self, locale: &[u8], next: &[u8]) -> Option<usize> {
         let is_parent = match self.parent {
             Some(parent) => parent.as_bytes() == next,
@@ -70,7 +70,7 @@ pub(crate) struct Parents<'a> {
 impl<'a> Parents<'a> {
     ghost use Rattle.document_report.specs.Inner.ParentRows.{named_parent, parent_among};
 
-    // Returns the parents that the members of the part name.
+    // The parents that the members of the part name.
     pub(crate) fn of(
         alloc: Global,
         members: &'a Map<String, Value>,
@@ -106,8 +106,7 @@ impl<'a> Parents<'a> {
         })
     }
 
-    // Returns the row of a locale. Of a front of many subtags the length tells mostly that it has
-    // none.
+    // The row of a locale. Of a front of many subtags the length tells mostly that it has none.
     pub(crate) fn row(&self, alloc: Global, locale: &[u8]) -> Result<&Row<'a>, AllocError>
         ensures { IfOk result (λ row. row_text row.now ≡ named_parent self.now locale.now) }
     {
@@ -168,7 +167,7 @@ fn put_first<'a>(
     Ok(())
 }
 
-// Returns a name in lower case, with `_` as `-`.
+// A name in lower case, with `_` as `-`.
 fn folded_name(alloc: Global, name: &[u8]) -> Result<Vec<u8>, AllocError>
     ensures { IfOk result (λ bytes. bytes.items ≡ map folded name.now) }
 {
@@ -177,7 +176,7 @@ fn folded_name(alloc: Global, name: &[u8]) -> Result<Vec<u8>, AllocError>
         .collect::<Vec<u8>>(alloc)
 }
 
-// Returns a byte in lower case, and `_` as `-`.
+// A byte in lower case, and `_` as `-`.
 fn folded(byte: u8) -> u8
     ensures { result ≡ folded byte }
 {

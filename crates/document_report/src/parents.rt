@@ -34,7 +34,7 @@ pub(crate) fn add_parents<'a>(
     }
 }
 
-// Returns the members of the part `parents`, if it is an object.
+// The members of the part `parents`, if it is an object.
 fn parents_of(document: &Value) -> Option<&Map<String, Value>>
     ensures { option_map (λ m. members_view m.now.entries) result
         ≡ option_and_then as_object (get (codes "parents") (view document.now)) }

@@ -84,7 +84,7 @@ fn add_count(locales: u64, found: &mut Found<'_>) -> Result<(), AllocError>
     found.add_fault(FindingPlace::Document, Cause::NoLocale)
 }
 
-// Returns what is found in the keys of the parts, in the three parts, and in the parents.
+// What is found in the keys of the parts, in the three parts, and in the parents.
 fn found_in<'a>(alloc: Global, document: &'a Value) -> Result<Found<'a>, AllocError>
     ensures { IfOk result (λ found. IsFoundInDocument (view document.now) found) }
 {
@@ -167,7 +167,7 @@ impl<'a> Report<'a> {
         Ok(text)
     }
 
-    // Returns the line with the counts of the report.
+    // The line with the counts of the report.
     fn last_line(&self, alloc: Global) -> Result<String, AllocError>
         ensures { IfOk result (λ line. string_bytes line ≡ counts_of self.now) }
     {
@@ -182,7 +182,7 @@ impl<'a> Report<'a> {
     }
 }
 
-// Returns the line with these counts.
+// The line with these counts.
 fn counts_line(
     alloc: Global,
     locales: u64,

@@ -79,7 +79,7 @@ pub fn run_as<P: ReportPrinter, R: Read, W: Write>(
     }
 }
 
-// Returns the answer to the input of a reader.
+// The answer to the input of a reader.
 fn answer_to_reader<P: ReportPrinter, R: Read>(
     alloc: Global,
     printer: &P,
@@ -93,7 +93,7 @@ fn answer_to_reader<P: ReportPrinter, R: Read>(
     answer_to(alloc, printer, input.as_slice())
 }
 
-// Returns the answer to the bytes of an input.
+// The answer to the bytes of an input.
 fn answer_to<P: ReportPrinter>(
     alloc: Global,
     printer: &P,
@@ -108,7 +108,7 @@ fn answer_to<P: ReportPrinter>(
     }
 }
 
-// Returns the answer to a document.
+// The answer to a document.
 fn answer_of<P: ReportPrinter>(
     alloc: Global,
     printer: &P,

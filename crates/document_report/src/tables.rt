@@ -103,7 +103,7 @@ impl<'a> MemberCheck<'a, Found<'a>> for EntryCheck<'a> {
     }
 }
 
-// Returns the texts of cardinal rules, if there are any.
+// The texts of cardinal rules, if there are any.
 fn texts_at(rules: Option<&Value>) -> LanguageTexts<'_>
     ensures { six_texts result ≡ texts_at (option_map (λ v. view v.now) rules.entry) }
 {

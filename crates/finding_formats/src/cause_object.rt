@@ -17,7 +17,7 @@ use plural_checker::Sample;
 use serde_json::{Map, Value, json, put};
 use std::alloc::{AllocError, Global};
 
-// Returns the object of a cause.
+// The object of a cause.
 pub(crate) fn cause_value(alloc: Global, cause: Cause) -> Result<Value, AllocError>
     ensures { IfOk result (λ value. view value ≡ cause_data cause) }
 {
@@ -63,7 +63,7 @@ fn put_pattern_fault(
     put_number(alloc, members, "byte", byte as u64)
 }
 
-// Returns the word of a kind of fault.
+// The word of a kind of fault.
 fn fault_kind_name(kind: FaultKind) -> &'static str
     ensures { result.now ≡ fault_kind_name kind }
 {
@@ -181,7 +181,7 @@ fn put_samples(
     put(members, alloc, "samples", samples)
 }
 
-// Returns the list of the samples that are known.
+// The list of the samples that are known.
 fn samples_value(
     alloc: Global,
     first: Option<Sample>,
@@ -201,7 +201,7 @@ fn samples_value(
     }
 }
 
-// Returns the list of the numbers that are known.
+// The list of the numbers that are known.
 fn numbers_value(
     alloc: Global,
     first: Option<u16>,

@@ -98,7 +98,7 @@ impl Code {
         }
     }
 
-    // Returns what it means, in a sentence.
+    // What it means, in a sentence.
     pub(crate) fn meaning(self) -> &'static str
         ensures { result.now ≡ code_meaning self }
     {
@@ -121,7 +121,7 @@ impl Code {
         }
     }
 
-    // Returns its place in the list of rules.
+    // Its place in the list of rules.
     pub(crate) fn place(self) -> u8
         ensures { result ≡ code_place self }
     {
@@ -144,7 +144,7 @@ impl Code {
     }
 }
 
-// Returns the code of a form's fault.
+// The code of a form's fault.
 fn of_form(fault: FormFault) -> Code
     ensures { result ≡ code_of_form fault }
 {
@@ -157,7 +157,7 @@ fn of_form(fault: FormFault) -> Code
     }
 }
 
-// Returns the code of a branch's fault.
+// The code of a branch's fault.
 fn of_branch(fault: BranchFault) -> Code
     ensures { result ≡ code_of_branch fault }
 {

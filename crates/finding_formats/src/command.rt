@@ -8,7 +8,7 @@ use crate::workflow::{Slot, slot_text};
 use message_report::Severity;
 use std::alloc::{AllocError, Global};
 
-// Returns a command, with a newline; its title is given as it stands there.
+// A command, with a newline; its title is given as it stands there.
 pub(crate) fn command_text(
     alloc: Global,
     severity: Severity,
@@ -32,7 +32,7 @@ pub(crate) fn command_text(
     )
 }
 
-// Returns the name of the command.
+// The name of the command.
 fn command_name(severity: Severity) -> &'static str
     ensures { result.now ≡ command_name severity }
 {
@@ -42,7 +42,7 @@ fn command_name(severity: Severity) -> &'static str
     }
 }
 
-// Returns a command of parts as they stand there, with a newline.
+// A command of parts as they stand there, with a newline.
 fn command_of(
     alloc: Global,
     name: &str,

@@ -14,7 +14,7 @@ use message_report::{Cause, Counts, Finding};
 use serde_json::{Map, Value, json, put};
 use std::alloc::{AllocError, Global};
 
-// Returns the object of a finding.
+// The object of a finding.
 pub(crate) fn finding_value(alloc: Global, finding: &Finding<'_>) -> Result<Value, AllocError>
     ensures { IfOk result (λ value. view value ≡ finding_data (finding_view finding.now)) }
 {
@@ -23,7 +23,7 @@ pub(crate) fn finding_value(alloc: Global, finding: &Finding<'_>) -> Result<Valu
     Ok(Value::Object(members))
 }
 
-// Returns the members of the object of a finding, given what is printed of it.
+// The members of the object of a finding, given what is printed of it.
 pub(crate) fn finding_members(
     alloc: Global,
     finding: &Finding<'_>,
@@ -43,7 +43,7 @@ pub(crate) fn finding_members(
     Ok(members)
 }
 
-// Returns what is printed of a finding, after the name of its file.
+// What is printed of a finding, after the name of its file.
 pub(crate) fn finding_text(alloc: Global, finding: &Finding<'_>) -> Result<String, AllocError>
     ensures { IfOk result (λ text. string_bytes text ≡ finding_text (finding_view finding.now)) }
 {
@@ -51,14 +51,14 @@ pub(crate) fn finding_text(alloc: Global, finding: &Finding<'_>) -> Result<Strin
     text_of(alloc, place.as_str(), finding.cause)
 }
 
-// Returns the text of a cause, behind what is printed for its place.
+// The text of a cause, behind what is printed for its place.
 pub(crate) fn text_of(alloc: Global, place: &str, cause: Cause) -> Result<String, AllocError>
     ensures { IfOk result (λ text. string_bytes text ≡ place.now ++ (codes ": " ++ cause_text cause)) }
 {
     format!(in alloc; "{place}: {cause}")
 }
 
-// Returns the object of counts.
+// The object of counts.
 pub(crate) fn counts_value(alloc: Global, counts: Counts) -> Result<Value, AllocError>
     ensures { IfOk result (λ value. view value ≡ counts_data counts) }
 {

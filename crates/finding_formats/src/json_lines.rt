@@ -14,7 +14,7 @@ use plural_documents::{LinePrinter, push_lines};
 use serde_json::Value;
 use std::alloc::{AllocError, Global};
 
-// Returns a line for each finding, and one with the counts.
+// A line for each finding, and one with the counts.
 pub(crate) fn json_lines(alloc: Global, found: &Found<'_>) -> Result<String, AllocError>
     ensures { IfOk result (λ text. string_bytes text ≡ json_lines found.now) }
 {

@@ -5,7 +5,7 @@ ghost use Rattle.finding_formats.specs.LineMarks.{line_mark};
 
 use std::alloc::{AllocError, Global};
 
-// Returns a mark and the number of a line, or nothing if none is known.
+// A mark and the number of a line, or nothing if none is known.
 pub(crate) fn line_mark(alloc: Global, mark: &str, line: Option<u64>) -> Result<String, AllocError>
     ensures { IfOk result (λ text. string_bytes text ≡ line_mark mark.now line) }
 {

@@ -12,7 +12,7 @@ use crate::workflow::{Slot, slot_text};
 use plural_documents::{LinePrinter, push_lines};
 use std::alloc::{AllocError, Global};
 
-// Returns a command for each.
+// A command for each.
 pub(crate) fn located_commands(alloc: Global, located: &[Located<'_>]) -> Result<String, AllocError>
     ensures { IfOk result (λ text. string_bytes text ≡ located_commands (map located_view located.now)) }
 {
@@ -43,7 +43,7 @@ impl<'a> LinePrinter<Located<'a>> for LocatedCommands {
     }
 }
 
-// Returns the command of one, with a newline.
+// The command of one, with a newline.
 fn located_command(alloc: Global, one: &Located<'_>) -> Result<String, AllocError>
     ensures { IfOk result (λ text. string_bytes text ≡ located_command (located_view one.now)) }
 {

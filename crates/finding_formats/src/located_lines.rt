@@ -13,7 +13,7 @@ use crate::totals::Totals;
 use plural_documents::{LinePrinter, push_lines};
 use std::alloc::{AllocError, Global};
 
-// Returns a line for each, and one with the totals.
+// A line for each, and one with the totals.
 pub(crate) fn located_lines(
     alloc: Global,
     located: &[Located<'_>],

@@ -16,7 +16,7 @@ use crate::told::Told;
 use serde_json::{Value, json};
 use std::alloc::{AllocError, Global};
 
-// Returns the log.
+// The log.
 pub(crate) fn located_log(alloc: Global, located: &[Located<'_>]) -> Result<String, AllocError>
     ensures { IfOk result (λ text. string_bytes text ≡ located_log (map located_view located.now)) }
 {
@@ -41,7 +41,7 @@ impl<'a> ValueMaker<Located<'a>> for LocatedResults {
     }
 }
 
-// Returns the result of what is told, given its line, if it is known, and its words.
+// The result of what is told, given its line, if it is known, and its words.
 fn told_result(
     alloc: Global,
     told: &Told<'_>,
@@ -56,7 +56,7 @@ fn told_result(
     }
 }
 
-// Returns the result of a notice, which has no place by name, and whose code has no rule.
+// The result of a notice, which has no place by name, and whose code has no rule.
 fn notice_result(
     alloc: Global,
     notice: Notice<'_>,

@@ -16,7 +16,7 @@ use crate::totals::Totals;
 use serde_json::{Map, Value, json, put};
 use std::alloc::{AllocError, Global};
 
-// Returns the object of one.
+// The object of one.
 pub(crate) fn located_value(alloc: Global, one: &Located<'_>) -> Result<Value, AllocError>
     ensures { IfOk result (λ value. view value ≡ located_data (located_view one.now)) }
 {
@@ -27,7 +27,7 @@ pub(crate) fn located_value(alloc: Global, one: &Located<'_>) -> Result<Value, A
     Ok(Value::Object(members))
 }
 
-// Returns the members of the object of what is told, given its words.
+// The members of the object of what is told, given its words.
 fn told_members(
     alloc: Global,
     told: &Told<'_>,
@@ -41,7 +41,7 @@ fn told_members(
     }
 }
 
-// Returns the members of the object of a notice, given its words.
+// The members of the object of a notice, given its words.
 fn notice_members(
     alloc: Global,
     notice: Notice<'_>,
@@ -88,7 +88,7 @@ fn put_placeholder(
     }
 }
 
-// Returns the object of the totals.
+// The object of the totals.
 pub(crate) fn totals_value(alloc: Global, totals: Totals) -> Result<Value, AllocError>
     ensures { IfOk result (λ value. view value ≡ totals_data totals) }
 {

@@ -12,7 +12,7 @@ use crate::totals::Totals;
 use plural_documents::{LinePrinter, push_lines};
 use std::alloc::{AllocError, Global};
 
-// Returns a line for each, and one with the totals.
+// A line for each, and one with the totals.
 pub(crate) fn located_report(
     alloc: Global,
     located: &[Located<'_>],
@@ -48,7 +48,7 @@ impl<'a> LinePrinter<Located<'a>> for ReportLines {
     }
 }
 
-// Returns the line of one, with a newline.
+// The line of one, with a newline.
 fn report_line(alloc: Global, one: &Located<'_>) -> Result<String, AllocError>
     ensures { IfOk result (λ line. string_bytes line ≡ report_line (located_view one.now)) }
 {
@@ -65,7 +65,7 @@ fn report_line(alloc: Global, one: &Located<'_>) -> Result<String, AllocError>
     )
 }
 
-// Returns a line, with a newline.
+// A line, with a newline.
 fn line_of(
     alloc: Global,
     file: &str,
@@ -80,7 +80,7 @@ fn line_of(
     format!(in alloc; "{file}{mark}: {severity} [{code}] {words}\n")
 }
 
-// Returns the line with the totals.
+// The line with the totals.
 fn totals_line(alloc: Global, totals: Totals) -> Result<String, AllocError>
     ensures { IfOk result (λ line. string_bytes line ≡ totals_line totals) }
 {

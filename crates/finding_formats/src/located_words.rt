@@ -11,7 +11,7 @@ use message_report::{Cause, Finding, Form, FormFault};
 use plural_documents::name_text;
 use std::alloc::{AllocError, Global};
 
-// Returns what is told, after the name of the file.
+// What is told, after the name of the file.
 pub(crate) fn located_words(alloc: Global, located: &Located<'_>) -> Result<String, AllocError>
     ensures { IfOk result (λ text. string_bytes text ≡ located_words (located_view located.now)) }
 {
@@ -21,7 +21,7 @@ pub(crate) fn located_words(alloc: Global, located: &Located<'_>) -> Result<Stri
     }
 }
 
-// Returns what is printed of a finding, given what says the number in its file.
+// What is printed of a finding, given what says the number in its file.
 fn finding_words(
     alloc: Global,
     finding: &Finding<'_>,
@@ -37,7 +37,7 @@ fn finding_words(
     cause_words(alloc, place.as_str(), shown.as_str(), finding.cause)
 }
 
-// Returns the text of a cause, behind what is printed for its place, given what says the number.
+// The text of a cause, behind what is printed for its place, given what says the number.
 fn cause_words(alloc: Global, place: &str, shown: &str, cause: Cause) -> Result<String, AllocError>
     ensures { IfOk result (λ text. string_bytes text ≡ place.now ++ (codes ": " ++ cause_words shown.now cause)) }
 {
@@ -47,7 +47,7 @@ fn cause_words(alloc: Global, place: &str, shown: &str, cause: Cause) -> Result<
     }
 }
 
-// Returns that of the fault of a form.
+// That of the fault of a form.
 fn form_words(
     alloc: Global,
     place: &str,

@@ -65,7 +65,7 @@ pub fn log_text(
     Ok(text)
 }
 
-// Returns the log as a value.
+// The log as a value.
 fn log_value(
     alloc: Global,
     tool: &str,
@@ -82,7 +82,7 @@ fn log_value(
     })
 }
 
-// Returns the run.
+// The run.
 fn run_value(
     alloc: Global,
     tool: &str,
@@ -96,7 +96,7 @@ fn run_value(
     json!(in alloc; {"results": results, "tool": tool})
 }
 
-// Returns the tool.
+// The tool.
 fn tool_value(alloc: Global, tool: &str, rules: Vec<Value>) -> Result<Value, AllocError>
     ensures { IfOk result (λ value. view value ≡ tool_data tool.now (map view rules.items)) }
 {
@@ -149,7 +149,7 @@ pub fn location_value(
     })
 }
 
-// Returns the location of a file, with a line if it is known.
+// The location of a file, with a line if it is known.
 pub(crate) fn physical_value(
     alloc: Global,
     file: &str,

@@ -48,7 +48,7 @@ pub(crate) fn put_bytes(
     }
 }
 
-// Returns what is printed in place of bytes that are no text.
+// What is printed in place of bytes that are no text.
 fn cut_text(alloc: Global, bytes: &[u8]) -> Result<String, AllocError>
     ensures { IfOk result (λ text. string_bytes text ≡ length_text bytes.now) }
 {

@@ -15,7 +15,7 @@ use message_report::{ArgumentPlace, LocalePlace, MessagePlace, PatternPlace, Pla
 use serde_json::{Map, Value};
 use std::alloc::{AllocError, Global};
 
-// Returns the object of a place.
+// The object of a place.
 pub(crate) fn place_value(alloc: Global, place: Place<'_>) -> Result<Value, AllocError>
     ensures { IfOk result (λ value. view value ≡ place_data (place_view place.entry)) }
 {
@@ -25,7 +25,7 @@ pub(crate) fn place_value(alloc: Global, place: Place<'_>) -> Result<Value, Allo
     Ok(Value::Object(members))
 }
 
-// Returns the word of what is at a place.
+// The word of what is at a place.
 fn kind(place: Place<'_>) -> &'static str
     ensures { result.now ≡ place_kind (place_view place.entry) }
 {
@@ -172,7 +172,7 @@ fn put_branch(
     }
 }
 
-// Returns the key of a type in a locale.
+// The key of a type in a locale.
 pub(crate) fn type_name(rule_type: PluralRuleType) -> &'static str
     ensures { result.now ≡ type_name rule_type }
 {

@@ -22,7 +22,7 @@ pub fn file_reference(alloc: Global, name: &str) -> Result<String, AllocError>
     Ok(text)
 }
 
-// Returns what keeps the beginning of a path from being an authority.
+// What keeps the beginning of a path from being an authority.
 fn path_start(name: &[u8]) -> &'static str
     ensures { result.now ≡ path_start name.now }
 {
@@ -53,14 +53,14 @@ fn push_byte(text: &mut String, byte: u8) -> Result<(), AllocError>
     text.push_str(percent_encode_byte(byte))
 }
 
-// Returns whether a byte stands in a path for itself.
+// Whether a byte stands in a path for itself.
 fn is_path_byte(byte: u8) -> bool
     ensures { result ≡ is_path_byte byte }
 {
     byte < 128 && (is_alphanumeric(byte) || PATH_MARKS.contains(&byte))
 }
 
-// Returns whether a byte is a letter or a digit of ASCII.
+// Whether a byte is a letter or a digit of ASCII.
 fn is_alphanumeric(byte: u8) -> bool
     ensures { result ≡ is_alphanumeric byte }
 {

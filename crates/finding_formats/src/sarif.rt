@@ -18,7 +18,7 @@ use message_report::{Finding, Found};
 use serde_json::Value;
 use std::alloc::{AllocError, Global};
 
-// Returns the log.
+// The log.
 pub(crate) fn sarif_text(alloc: Global, found: &Found<'_>) -> Result<String, AllocError>
     ensures { IfOk result (λ text. string_bytes text ≡ sarif_text found.now) }
 {
@@ -26,7 +26,7 @@ pub(crate) fn sarif_text(alloc: Global, found: &Found<'_>) -> Result<String, All
     forms_log(alloc, results)
 }
 
-// Returns the log of results.
+// The log of results.
 pub(crate) fn forms_log(alloc: Global, results: Vec<Value>) -> Result<String, AllocError>
     requires { items_have_float (items_of (map view results.items)) ≡ false }
     ensures { IfOk result (λ text. string_bytes text ≡ forms_log (map view results.items)) }
@@ -68,7 +68,7 @@ impl<'a> ValueMaker<Finding<'a>> for FindingResults {
     }
 }
 
-// Returns the result of a finding, given its line, if it is known, and what is printed of it.
+// The result of a finding, given its line, if it is known, and what is printed of it.
 pub(crate) fn finding_result(
     alloc: Global,
     finding: &Finding<'_>,

@@ -5,7 +5,7 @@ ghost use Rattle.finding_formats.specs.FindingCodes.{level_name, severity_word};
 
 use message_report::Severity;
 
-// Returns what JSON calls it.
+// What JSON calls it.
 pub(crate) fn severity_word(severity: Severity) -> &'static str
     ensures { result.now ≡ severity_word severity }
 {
@@ -15,7 +15,7 @@ pub(crate) fn severity_word(severity: Severity) -> &'static str
     }
 }
 
-// Returns what SARIF calls it.
+// What SARIF calls it.
 pub(crate) fn level(severity: Severity) -> &'static str
     ensures { result.now ≡ level_name severity }
 {

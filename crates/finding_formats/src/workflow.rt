@@ -24,7 +24,7 @@ pub(crate) enum Slot {
     Property,
 }
 
-// Returns a command for each finding.
+// A command for each finding.
 pub(crate) fn workflow_text(alloc: Global, found: &Found<'_>) -> Result<String, AllocError>
     ensures { IfOk result (λ text. string_bytes text ≡ workflow_text found.now) }
 {
@@ -55,7 +55,7 @@ impl<'a> LinePrinter<Finding<'a>> for FindingCommands {
     }
 }
 
-// Returns the command of a finding, with a newline.
+// The command of a finding, with a newline.
 fn command_line(alloc: Global, finding: &Finding<'_>) -> Result<String, AllocError>
     ensures { IfOk result (λ line. string_bytes line ≡ command_line (finding_view finding.now)) }
 {
@@ -72,7 +72,7 @@ fn command_line(alloc: Global, finding: &Finding<'_>) -> Result<String, AllocErr
     )
 }
 
-// Returns a text as it stands in a command.
+// A text as it stands in a command.
 pub(crate) fn slot_text(alloc: Global, slot: Slot, part: &str) -> Result<String, AllocError>
     ensures { IfOk result (λ text. string_bytes text ≡ slot_text slot part.now) }
 {
@@ -101,7 +101,7 @@ fn push_char(text: &mut String, slot: Slot, c: char) -> Result<(), AllocError>
     text.push(c)
 }
 
-// Returns whether a character needs an escape.
+// Whether a character needs an escape.
 fn needs_escape(slot: Slot, c: u32) -> bool
     ensures { result ≡ needs_escape slot c }
 {
@@ -111,7 +111,7 @@ fn needs_escape(slot: Slot, c: u32) -> bool
     }
 }
 
-// Returns whether a character would end a message, or begin an escape.
+// Whether a character would end a message, or begin an escape.
 fn ends_message(c: u32) -> bool
     ensures { result ≡ ends_message c }
 {

@@ -23,8 +23,8 @@ pub(crate) struct Group {
     is_possible: bool,
 }
 
-// Returns the condition of a rule. Relations that are true of all whole numbers are left out, and
-// so are groups that have one that is false of all.
+// The condition of a rule. Relations that are true of all whole numbers are left out, and so are
+// groups that have one that is false of all.
 pub(crate) fn condition_text(alloc: Global, rule: &Rule<'_>) -> Result<String, AllocError>
     ensures { IfOk result (λ text. string_bytes text ≡ c_condition_text (condition_of rule.now)) }
 {
@@ -93,14 +93,14 @@ impl Group {
     }
 }
 
-// Returns whether both are true.
+// Whether both are true.
 fn both(first: bool, second: bool) -> bool
     ensures { result ≡ (first && second) }
 {
     first && second
 }
 
-// Returns whether an operand of a whole number is the number; the others are 0.
+// Whether an operand of a whole number is the number; the others are 0.
 fn is_of_number(operand: Operand) -> bool
     ensures { result ≡ is_of_number (tree_operand_of operand) }
 {
@@ -110,7 +110,7 @@ fn is_of_number(operand: Operand) -> bool
     }
 }
 
-// Returns whether a relation is true of 0.
+// Whether a relation is true of 0.
 fn is_true_of_zero(relation: &Relation<'_>) -> bool
     ensures { let meaning = (lent_relation relation.now).meaning in result ≡ under meaning.operator (is_in_ranges meaning.ranges 0) }
 {
@@ -121,7 +121,7 @@ fn is_true_of_zero(relation: &Relation<'_>) -> bool
     }
 }
 
-// Returns whether the list of a relation holds 0.
+// Whether the list of a relation holds 0.
 fn holds_zero(relation: &Relation<'_>) -> bool
     ensures { result ≡ is_in_ranges (lent_relation relation.now).meaning.ranges 0 }
 {
@@ -134,7 +134,7 @@ fn holds_zero(relation: &Relation<'_>) -> bool
     false
 }
 
-// Returns both ends of the range at a place.
+// Both ends of the range at a place.
 fn range_at(relation: &Relation<'_>, place: usize) -> (u32, u32)
     requires { place < length (lent_relation relation.now).meaning.ranges }
     ensures { slice_get (lent_relation relation.now).meaning.ranges place ≡ Some result }
@@ -162,7 +162,7 @@ fn push_relation(
     }
 }
 
-// Returns the number, or its remainder.
+// The number, or its remainder.
 fn term_text(alloc: Global, modulus: u32) -> Result<String, AllocError>
     ensures { IfOk result (λ text. string_bytes text ≡ term_text modulus) }
 {
@@ -192,7 +192,7 @@ fn push_in_ranges(
     atoms.push(" && ", listed.as_str())
 }
 
-// Returns that a term is in one of the ranges.
+// The text that a term is in one of the ranges.
 fn ranges_text(alloc: Global, term: &str, relation: &Relation<'_>) -> Result<String, AllocError>
     requires { term.now ≡ term_text (lent_relation relation.now).meaning.modulus }
     ensures { let meaning = (lent_relation relation.now).meaning in
@@ -206,7 +206,7 @@ fn ranges_text(alloc: Global, term: &str, relation: &Relation<'_>) -> Result<Str
     String::from_str(alloc, texts.or_text())
 }
 
-// Returns that a term is in a range.
+// The text that a term is in a range.
 fn inside_text(alloc: Global, term: &str, range: (u32, u32)) -> Result<String, AllocError>
     ensures { (modulus : ℕ) → term.now ≡ term_text modulus → IfOk result (λ text. string_bytes text ≡ and_text (map comparison_text (inside modulus range))) }
 {
@@ -250,7 +250,7 @@ fn push_comparison(
     atoms.push(" && ", text.as_str())
 }
 
-// Returns a comparison.
+// A comparison.
 fn comparison_text(alloc: Global, term: &str, sign: &str, number: u32) -> Result<String, AllocError>
     ensures { IfOk result (λ text. string_bytes text ≡ term.now ++ sign.now ++ decimal number) }
 {
@@ -275,7 +275,7 @@ fn push_outside(
     Ok(())
 }
 
-// Returns that a term is outside a range.
+// The text that a term is outside a range.
 fn outside_text(alloc: Global, term: &str, range: (u32, u32)) -> Result<String, AllocError>
     ensures { (modulus : ℕ) → term.now ≡ term_text modulus
         → IfOk result (λ text. string_bytes text ≡ atom_text (outside modulus range)) }

@@ -18,8 +18,8 @@ use plural_checker::least_of_each;
 use serde_json::Value;
 use std::alloc::{AllocError, Global};
 
-// Returns the line for the rules that a JSON value has: how many forms there are, and an expression
-// of C for the one that `n` takes.
+// The line for the rules that a JSON value has: how many forms there are, and an expression of C
+// for the one that `n` takes.
 pub(crate) fn gettext_line(alloc: Global, value: &Value) -> Result<String, AllocError>
     ensures { IfOk result (λ text. (rules : FiveRules) × (rules_of_json (view value.now) ≡ Ok rules) × IsGettextLine rules (string_bytes text)) }
 {
@@ -29,7 +29,7 @@ pub(crate) fn gettext_line(alloc: Global, value: &Value) -> Result<String, Alloc
     }
 }
 
-// Returns the line for rules.
+// The line for rules.
 fn line_of(alloc: Global, five: &PluralRulesData<'_>) -> Result<String, AllocError>
     ensures { IfOk result (λ text. IsGettextLine (rules_of five.now) (string_bytes text)) }
 {
@@ -39,14 +39,14 @@ fn line_of(alloc: Global, five: &PluralRulesData<'_>) -> Result<String, AllocErr
     line_text(alloc, forms.len(), expression.as_str())
 }
 
-// Returns the line for a count of forms and an expression.
+// The line for a count of forms and an expression.
 fn line_text(alloc: Global, count: usize, expression: &str) -> Result<String, AllocError>
     ensures { IfOk result (λ text. string_bytes text ≡ line_text count expression.now) }
 {
     format!(in alloc; "Plural-Forms: nplurals={count}; plural=({expression});\n")
 }
 
-// Returns the categories that have a form, in their order.
+// The categories that have a form, in their order.
 fn forms_of(alloc: Global, rules: &PluralRules<'_>) -> Result<Vec<PluralCategory>, AllocError>
     ensures { IfOk result (λ forms. AreFormsOf rules.now (categories_of rules.now) forms.items) }
 {
@@ -76,7 +76,7 @@ fn push_form(
     Ok(())
 }
 
-// Returns whether a category has a form, given its least whole number.
+// Whether a category has a form, given its least whole number.
 fn has_form(rules: &PluralRules<'_>, category: PluralCategory, least: Option<u16>) -> bool
     requires { IsLeastFrom rules.now category 0 least }
     ensures { MatchBool result (HasForm rules.now category) (¬ (HasForm rules.now category)) }
@@ -87,7 +87,7 @@ fn has_form(rules: &PluralRules<'_>, category: PluralCategory, least: Option<u16
     has_power(rules, category)
 }
 
-// Returns whether a power of ten that is tried has a category.
+// Whether a power of ten that is tried has a category.
 fn has_power(rules: &PluralRules<'_>, category: PluralCategory) -> bool
     ensures { MatchBool result (SomeHas rules.now category tried_powers) (¬ (SomeHas rules.now category tried_powers)) }
 {
@@ -100,22 +100,22 @@ fn has_power(rules: &PluralRules<'_>, category: PluralCategory) -> bool
     some_of(fourth, fifth, sixth, seventh, eighth, ninth)
 }
 
-// Returns whether one of six is true.
+// Whether one of six is true.
 fn some_of(fourth: bool, fifth: bool, sixth: bool, seventh: bool, eighth: bool, ninth: bool) -> bool
     ensures { result ≡ (((((fourth || fifth) || sixth) || seventh) || eighth) || ninth) }
 {
     fourth || fifth || sixth || seventh || eighth || ninth
 }
 
-// Returns whether a whole number has a category.
+// Whether a whole number has a category.
 fn has_whole(rules: &PluralRules<'_>, category: PluralCategory, number: u32) -> bool
     ensures { MatchBool result (HasWhole rules.now category number) (¬ (HasWhole rules.now category number)) }
 {
     rules.category_for(PluralOperands::from(number)) == category
 }
 
-// Returns the expression of the place of a number's category among these, in their order. The last
-// has all numbers that are left.
+// The expression of the place of a number's category among these, in their order. The last has all
+// numbers that are left.
 fn choice_text(
     alloc: Global,
     five: &PluralRulesData<'_>,
@@ -134,7 +134,7 @@ fn choice_text(
     Ok(text)
 }
 
-// Returns the form at a place.
+// The form at a place.
 fn form_at(forms: &[PluralCategory], place: usize) -> PluralCategory
     requires { place < length forms.now }
     ensures { slice_get forms.now place ≡ Some result }
@@ -142,7 +142,7 @@ fn form_at(forms: &[PluralCategory], place: usize) -> PluralCategory
     forms[place]
 }
 
-// Returns the choice of a place by the condition of its category.
+// The choice of a place by the condition of its category.
 fn choice_of(
     alloc: Global,
     five: &PluralRulesData<'_>,
@@ -156,7 +156,7 @@ fn choice_of(
     format!(in alloc; "{condition} ? {place} : ")
 }
 
-// Returns the condition of a rule, or 0 without one.
+// The condition of a rule, or 0 without one.
 fn condition_for(alloc: Global, rule: Option<&Rule<'_>>) -> Result<String, AllocError>
     ensures { IfOk result (λ text. string_bytes text ≡ c_condition_text (condition_if (option_copied rule.entry))) }
 {
@@ -166,7 +166,7 @@ fn condition_for(alloc: Global, rule: Option<&Rule<'_>>) -> Result<String, Alloc
     }
 }
 
-// Returns the rule of a category. Other has none.
+// The rule of a category. Other has none.
 fn rule_for<'a, 'data>(
     five: &'a PluralRulesData<'data>,
     category: PluralCategory,

@@ -36,7 +36,7 @@ impl Joined {
         Ok(())
     }
 
-    // Returns the texts, which `&&` joins, or 1 without any.
+    // The texts, which `&&` joins, or 1 without any.
     pub(crate) fn and_text(&self) -> &str
         ensures { (pieces : List (List ℕ)) → AreJoined (codes " && ") pieces self.now → result.now ≡ and_text pieces }
     {
@@ -47,7 +47,7 @@ impl Joined {
         }
     }
 
-    // Returns the texts, which `||` joins, or 0 without any.
+    // The texts, which `||` joins, or 0 without any.
     pub(crate) fn or_text(&self) -> &str
         ensures { (pieces : List (List ℕ)) → AreJoined (codes " || ") pieces self.now → result.now ≡ or_text pieces }
     {

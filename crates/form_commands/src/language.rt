@@ -22,7 +22,7 @@ pub(crate) struct Language<'a> {
     pub(crate) rules: PluralRules<'static>,
 }
 
-// Returns the rules that are kept for a locale, or why there are none.
+// The rules that are kept for a locale, or why there are none.
 pub(crate) fn language_of<'a>(
     alloc: Global,
     kept: &'a KeptRules,
@@ -40,7 +40,7 @@ pub(crate) fn language_of<'a>(
     }
 }
 
-// Returns the rules of a key, or why there are none.
+// The rules of a key, or why there are none.
 fn at_key<'a>(
     alloc: Global,
     document: &'a Value,
@@ -63,14 +63,14 @@ fn at_key<'a>(
     }
 }
 
-// Returns what stands under a key of a part.
+// What stands under a key of a part.
 fn value_at<'a>(document: &'a Value, part: Part, key: &str) -> Option<&'a Value>
     ensures { option_map (λ v. view v.now) result ≡ value_at (view document.now) part key.now }
 {
     document.get(part.as_str())?.get(key)
 }
 
-// Returns that what stands under a key is refused.
+// The refusal of what stands under a key.
 fn refused<'a>(
     alloc: Global,
     part: Part,

@@ -22,7 +22,7 @@ use plural_fallback::Part;
 use serde_json::Value;
 use std::alloc::{AllocError, Global};
 
-// Returns the lines of a language's forms.
+// The lines of a language's forms.
 pub(crate) fn list_text(
     alloc: Global,
     part: Part,
@@ -36,7 +36,7 @@ pub(crate) fn list_text(
     Ok(text)
 }
 
-// Returns the line before the forms.
+// The line before the forms.
 fn header(
     alloc: Global,
     part: Part,
@@ -56,14 +56,14 @@ fn header(
     )
 }
 
-// Returns what is printed if there is no form but other.
+// What is printed if there is no form but other.
 fn alone_text(rules: &PluralRules<'_>) -> &'static str
     ensures { result.now ≡ alone_text (is_alone rules.now) }
 {
     if is_alone(rules) { ", other alone" } else { "" }
 }
 
-// Returns whether there is no form but other.
+// Whether there is no form but other.
 fn is_alone(rules: &PluralRules<'_>) -> bool
     ensures { result ≡ is_alone rules.now }
 {
@@ -102,7 +102,7 @@ fn push_form(
     Ok(())
 }
 
-// Returns which of two whole numbers there are.
+// Which of two whole numbers there are.
 fn wholes_text(alloc: Global, first: Option<u16>, second: Option<u16>) -> Result<String, AllocError>
     ensures { IfOk result (λ text. string_bytes text ≡ wholes_text first second) }
 {
@@ -113,14 +113,14 @@ fn wholes_text(alloc: Global, first: Option<u16>, second: Option<u16>) -> Result
     }
 }
 
-// Returns the text under the name of a category.
+// The text under the name of a category.
 fn text_under(value: &Value, category: PluralCategory) -> Option<&str>
     ensures { option_copied result ≡ text_under category (view value.now) }
 {
     value.get(name_of(category))?.as_str()
 }
 
-// Returns the name of a category.
+// The name of a category.
 fn name_of(category: PluralCategory) -> &'static str
     ensures { result.now ≡ name_of category }
 {

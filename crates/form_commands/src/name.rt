@@ -20,7 +20,7 @@ impl Model for Name {
 }
 
 impl Name {
-    // Returns a name.
+    // A name.
     pub(crate) fn from_str(alloc: Global, text: &str) -> Result<Name, AllocError>
         ensures { IfOk result (λ name. name ≡ text.now) }
     {

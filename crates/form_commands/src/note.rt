@@ -18,7 +18,7 @@ use serde_json::{Map, Value};
 use std::alloc::{AllocError, Global};
 use std::io::Write;
 
-// Returns the note of the key of the rules that are kept for a locale.
+// The note of the key of the rules that are kept for a locale.
 pub(crate) fn note_of(
     alloc: Global,
     kept: &KeptRules,
@@ -33,7 +33,7 @@ pub(crate) fn note_of(
     }
 }
 
-// Returns the notes of the locales of files.
+// The notes of the locales of files.
 pub(crate) fn notes_of(
     alloc: Global,
     document: &Value,
@@ -97,7 +97,7 @@ fn push_file(
     }
 }
 
-// Returns the place before the locales of a file.
+// The place before the locales of a file.
 fn place_of(alloc: Global, name: &str) -> Result<String, AllocError>
     ensures { IfOk result (λ place. string_bytes place ≡ name.now ++ codes ": ") }
 {
@@ -155,14 +155,14 @@ fn push_locale(
     )
 }
 
-// Returns whether a locale has messages of a part, or patterns.
+// Whether a locale has messages of a part, or patterns.
 fn is_asked(part: Part, value: &Value) -> bool
     ensures { result ≡ is_asked part (view value.now) }
 {
     has_some(part.as_str(), value) || has_some("patterns", value)
 }
 
-// Returns whether there is something under a key.
+// Whether there is something under a key.
 fn has_some(name: &str, value: &Value) -> bool
     ensures { result ≡ has_some name.now (view value.now) }
 {
@@ -172,7 +172,7 @@ fn has_some(name: &str, value: &Value) -> bool
     }
 }
 
-// Returns the members of what is under a key.
+// The members of what is under a key.
 fn members_under<'a>(name: &str, value: &'a Value) -> Option<&'a Map<String, Value>>
     ensures { option_map (λ m. members_view m.now.entries) result ≡ option_and_then as_object (get name.now (view value.now)) }
 {
@@ -232,7 +232,7 @@ fn push_key(
     notes.push_str(note.as_str())
 }
 
-// Returns the note of a key.
+// The note of a key.
 fn note_text(
     alloc: Global,
     place: &str,

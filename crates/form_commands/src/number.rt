@@ -14,7 +14,7 @@ use std::str;
 // The most bytes of a number within the limits.
 pub(crate) const MOST_NUMBER_BYTES: usize = 65_540;
 
-// Returns the lines of numbers.
+// The lines of numbers.
 pub(crate) fn numbers_text(
     alloc: Global,
     rules: &PluralRules<'_>,
@@ -27,7 +27,7 @@ pub(crate) fn numbers_text(
     numbers_by(alloc, &asked, numbers)
 }
 
-// Returns the lines of numbers by these rules.
+// The lines of numbers by these rules.
 fn numbers_by(
     alloc: Global,
     rules: &AskedRules<'_>,
@@ -52,7 +52,7 @@ fn numbers_by(
     Ok(printed)
 }
 
-// Returns the place after a place.
+// The place after a place.
 #[inline]
 pub(crate) fn next_place(place: u64) -> u64
     ensures { result ≡ next_place place }
@@ -105,7 +105,7 @@ fn push_line(
     }
 }
 
-// Returns the category of a number, or why it has none.
+// The category of a number, or why it has none.
 fn category_of(
     alloc: Global,
     rules: &AskedRules<'_>,
@@ -122,7 +122,7 @@ fn category_of(
     }
 }
 
-// Returns the category of a number as a text, or why it has none.
+// The category of a number as a text, or why it has none.
 #[inline]
 fn category_of_text(
     alloc: Global,
@@ -137,7 +137,7 @@ fn category_of_text(
     Ok(Err(NumberFault::TooLong))
 }
 
-// Returns the category of a number as a text that isn't too long, or why it has none.
+// The category of a number as a text that isn't too long, or why it has none.
 #[inline]
 fn category_of_short_text(
     alloc: Global,

@@ -64,14 +64,14 @@ impl<'a> Sieve for RulesSieve<'a> {
     }
 }
 
-// Returns whether a key of a document is that of the part or of the parents.
+// Whether a key of a document is that of the part or of the parents.
 fn is_part(part: Part, key: &str) -> bool
     ensures { result ≡ is_part part key.now }
 {
     key == part.as_str() || key == "parents"
 }
 
-// Returns whether a locale is among the kept ones.
+// Whether a locale is among the kept ones.
 #[inline(always)]
 fn is_inside(locales: KeptLocales<'_>, locale: &[u8]) -> bool
     ensures { result ≡ is_inside locales.entry locale.now }
@@ -83,7 +83,7 @@ fn is_inside(locales: KeptLocales<'_>, locale: &[u8]) -> bool
     }
 }
 
-// Returns whether a locale is the same as what another one begins with.
+// Whether a locale is the same as what another one begins with.
 #[inline(always)]
 fn is_front(locale: &[u8], longest: &[u8]) -> bool
     ensures { result ≡ is_same locale.now (take (length locale.now) longest.now) }
@@ -94,7 +94,7 @@ fn is_front(locale: &[u8], longest: &[u8]) -> bool
     is_same(locale, &longest[..locale.len()])
 }
 
-// Returns whether a locale is `root`.
+// Whether a locale is `root`.
 #[inline(always)]
 fn is_root(locale: &[u8]) -> bool
     ensures { result ≡ is_same locale.now (codes "root") }
@@ -105,7 +105,7 @@ fn is_root(locale: &[u8]) -> bool
     is_same(locale, b"root")
 }
 
-// Returns whether a locale is the same as one of these.
+// Whether a locale is the same as one of these.
 fn is_among(locale: &[u8], steps: &[&[u8]]) -> bool
     ensures { result ≡ is_among locale.now (steps_view steps.now) }
 {
@@ -127,8 +127,8 @@ pub(crate) struct KeptRules {
     pub(crate) document: Value,
 }
 
-// Returns what is kept of a document for a locale: of an outline with the keys of the locales that
-// it begins with, or of its chain, or all of its part, if the locale is long, or its chain has many
+// What is kept of a document for a locale: of an outline with the keys of the locales that it
+// begins with, or of its chain, or all of its part, if the locale is long, or its chain has many
 // locales. The text is read once. The errors are those of the whole.
 pub(crate) fn kept_rules(
     alloc: Global,
@@ -147,7 +147,7 @@ pub(crate) fn kept_rules(
     }
 }
 
-// Returns the same of a text that was read, of which the part and the parents are held.
+// The same of a text that was read, of which the part and the parents are held.
 fn rules_in_text(
     alloc: Global,
     part: Part,
@@ -169,7 +169,7 @@ fn rules_in_text(
     rules_of_part(alloc, part, locale, text)
 }
 
-// Returns what is kept of an outline with these locales, if the chain stays among them.
+// What is kept of an outline with these locales, if the chain stays among them.
 fn rules_inside(
     alloc: Global,
     part: Part,
@@ -188,7 +188,7 @@ fn rules_inside(
     Ok(Some(KeptRules { key, document }))
 }
 
-// Returns what is kept of an outline with all of the part.
+// What is kept of an outline with all of the part.
 fn rules_of_part(
     alloc: Global,
     part: Part,
@@ -203,7 +203,7 @@ fn rules_of_part(
     Ok(KeptRules { key, document })
 }
 
-// Returns a key as a text of its own.
+// A key as a text of its own.
 fn owned(
     alloc: Global,
     first: Result<&str, FallbackError>,
@@ -216,8 +216,8 @@ fn owned(
     }
 }
 
-// Returns what is kept of an outline with the locales of the chain, unless these are many, if it
-// stays among them.
+// What is kept of an outline with the locales of the chain, unless these are many, if it stays
+// among them.
 fn rules_of_chain<'a>(
     alloc: Global,
     part: Part,
@@ -257,8 +257,8 @@ fn walk<'a>(
     None
 }
 
-// Returns the first key of a chain, or why there is none, if the chain stays among these locales up
-// to there. It isn't told of a chain with a long locale, nor of one with many before the first key.
+// The first key of a chain, or why there is none, if the chain stays among these locales up to
+// there. It isn't told of a chain with a long locale, nor of one with many before the first key.
 fn first_inside<'a>(
     document: &'a Value,
     part: Part,

@@ -295,7 +295,7 @@ fn check_by<P: ReportPrinter, W: Write>(
     }
 }
 
-// Returns the fault of rules that are refused.
+// The fault of rules that are refused.
 pub(crate) fn refused(error: JsonError) -> FormsError
     ensures { result ≡ refused_rules error }
 {
@@ -332,7 +332,7 @@ fn report_by<P: ReportPrinter, W: Write>(
     }
 }
 
-// Returns whether messages have no fault.
+// Whether messages have no fault.
 fn verdict_of(counts: Counts) -> Verdict
     ensures { result ≡ verdict_of_counts counts }
 {
@@ -364,7 +364,7 @@ fn lines_by<N: Read, W: Write>(
     }
 }
 
-// Returns what is kept for a locale of the document in a reader, if its language is known.
+// What is kept for a locale of the document in a reader, if its language is known.
 fn rules_of<R: Read>(
     alloc: Global,
     part: Part,
@@ -380,7 +380,7 @@ fn rules_of<R: Read>(
     }
 }
 
-// Returns what is kept of the JSON value of bytes for a locale, if its language is known.
+// What is kept of the JSON value of bytes for a locale, if its language is known.
 fn rules_in(alloc: Global, part: Part, locale: &str, bytes: &[u8]) -> Result<KeptRules, FormsError>
     ensures { GivesRulesIn part locale.now bytes.now result }
 {
@@ -391,8 +391,8 @@ fn rules_in(alloc: Global, part: Part, locale: &str, bytes: &[u8]) -> Result<Kep
     }
 }
 
-// Returns what is kept of the JSON value of bytes, unless the language is unknown by that: where
-// the key is `root`, the language may have another one for other numbers, of which nothing is kept.
+// What is kept of the JSON value of bytes, unless the language is unknown by that: where the key is
+// `root`, the language may have another one for other numbers, of which nothing is kept.
 fn known_rules(
     alloc: Global,
     part: Part,
@@ -411,7 +411,7 @@ fn known_rules(
     }
 }
 
-// Returns the document in a reader.
+// The document in a reader.
 pub(crate) fn document_of<R: Read>(alloc: Global, reader: &mut R) -> Result<Value, FormsError>
     ensures document { (input : List ℕ) × IsInput (R.remaining reader.old) input × GivesDocument input result }
     ensures reads { IsRead forms_origin (R.remaining reader.old) (R.remaining reader.new) result }
@@ -422,7 +422,7 @@ pub(crate) fn document_of<R: Read>(alloc: Global, reader: &mut R) -> Result<Valu
     }
 }
 
-// Returns the JSON value of bytes.
+// The JSON value of bytes.
 fn value_of(alloc: Global, bytes: &[u8]) -> Result<Value, FormsError>
     ensures { GivesJsonValue bytes.now result }
 {
@@ -433,7 +433,7 @@ fn value_of(alloc: Global, bytes: &[u8]) -> Result<Value, FormsError>
     }
 }
 
-// Returns the lines of the forms of a locale.
+// The lines of the forms of a locale.
 fn list_of(
     alloc: Global,
     kept: &KeptRules,
@@ -451,7 +451,7 @@ fn list_of(
     }
 }
 
-// Returns the line for gettext by the rules of a locale.
+// The line for gettext by the rules of a locale.
 fn gettext_of(
     alloc: Global,
     kept: &KeptRules,
@@ -469,7 +469,7 @@ fn gettext_of(
     }
 }
 
-// Returns the lines of numbers by the rules of a locale.
+// The lines of numbers by the rules of a locale.
 fn categories_of(
     alloc: Global,
     kept: &KeptRules,

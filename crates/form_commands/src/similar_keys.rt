@@ -51,7 +51,7 @@ impl fmt::Display for SimilarKeys {
 }
 
 impl SimilarKeys {
-    // Returns these and one more, if there are fewer than three.
+    // These and one more, if there are fewer than three.
     fn with_key(self, alloc: Global, key: &str) -> Result<SimilarKeys, AllocError>
         ensures { IfOk result (λ similar. similar ≡ first_three (names_of self ++ key.now ∷ [])) }
     {
@@ -78,7 +78,7 @@ pub(crate) enum Likeness {
     Beginning,
 }
 
-// Returns the keys of members that are similar to a language.
+// The keys of members that are similar to a language.
 pub(crate) fn similar_keys(
     alloc: Global,
     language: &[u8],
@@ -96,7 +96,7 @@ pub(crate) fn similar_keys(
     add_like(alloc, Likeness::Beginning, language, members, near)
 }
 
-// Returns some keys, and behind them those of members that are like a language.
+// Some keys, and behind them those of members that are like a language.
 fn add_like(
     alloc: Global,
     likeness: Likeness,
@@ -113,7 +113,7 @@ fn add_like(
     Ok(similar)
 }
 
-// Returns some keys, and behind them a further one, if it is like a language.
+// Some keys, and behind them a further one, if it is like a language.
 fn add_key(
     alloc: Global,
     likeness: Likeness,
@@ -131,7 +131,7 @@ fn add_key(
     }
 }
 
-// Returns whether a key is like a language in this way.
+// Whether a key is like a language in this way.
 fn is_like(likeness: Likeness, language: &[u8], key: &[u8]) -> bool
     ensures { result ≡ is_like likeness language.now key.now }
 {
@@ -142,14 +142,14 @@ fn is_like(likeness: Likeness, language: &[u8], key: &[u8]) -> bool
     }
 }
 
-// Returns whether two names have the same first two letters.
+// Whether two names have the same first two letters.
 fn begins_alike(language: &[u8], key: &[u8]) -> bool
     ensures { result ≡ begins_alike language.now key.now }
 {
     is_same(first_two(language), first_two(key))
 }
 
-// Returns the first two bytes, or those that there are.
+// The first two bytes, or those that there are.
 fn first_two(name: &[u8]) -> &[u8]
     ensures { result.now ≡ take 2 name.now }
 {
@@ -159,8 +159,8 @@ fn first_two(name: &[u8]) -> &[u8]
     &name[..2]
 }
 
-// Returns whether one edit makes two names the same. Past their common front it is a byte less here,
-// one less there, or another one.
+// Whether one edit makes two names the same. Past their common front it is a byte less here, one
+// less there, or another one.
 pub(crate) fn is_one_edit(one: &[u8], other: &[u8]) -> bool
     ensures { result ≡ is_one_edit one.now other.now }
 {
@@ -179,8 +179,8 @@ pub(crate) fn is_one_edit(one: &[u8], other: &[u8]) -> bool
     others.len() == 1
 }
 
-// Returns whether a byte less on a side, or another one, makes two names the same, of which this is
-// the rest behind their first bytes.
+// Whether a byte less on a side, or another one, makes two names the same, of which this is the
+// rest behind their first bytes.
 fn is_edited_here(ones: &[u8], rest: &[u8], others: &[u8], after: &[u8]) -> bool
     ensures { result ≡ (is_same rest.now others.now || is_same ones.now after.now || is_same rest.now after.now) }
 {

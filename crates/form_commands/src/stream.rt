@@ -67,8 +67,8 @@ pub(crate) fn answer_input<N: Read, W: Write>(
     Err(FormsError::Numbers)
 }
 
-// Returns how many numbers are asked for up to the end of a read that begins at a place: a line has
-// eight bytes or so.
+// How many numbers are asked for up to the end of a read that begins at a place: a line has eight
+// bytes or so.
 fn numbers_after(place: u64, bytes: usize) -> u64 {
     place.saturating_add(bytes as u64 / 8)
 }

@@ -19,7 +19,7 @@ use plural_fallback::{Part, is_known, is_unknown, language};
 use serde_json::{Map, Value};
 use std::alloc::{AllocError, Global};
 
-// Returns whether the key of the rules that are kept for a locale is `root`, which wasn't asked for.
+// Whether the key of the rules that are kept for a locale is `root`, which wasn't asked for.
 pub(crate) fn has_roots_key(kept: &KeptRules, locale: &str) -> bool
     ensures { result ≡ has_roots_key locale.now kept.now }
 {
@@ -29,7 +29,7 @@ pub(crate) fn has_roots_key(kept: &KeptRules, locale: &str) -> bool
     }
 }
 
-// Returns whether the language of a locale with this first key is unknown by a document.
+// Whether the language of a locale with this first key is unknown by a document.
 pub(crate) fn is_unknown_by(document: &Value, locale: &str, key: &str) -> bool
     ensures { MatchBool result
         ((is_unknown locale.now key.now ≡ true) × IsUnknownIn (view document.now) locale.now)
@@ -38,7 +38,7 @@ pub(crate) fn is_unknown_by(document: &Value, locale: &str, key: &str) -> bool
     is_unknown(locale, key) && !is_known(document, locale)
 }
 
-// Returns the error of an unknown language, if it is unknown by the JSON value of bytes.
+// The error of an unknown language, if it is unknown by the JSON value of bytes.
 pub(crate) fn known_in(
     alloc: Global,
     part: Part,
@@ -54,7 +54,7 @@ pub(crate) fn known_in(
     }
 }
 
-// Returns the same by a document.
+// The same by a document.
 fn known_by(alloc: Global, part: Part, locale: &str, document: &Value) -> Result<(), FormsError>
     ensures { TellsKnown part locale.now (view document.now) result }
 {
@@ -67,7 +67,7 @@ fn known_by(alloc: Global, part: Part, locale: &str, document: &Value) -> Result
     }
 }
 
-// Returns the error with the keys of the part of a document.
+// The error with the keys of the part of a document.
 fn unknown_error(
     alloc: Global,
     part: Part,
@@ -81,7 +81,7 @@ fn unknown_error(
     Ok(LanguageError::Unknown(part, locale, similar))
 }
 
-// Returns the keys of the part of a document that are similar to a language.
+// The keys of the part of a document that are similar to a language.
 fn similar_in(
     alloc: Global,
     part: Part,
@@ -96,7 +96,7 @@ fn similar_in(
     }
 }
 
-// Returns the members of a part of a document, if it is an object.
+// The members of a part of a document, if it is an object.
 fn members_of(part: Part, document: &Value) -> Option<&Map<String, Value>>
     ensures { option_map (λ m. members_view m.now.entries) result ≡ option_and_then as_object (get (part_name part) (view document.now)) }
 {

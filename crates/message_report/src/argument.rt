@@ -31,7 +31,7 @@ pub(crate) struct Argument<'a, 'p> {
     pub(crate) own_one: bool,
 }
 
-// Returns the argument at a depth, of which these parts follow its beginning.
+// The argument at a depth, of which these parts follow its beginning.
 pub(crate) fn argument_at<'a, 'p>(
     alloc: Global,
     name: &'a [u8],
@@ -53,8 +53,8 @@ pub(crate) fn argument_at<'a, 'p>(
     })
 }
 
-// Returns whether exactly the number that a text writes has a branch of its own. Without a branch
-// of a number, the text isn't read.
+// Whether exactly the number that a text writes has a branch of its own. Without a branch of a
+// number, the text isn't read.
 fn is_own(
     alloc: Global,
     number: &str,
@@ -78,7 +78,7 @@ fn is_own(
     }
 }
 
-// Returns whether an argument at this depth has a branch whose selector is `=` and a number.
+// Whether an argument at this depth has a branch whose selector is `=` and a number.
 fn has_number_branch(depth: usize, parts: &[Part<'_>]) -> bool
     ensures { result ≡ has_number_branch (branches_of depth (parts_view parts.now)) }
 {
@@ -97,7 +97,7 @@ fn has_number_branch(depth: usize, parts: &[Part<'_>]) -> bool
     false
 }
 
-// Returns whether a selector is `=` and a number.
+// Whether a selector is `=` and a number.
 fn is_of_number(selector: Selector<'_>) -> bool
     ensures { result ≡ is_of_number (selector_view selector.entry) }
 {
@@ -107,7 +107,7 @@ fn is_of_number(selector: Selector<'_>) -> bool
     }
 }
 
-// Returns whether a selector is this keyword.
+// Whether a selector is this keyword.
 fn is_word(word: &[u8], selector: Selector<'_>) -> bool
     ensures { result ≡ is_keyword word.now (selector_view selector.entry) }
 {
@@ -117,7 +117,7 @@ fn is_word(word: &[u8], selector: Selector<'_>) -> bool
     }
 }
 
-// Returns whether an argument at this depth has a branch of a category.
+// Whether an argument at this depth has a branch of a category.
 pub(crate) fn has_category_branch(
     category: PluralCategory,
     depth: usize,
@@ -128,7 +128,7 @@ pub(crate) fn has_category_branch(
     has_word(name_of(category).as_bytes(), depth, parts)
 }
 
-// Returns whether it has a branch of a keyword.
+// Whether it has a branch of a keyword.
 fn has_word(word: &[u8], depth: usize, parts: &[Part<'_>]) -> bool
     ensures { result ≡ is_some (branch_of_keyword word.now (branches_of depth (parts_view parts.now))) }
 {
@@ -147,7 +147,7 @@ fn has_word(word: &[u8], depth: usize, parts: &[Part<'_>]) -> bool
     false
 }
 
-// Returns whether a part says the number of an argument of this depth and name.
+// Whether a part says the number of an argument of this depth and name.
 fn says_number(depth: usize, name: &[u8], part: &Part<'_>) -> bool
     requires { depth < part.now.depth }
     ensures { result ≡ says_number depth name.now (part_view part.now) }
@@ -159,7 +159,7 @@ fn says_number(depth: usize, name: &[u8], part: &Part<'_>) -> bool
     }
 }
 
-// Returns whether the branch that begins with these parts says the number.
+// Whether the branch that begins with these parts says the number.
 pub(crate) fn has_number(depth: usize, name: &[u8], parts: &[Part<'_>]) -> bool
     ensures { result ≡ has_number depth name.now (inside_of depth (parts_view parts.now)) }
 {
@@ -176,7 +176,7 @@ pub(crate) fn has_number(depth: usize, name: &[u8], parts: &[Part<'_>]) -> bool
     false
 }
 
-// Returns whether a selector is `=` and this number, as it is written.
+// Whether a selector is `=` and this number, as it is written.
 fn is_number(number: &[u8], selector: Selector<'_>) -> bool
     ensures { result ≡ same_selector (Exactly number.now) (selector_view selector.entry) }
 {
@@ -186,7 +186,7 @@ fn is_number(number: &[u8], selector: Selector<'_>) -> bool
     }
 }
 
-// Returns whether a selector is this keyword.
+// Whether a selector is this keyword.
 fn is_keyword(word: &[u8], selector: Selector<'_>) -> bool
     ensures { result ≡ same_selector (Keyword word.now) (selector_view selector.entry) }
 {
@@ -196,7 +196,7 @@ fn is_keyword(word: &[u8], selector: Selector<'_>) -> bool
     }
 }
 
-// Returns whether two selectors are the same.
+// Whether two selectors are the same.
 fn same_selector(one: Selector<'_>, other: Selector<'_>) -> bool
     ensures { result ≡ same_selector (selector_view one.entry) (selector_view other.entry) }
 {
@@ -206,7 +206,7 @@ fn same_selector(one: Selector<'_>, other: Selector<'_>) -> bool
     }
 }
 
-// Returns whether a selector stands among these.
+// Whether a selector stands among these.
 pub(crate) fn stands_in(selector: Selector<'_>, others: &[Selector<'_>]) -> bool
     ensures { result ≡ stands_in (selector_view selector.entry) (map selector_view others.now) }
 {

@@ -73,7 +73,7 @@ impl fmt::Display for BranchFault {
     }
 }
 
-// Returns the two least numbers that choose the branch of a category.
+// The two least numbers that choose the branch of a category.
 fn numbers_of(
     language: &Language,
     argument: Argument<'_, '_>,
@@ -84,7 +84,7 @@ fn numbers_of(
     language.numbers(category, argument.own_zero, argument.own_one)
 }
 
-// Returns that a category has no branch, if numbers would choose it.
+// That a category has no branch, if numbers would choose it.
 pub(crate) fn missing_fault(
     language: &Language,
     argument: Argument<'_, '_>,
@@ -107,7 +107,7 @@ pub(crate) fn missing_fault(
     )
 }
 
-// Returns that a category of these numbers has no branch, if numbers would choose it.
+// That a category of these numbers has no branch, if numbers would choose it.
 fn missing_by(
     category: PluralCategory,
     numbers: TwoNumbers,
@@ -122,7 +122,7 @@ fn missing_by(
     }
 }
 
-// Returns that a category of these samples has no branch, unless a whole number has it.
+// That a category of these samples has no branch, unless a whole number has it.
 fn rare_by(category: PluralCategory, least: Option<u16>, samples: TwoSamples) -> Option<BranchFault>
     ensures { result ≡ rare_by category least samples }
 {
@@ -132,7 +132,7 @@ fn rare_by(category: PluralCategory, least: Option<u16>, samples: TwoSamples) ->
     }
 }
 
-// Returns that a branch doesn't say the number, if two numbers choose it.
+// That a branch doesn't say the number, if two numbers choose it.
 fn no_hash(category: PluralCategory, numbers: TwoNumbers) -> Option<BranchFault>
     ensures { result ≡ no_hash category numbers.first numbers.second }
 {
@@ -141,7 +141,7 @@ fn no_hash(category: PluralCategory, numbers: TwoNumbers) -> Option<BranchFault>
     Some(BranchFault::NoHash(category, first, second))
 }
 
-// Returns the fault of a category's branch, from whose parts on these are.
+// The fault of a category's branch, from whose parts on these are.
 fn category_fault(
     language: &Language,
     argument: Argument<'_, '_>,
@@ -160,14 +160,14 @@ fn category_fault(
     no_hash(category, numbers_of(language, argument, category))
 }
 
-// Returns the category of a keyword.
+// The category of a keyword.
 fn category_named(word: &[u8]) -> Option<PluralCategory>
     ensures { result ≡ category_named word.now }
 {
     PluralCategory::get_for_cldr_bytes(word)
 }
 
-// Returns the fault of the branch of a category, or that its keyword is none.
+// The fault of the branch of a category, or that its keyword is none.
 fn category_fault_if(
     language: &Language,
     argument: Argument<'_, '_>,
@@ -183,7 +183,7 @@ fn category_fault_if(
     }
 }
 
-// Returns the fault of a selector that stands once, from the parts of whose branch on these are.
+// The fault of a selector that stands once, from the parts of whose branch on these are.
 fn selector_fault(
     language: &Language,
     argument: Argument<'_, '_>,
@@ -201,7 +201,7 @@ fn selector_fault(
     }
 }
 
-// Returns the fault of a branch behind these selectors, from whose parts on these are.
+// The fault of a branch behind these selectors, from whose parts on these are.
 pub(crate) fn branch_fault(
     language: &Language,
     argument: Argument<'_, '_>,

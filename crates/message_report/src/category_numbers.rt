@@ -17,7 +17,7 @@ pub(crate) struct CategoryNumbers {
 }
 
 impl CategoryNumbers {
-    // Returns the two least numbers, without 0 and without 1 if these have forms of their own.
+    // The two least numbers, without 0 and without 1 if these have forms of their own.
     pub(crate) fn chosen(self, own_zero: bool, own_one: bool) -> TwoNumbers
         ensures { result ≡ chosen_of self own_zero own_one }
     {

@@ -49,7 +49,7 @@ impl Cause {
     }
 }
 
-// Returns how grave the fault of a form is.
+// How grave the fault of a form is.
 fn form_severity(fault: FormFault) -> Severity
     ensures { result ≡ form_severity fault }
 {
@@ -59,7 +59,7 @@ fn form_severity(fault: FormFault) -> Severity
     }
 }
 
-// Returns how grave the fault of a branch is.
+// How grave the fault of a branch is.
 fn branch_severity(fault: BranchFault) -> Severity
     ensures { result ≡ branch_severity fault }
 {
@@ -90,7 +90,7 @@ impl fmt::Display for Cause {
     }
 }
 
-// Returns what is told of missing rules.
+// What is told of missing rules.
 fn no_rules_text(rule_type: PluralRuleType) -> &'static str
     ensures { result.now ≡ no_rules_text rule_type }
 {

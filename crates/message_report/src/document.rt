@@ -166,7 +166,7 @@ fn add_part_key<'a>(
     found.add_fault(Place::Key(locale, key), Cause::NotAPart)
 }
 
-// Returns whether a key names a part.
+// Whether a key names a part.
 fn is_part_name(key: &str) -> bool
     ensures { result ≡ is_locale_part key.now }
 {

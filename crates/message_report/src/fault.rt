@@ -101,7 +101,7 @@ pub(crate) fn write_rare<W: fmt::Write>(
     }
 }
 
-// Returns the fault that is told, given whether the form needs the number.
+// The fault that is told, given whether the form needs the number.
 pub(crate) fn told_fault(needs_number: bool, fault: Option<FormFault>) -> Option<FormFault>
     ensures { result ≡ option_and_then (told_of needs_number) fault }
 {
@@ -115,8 +115,8 @@ pub(crate) fn told_fault(needs_number: bool, fault: Option<FormFault>) -> Option
     }
 }
 
-// Returns the fault of a form, given what a message has under its key, if it has one; without a
-// language only that it has no text.
+// The fault of a form, given what a message has under its key, if it has one; without a language
+// only that it has no text.
 pub(crate) fn form_fault(
     language: Option<&Language>,
     own: OwnForms,
@@ -132,7 +132,7 @@ pub(crate) fn form_fault(
     }
 }
 
-// Returns the fault of a category's form; without a language only that it has no text.
+// The fault of a category's form; without a language only that it has no text.
 fn category_fault_if(
     language: Option<&Language>,
     own: OwnForms,
@@ -147,7 +147,7 @@ fn category_fault_if(
     }
 }
 
-// Returns that a value is no text, if there is one.
+// That a value is no text, if there is one.
 fn value_fault(value: Option<&Value>) -> Option<FormFault>
     ensures { result ≡ form_value_fault (option_map (λ v. view v.now) value.entry) }
 {
@@ -158,7 +158,7 @@ fn value_fault(value: Option<&Value>) -> Option<FormFault>
     }
 }
 
-// Returns the fault of a category's form, if it has one.
+// The fault of a category's form, if it has one.
 fn category_fault(
     language: &Language,
     own: OwnForms,
@@ -174,7 +174,7 @@ fn category_fault(
     }
 }
 
-// Returns the fault of a form that isn't there, if it has one.
+// The fault of a form that isn't there, if it has one.
 fn fault_of_none(language: &Language, own: OwnForms, category: PluralCategory) -> Option<FormFault>
     ensures { HasFaultUnder (language_view language.now) category ((language_view language.now).numbers category own.zero own.one)
         None result }
@@ -187,7 +187,7 @@ fn fault_of_none(language: &Language, own: OwnForms, category: PluralCategory) -
     }
 }
 
-// Returns that a form isn't there, by the numbers that would choose it, or else by samples.
+// That a form isn't there, by the numbers that would choose it, or else by samples.
 fn missing_form(category: PluralCategory, numbers: TwoNumbers, samples: TwoSamples) -> FormFault
     ensures { result ≡ missing_form category numbers.first numbers.second samples }
 {
@@ -197,7 +197,7 @@ fn missing_form(category: PluralCategory, numbers: TwoNumbers, samples: TwoSampl
     }
 }
 
-// Returns the fault of a form, given its value.
+// The fault of a form, given its value.
 fn fault_of_value(
     language: &Language,
     own: OwnForms,
@@ -215,7 +215,7 @@ fn fault_of_value(
     }
 }
 
-// Returns the fault of a form that numbers choose, given its value.
+// The fault of a form that numbers choose, given its value.
 fn present_fault(category: PluralCategory, numbers: TwoNumbers, value: &Value) -> Option<FormFault>
     ensures { HasPresentFault category numbers (view value.now) result }
 {
@@ -225,7 +225,7 @@ fn present_fault(category: PluralCategory, numbers: TwoNumbers, value: &Value) -
     }
 }
 
-// Returns the fault of a form's text, if it has one.
+// The fault of a form's text, if it has one.
 fn text_fault(category: PluralCategory, numbers: TwoNumbers, text: &str) -> Option<FormFault>
     ensures { HasTextFault category numbers text.now result }
 {
@@ -236,7 +236,7 @@ fn text_fault(category: PluralCategory, numbers: TwoNumbers, text: &str) -> Opti
     }
 }
 
-// Returns the fault of a text without the number, if two numbers choose it.
+// The fault of a text without the number, if two numbers choose it.
 fn no_number(category: PluralCategory, numbers: TwoNumbers) -> Option<FormFault>
     ensures { result ≡ no_number category numbers.first numbers.second }
 {

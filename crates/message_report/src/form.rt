@@ -34,14 +34,14 @@ impl Form {
         }
     }
 
-    // Returns what a message has under the form's key.
+    // What a message has under the form's key.
     pub(crate) fn in_message(self, message: &Value) -> Option<&Value>
         ensures { option_map (λ v. view v.now) result ≡ form_under self (view message.now) }
     {
         message.get(self.as_str())
     }
 
-    // Returns whether a message has the form.
+    // Whether a message has the form.
     pub(crate) fn is_in(self, message: &Value) -> bool
         ensures { result ≡ has_form self (view message.now) }
     {
@@ -57,7 +57,7 @@ pub(crate) struct OwnForms {
 }
 
 impl OwnForms {
-    // Returns those of a message.
+    // Those of a message.
     pub(crate) fn of(message: &Value) -> OwnForms
         ensures { result ≡ own_forms (view message.now) }
     {
@@ -68,14 +68,14 @@ impl OwnForms {
     }
 }
 
-// Returns the name of a category.
+// The name of a category.
 pub(crate) fn name_of(category: PluralCategory) -> &'static str
     ensures { result.now ≡ name_of category }
 {
     RawPluralCategory::from(category).as_str()
 }
 
-// Returns whether a key names a form.
+// Whether a key names a form.
 pub(crate) fn is_form_name(key: &str) -> bool
     ensures { result ≡ is_form_name key.now }
 {

@@ -25,7 +25,7 @@ pub(crate) struct Language {
 }
 
 impl Language {
-    // Returns what is known of the language of a locale's rules.
+    // What is known of the language of a locale's rules.
     pub(crate) fn of<S: RulesOfLocales>(
         alloc: Global,
         source: &S,
@@ -55,14 +55,14 @@ impl Language {
         }
     }
 
-    // Returns whether the language has a category.
+    // Whether the language has a category.
     pub(crate) fn has(&self, category: PluralCategory) -> bool
         ensures { result ≡ (language_view self.now).has category }
     {
         self.numbers.has(category)
     }
 
-    // Returns the two least numbers that choose a category's form.
+    // The two least numbers that choose a category's form.
     pub(crate) fn numbers(
         &self,
         category: PluralCategory,
@@ -74,7 +74,7 @@ impl Language {
         self.numbers.numbers(category, own_zero, own_one)
     }
 
-    // Returns the samples of a category that no whole number has.
+    // The samples of a category that no whole number has.
     pub(crate) fn samples(&self, category: PluralCategory) -> TwoSamples
         ensures { result ≡ (language_view self.now).samples category }
     {
@@ -87,7 +87,7 @@ impl Language {
     }
 }
 
-// Returns the samples of a category that the language has, and no whole number.
+// The samples of a category that the language has, and no whole number.
 fn samples_of<S: RulesOfLocales>(
     alloc: Global,
     source: &S,

@@ -21,7 +21,7 @@ pub(crate) struct LanguageNumbers {
 }
 
 impl LanguageNumbers {
-    // Returns what is known of a language.
+    // What is known of a language.
     pub(crate) fn of(given: &PluralRulesData<'_>) -> LanguageNumbers
         ensures { HasNumbersOf (rules_of given.now) (numbers_view result) }
     {
@@ -40,14 +40,14 @@ impl LanguageNumbers {
         }
     }
 
-    // Returns whether the language has a category.
+    // Whether the language has a category.
     pub(crate) fn has(&self, category: PluralCategory) -> bool
         ensures { result ≡ (numbers_view self.now).has category }
     {
         at_category!(self.categories, category, |is_there| *is_there, true)
     }
 
-    // Returns the two least numbers that choose a category's form.
+    // The two least numbers that choose a category's form.
     pub(crate) fn numbers(
         &self,
         category: PluralCategory,
@@ -59,7 +59,7 @@ impl LanguageNumbers {
         self.numbers_at(category).chosen(own_zero, own_one)
     }
 
-    // Returns what is known of a category's numbers.
+    // What is known of a category's numbers.
     fn numbers_at(&self, category: PluralCategory) -> CategoryNumbers
         ensures { result ≡ numbers_at self.now category }
     {
@@ -67,7 +67,7 @@ impl LanguageNumbers {
     }
 }
 
-// Returns what is known of a category's numbers, given the categories of 0 and of 1.
+// What is known of a category's numbers, given the categories of 0 and of 1.
 fn numbers_of(
     of_zero: PluralCategory,
     of_one: PluralCategory,

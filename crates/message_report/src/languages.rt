@@ -25,7 +25,7 @@ pub(crate) struct Languages {
 }
 
 impl Languages {
-    // Returns those of a locale, given its value: those of which rules are needed.
+    // Those of a locale, given its value: those of which rules are needed.
     pub(crate) fn needed<S: RulesOfLocales>(
         alloc: Global,
         source: &S,
@@ -40,7 +40,7 @@ impl Languages {
         }
     }
 
-    // Returns the language of a type.
+    // The language of a type.
     pub(crate) fn of(&self, rule_type: PluralRuleType) -> Option<&Language>
         ensures { language_lent result ≡ language_of (languages_view self.now) rule_type }
     {
@@ -51,7 +51,7 @@ impl Languages {
     }
 }
 
-// Returns the language of a locale's rules, if there are any and they are needed.
+// The language of a locale's rules, if there are any and they are needed.
 fn needed_language<S: RulesOfLocales>(
     alloc: Global,
     source: &S,
@@ -69,15 +69,14 @@ fn needed_language<S: RulesOfLocales>(
     }
 }
 
-// Returns whether a locale needs rules of a type: patterns need both, and messages those of their
-// type.
+// Whether a locale needs rules of a type: patterns need both, and messages those of their type.
 fn needs_rules(rule_type: PluralRuleType, value: &Value) -> bool
     ensures { result ≡ needs_rules rule_type (view value.now) }
 {
     is_object(value.get("patterns")) || has_members(value.get(type_name(rule_type)))
 }
 
-// Returns whether a part is there, and an object.
+// Whether a part is there, and an object.
 fn is_object(part: Option<&Value>) -> bool
     ensures { result ≡ is_object_in (value_lent part.entry) }
 {
@@ -87,7 +86,7 @@ fn is_object(part: Option<&Value>) -> bool
     }
 }
 
-// Returns whether a part is there, and an object with members.
+// Whether a part is there, and an object with members.
 fn has_members(part: Option<&Value>) -> bool
     ensures { result ≡ has_members_in (value_lent part.entry) }
 {
@@ -97,7 +96,7 @@ fn has_members(part: Option<&Value>) -> bool
     }
 }
 
-// Returns whether a value is an object with members.
+// Whether a value is an object with members.
 fn is_filled(value: &Value) -> bool
     ensures { result ≡ is_filled (as_object (view value.now)) }
 {
@@ -107,7 +106,7 @@ fn is_filled(value: &Value) -> bool
     }
 }
 
-// Returns the language of a locale's rules, if there are any.
+// The language of a locale's rules, if there are any.
 fn language_at<S: RulesOfLocales>(
     alloc: Global,
     source: &S,

@@ -21,7 +21,7 @@ pub fn category_set(message: &Value) -> CategorySet
     make_five!(CategorySet, |category| has_form(message, category))
 }
 
-// Returns whether a message has the form of a category.
+// Whether a message has the form of a category.
 fn has_form(message: &Value, category: PluralCategory) -> bool
     ensures { result ≡ has_category (view message.now) category }
 {

@@ -90,7 +90,7 @@ fn tell_part<'a>(
     )
 }
 
-// Returns the type of the rules that choose a branch.
+// The type of the rules that choose a branch.
 fn type_of_kind(kind: ArgumentKind) -> Option<PluralRuleType>
     ensures { result ≡ type_of_kind kind }
 {
@@ -269,7 +269,7 @@ fn tell<'a>(
     sum(before, faults_of(severity))
 }
 
-// Returns how many faults are of a severity: one or none.
+// How many faults are of a severity: one or none.
 fn faults_of(severity: Severity) -> u64
     ensures { result ≡ faults_of severity }
 {

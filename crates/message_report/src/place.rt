@@ -99,7 +99,7 @@ impl<'a> Place<'a> {
     }
 }
 
-// Returns the key of a type in a locale.
+// The key of a type in a locale.
 pub(crate) fn type_name(rule_type: PluralRuleType) -> &'static str
     ensures { result.now ≡ type_name rule_type }
 {

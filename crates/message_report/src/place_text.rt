@@ -39,21 +39,21 @@ impl Place<'_> {
     }
 }
 
-// Returns what is printed for what has a name at a place.
+// What is printed for what has a name at a place.
 fn named(alloc: Global, place: &str, name: &str) -> Result<String, AllocError>
     ensures { IfOk result (λ text. string_bytes text ≡ named place.now name.now) }
 {
     format!(in alloc; "{place} {name}")
 }
 
-// Returns what is printed for a locale.
+// What is printed for a locale.
 fn locale_text(alloc: Global, locale: LocalePlace<'_>) -> Result<String, AllocError>
     ensures { IfOk result (λ text. string_bytes text ≡ locale_text (locale_place_view locale.entry)) }
 {
     name_text(alloc, locale.locale)
 }
 
-// Returns what is printed for what has a name in a locale.
+// What is printed for what has a name in a locale.
 fn part_text(alloc: Global, locale: LocalePlace<'_>, name: &str) -> Result<String, AllocError>
     ensures { IfOk result (λ text. string_bytes text ≡ named (locale_text (locale_place_view locale.entry)) name.now) }
 {
@@ -61,7 +61,7 @@ fn part_text(alloc: Global, locale: LocalePlace<'_>, name: &str) -> Result<Strin
     named(alloc, place.as_str(), name)
 }
 
-// Returns what is printed for a key of a locale.
+// What is printed for a key of a locale.
 fn key_text(alloc: Global, locale: LocalePlace<'_>, key: &str) -> Result<String, AllocError>
     ensures { IfOk result (λ text. string_bytes text ≡ named (locale_text (locale_place_view locale.entry)) (name_text key.now)) }
 {
@@ -69,14 +69,14 @@ fn key_text(alloc: Global, locale: LocalePlace<'_>, key: &str) -> Result<String,
     part_text(alloc, locale, name.as_str())
 }
 
-// Returns what is printed for the sources of a locale.
+// What is printed for the sources of a locale.
 fn sources_text(alloc: Global, locale: LocalePlace<'_>) -> Result<String, AllocError>
     ensures { IfOk result (λ text. string_bytes text ≡ sources_text (locale_place_view locale.entry)) }
 {
     part_text(alloc, locale, "source")
 }
 
-// Returns what is printed for the source of a message.
+// What is printed for the source of a message.
 fn source_text(alloc: Global, locale: LocalePlace<'_>, key: &str) -> Result<String, AllocError>
     ensures { IfOk result (λ text. string_bytes text ≡ named (sources_text (locale_place_view locale.entry)) (message_text key.now)) }
 {
@@ -85,7 +85,7 @@ fn source_text(alloc: Global, locale: LocalePlace<'_>, key: &str) -> Result<Stri
     named(alloc, place.as_str(), name.as_str())
 }
 
-// Returns what is printed for a message.
+// What is printed for a message.
 fn message_place_text(alloc: Global, message: MessagePlace<'_>) -> Result<String, AllocError>
     ensures { IfOk result (λ text. string_bytes text ≡ message_place_text (message_place_view message.entry)) }
 {
@@ -94,7 +94,7 @@ fn message_place_text(alloc: Global, message: MessagePlace<'_>) -> Result<String
     message_of_type(alloc, message.rule_type, locale.as_str(), key.as_str())
 }
 
-// Returns what is printed for a message of a type, given what is printed for its locale and its key.
+// What is printed for a message of a type, given what is printed for its locale and its key.
 fn message_of_type(
     alloc: Global,
     rule_type: PluralRuleType,
@@ -109,7 +109,7 @@ fn message_of_type(
     }
 }
 
-// Returns what is printed for what has a name in a message.
+// What is printed for what has a name in a message.
 fn form_text(alloc: Global, message: MessagePlace<'_>, name: &str) -> Result<String, AllocError>
     ensures { IfOk result (λ text. string_bytes text ≡ named (message_place_text (message_place_view message.entry)) name.now) }
 {
@@ -117,7 +117,7 @@ fn form_text(alloc: Global, message: MessagePlace<'_>, name: &str) -> Result<Str
     named(alloc, place.as_str(), name)
 }
 
-// Returns what is printed for a key of a message that names no form.
+// What is printed for a key of a message that names no form.
 fn other_key_text(alloc: Global, message: MessagePlace<'_>, key: &str) -> Result<String, AllocError>
     ensures { IfOk result (λ text. string_bytes text ≡ named (message_place_text (message_place_view message.entry)) (name_text key.now)) }
 {
@@ -125,7 +125,7 @@ fn other_key_text(alloc: Global, message: MessagePlace<'_>, key: &str) -> Result
     form_text(alloc, message, name.as_str())
 }
 
-// Returns what is printed for a pattern.
+// What is printed for a pattern.
 fn pattern_place_text(alloc: Global, pattern: PatternPlace<'_>) -> Result<String, AllocError>
     ensures { IfOk result (λ text. string_bytes text ≡ pattern_place_text (pattern_place_view pattern.entry)) }
 {
@@ -134,14 +134,14 @@ fn pattern_place_text(alloc: Global, pattern: PatternPlace<'_>) -> Result<String
     pattern_of(alloc, locale.as_str(), key.as_str())
 }
 
-// Returns what is printed for a pattern, given what is printed for its locale and its key.
+// What is printed for a pattern, given what is printed for its locale and its key.
 fn pattern_of(alloc: Global, locale: &str, key: &str) -> Result<String, AllocError>
     ensures { IfOk result (λ text. string_bytes text ≡ named locale.now (codes "pattern " ++ key.now)) }
 {
     format!(in alloc; "{locale} pattern {key}")
 }
 
-// Returns what is printed for an argument of a pattern.
+// What is printed for an argument of a pattern.
 fn argument_place_text(alloc: Global, argument: ArgumentPlace<'_>) -> Result<String, AllocError>
     ensures { IfOk result (λ text. string_bytes text ≡ argument_place_text (argument_place_view argument.entry)) }
 {
@@ -150,14 +150,14 @@ fn argument_place_text(alloc: Global, argument: ArgumentPlace<'_>) -> Result<Str
     braced(alloc, place.as_str(), name.as_str())
 }
 
-// Returns what is printed for what has a name in braces at a place.
+// What is printed for what has a name in braces at a place.
 fn braced(alloc: Global, place: &str, name: &str) -> Result<String, AllocError>
     ensures { IfOk result (λ text. string_bytes text ≡ named place.now (codes "{" ++ (name.now ++ codes "}"))) }
 {
     format!(in alloc; "{place} {{{name}}}")
 }
 
-// Returns what is printed for a branch of an argument.
+// What is printed for a branch of an argument.
 fn branch_text(
     alloc: Global,
     argument: ArgumentPlace<'_>,
@@ -171,7 +171,7 @@ fn branch_text(
     named(alloc, place.as_str(), name.as_str())
 }
 
-// Returns what is printed for a selector.
+// What is printed for a selector.
 fn selector_text(alloc: Global, selector: Selector<'_>) -> Result<String, AllocError>
     ensures { IfOk result (λ text. string_bytes text ≡ selector_text (selector_view selector.entry)) }
 {
@@ -181,7 +181,7 @@ fn selector_text(alloc: Global, selector: Selector<'_>) -> Result<String, AllocE
     }
 }
 
-// Returns what is printed for `=` and a number.
+// What is printed for `=` and a number.
 fn exact_text(alloc: Global, number: &[u8]) -> Result<String, AllocError>
     ensures { IfOk result (λ text. string_bytes text ≡ codes "=" ++ bytes_text number.now) }
 {
@@ -189,7 +189,7 @@ fn exact_text(alloc: Global, number: &[u8]) -> Result<String, AllocError>
     equals_text(alloc, number.as_str())
 }
 
-// Returns `=` before a text.
+// `=` before a text.
 fn equals_text(alloc: Global, number: &str) -> Result<String, AllocError>
     ensures { IfOk result (λ text. string_bytes text ≡ codes "=" ++ number.now) }
 {

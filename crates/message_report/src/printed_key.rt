@@ -10,14 +10,14 @@ use std::alloc::{AllocError, Global};
 // The most bytes that the key of a message prints.
 const MOST_MESSAGE_BYTES: usize = 255;
 
-// Returns what is printed for the key of a message.
+// What is printed for the key of a message.
 pub(crate) fn message_text(alloc: Global, key: &str) -> Result<String, AllocError>
     ensures { IfOk result (λ text. string_bytes text ≡ message_text key.now) }
 {
     key_text(alloc, MOST_MESSAGE_BYTES, key)
 }
 
-// Returns what is printed for bytes of a pattern.
+// What is printed for bytes of a pattern.
 pub(crate) fn bytes_text(alloc: Global, bytes: &[u8]) -> Result<String, AllocError>
     ensures { IfOk result (λ text. string_bytes text ≡ bytes_text bytes.now) }
 {
@@ -27,7 +27,7 @@ pub(crate) fn bytes_text(alloc: Global, bytes: &[u8]) -> Result<String, AllocErr
     }
 }
 
-// Returns what is printed in place of bytes that are no text.
+// What is printed in place of bytes that are no text.
 fn cut_text(alloc: Global, bytes: &[u8]) -> Result<String, AllocError>
     ensures { IfOk result (λ text. string_bytes text ≡ length_text bytes.now) }
 {

@@ -18,7 +18,7 @@ pub(crate) struct TwoSamples {
 }
 
 impl TwoSamples {
-    // Returns no samples.
+    // No samples.
     pub(crate) fn none() -> TwoSamples
         ensures { result ≡ no_samples }
     {
@@ -29,7 +29,7 @@ impl TwoSamples {
     }
 }
 
-// Returns the samples of a category by its least whole number: none, if there is one.
+// The samples of a category by its least whole number: none, if there is one.
 pub(crate) fn rare_samples<S: RulesOfLocales>(
     alloc: Global,
     source: &S,
@@ -50,7 +50,7 @@ pub(crate) fn rare_samples<S: RulesOfLocales>(
     }
 }
 
-// Returns the samples of a category in its text, if there is one.
+// The samples of a category in its text, if there is one.
 fn samples_in(
     alloc: Global,
     rules: &PluralRules<'_>,

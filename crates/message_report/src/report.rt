@@ -44,7 +44,7 @@ impl<'a> LinePrinter<Finding<'a>> for FindingLines {
     }
 }
 
-// Returns the line with the counts.
+// The line with the counts.
 fn counts_line(alloc: Global, counts: Counts) -> Result<String, AllocError>
     ensures { IfOk result (λ line. string_bytes line ≡ message_counts_line counts) }
 {
@@ -52,7 +52,7 @@ fn counts_line(alloc: Global, counts: Counts) -> Result<String, AllocError>
     counts_line_with(alloc, counts, notes.as_str())
 }
 
-// Returns the line with the counts, given what is printed of the notes.
+// The line with the counts, given what is printed of the notes.
 fn counts_line_with(alloc: Global, counts: Counts, notes: &str) -> Result<String, AllocError>
     ensures { IfOk result (λ line. string_bytes line ≡ counts_line_with counts notes.now) }
 {
@@ -62,7 +62,7 @@ fn counts_line_with(alloc: Global, counts: Counts, notes: &str) -> Result<String
     )
 }
 
-// Returns how many notes there are, behind a comma, if there are some.
+// How many notes there are, behind a comma, if there are some.
 fn notes_text(alloc: Global, notes: u64) -> Result<String, AllocError>
     ensures { IfOk result (λ text. string_bytes text ≡ notes_text notes) }
 {

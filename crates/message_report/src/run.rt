@@ -57,7 +57,7 @@ pub fn run_as<S: RulesOfLocales, P: ReportPrinter, W: Write>(
     }
 }
 
-// Returns the text of the report of files, and its counts.
+// The text of the report of files, and its counts.
 fn made_of<S: RulesOfLocales, P: ReportPrinter>(
     alloc: Global,
     source: &S,

@@ -70,7 +70,7 @@ impl<'a, P: PluralsProvider, L: Locales + RuleTexts> RulesOfLocales for Fallback
     }
 }
 
-// Returns the part of a type.
+// The part of a type.
 fn part_of(rule_type: PluralRuleType) -> Part
     ensures { result ≡ part_of rule_type }
 {
@@ -80,7 +80,7 @@ fn part_of(rule_type: PluralRuleType) -> Part
     }
 }
 
-// Returns what was loaded for a locale, unless its language is unknown.
+// What was loaded for a locale, unless its language is unknown.
 fn known<'a, L: Locales>(
     locales: &L,
     locale: &str,

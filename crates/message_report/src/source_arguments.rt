@@ -9,8 +9,8 @@ ghost use Rattle.serde_json.specs.View.{items_view, view};
 
 use serde_json::Value;
 
-// Returns whether the forms of a message need the number, given what the sources of its locale have:
-// they don't if the source has a list of arguments, and none of these is the number.
+// Whether the forms of a message need the number, given what the sources of its locale have: they
+// don't if the source has a list of arguments, and none of these is the number.
 pub(crate) fn needs_number(arguments: Option<&Value>, key: &str) -> bool
     ensures { IsFalse result ↔ LacksNumber (value_lent arguments.entry) key.now }
 {
@@ -20,7 +20,7 @@ pub(crate) fn needs_number(arguments: Option<&Value>, key: &str) -> bool
     }
 }
 
-// Returns whether a source may have the number, given its arguments, if there are some.
+// Whether a source may have the number, given its arguments, if there are some.
 fn entry_has_number(entry: Option<&Value>) -> bool
     ensures { IsFalse result ↔ IsWithoutNumberIf (value_lent entry.entry) }
 {
@@ -30,7 +30,7 @@ fn entry_has_number(entry: Option<&Value>) -> bool
     }
 }
 
-// Returns whether a value is a list of other texts than the number.
+// Whether a value is a list of other texts than the number.
 fn is_without_number(value: &Value) -> bool
     ensures { IsTrue result ↔ IsWithoutNumber (view value.now) }
 {
@@ -40,7 +40,7 @@ fn is_without_number(value: &Value) -> bool
     }
 }
 
-// Returns whether a value is a list of texts.
+// Whether a value is a list of texts.
 pub(crate) fn is_text_list(value: &Value) -> bool
     ensures { IsTrue result ↔ IsTextList (view value.now) }
 {
@@ -50,7 +50,7 @@ pub(crate) fn is_text_list(value: &Value) -> bool
     }
 }
 
-// Returns whether all values are texts.
+// Whether all values are texts.
 fn are_texts(values: &[Value]) -> bool
     ensures { result ≡ all_pass is_some (items_view values.now) }
 {
@@ -62,7 +62,7 @@ fn are_texts(values: &[Value]) -> bool
     true
 }
 
-// Returns whether all values are other texts than the number.
+// Whether all values are other texts than the number.
 fn are_others(values: &[Value]) -> bool
     ensures { result ≡ all_pass is_other (items_view values.now) }
 {
@@ -74,7 +74,7 @@ fn are_others(values: &[Value]) -> bool
     true
 }
 
-// Returns whether a value is another text than the number.
+// Whether a value is another text than the number.
 fn is_other(value: &Value) -> bool
     ensures { result ≡ is_other (as_str (view value.now)) }
 {

@@ -44,7 +44,7 @@ fn next_sample(
     None
 }
 
-// Returns a word, if it has the category.
+// A word, if it has the category.
 fn sample_in(
     alloc: Global,
     rules: &PluralRules<'_>,

@@ -7,7 +7,7 @@ use icu_plurals::laws::one_list_of_tokens;
 use icu_plurals::provider::rules::reference::{Lexer, Token, is_read_whole};
 use std::alloc::{AllocError, Global};
 
-// Returns whether a text is a rule as a whole, whose lists of samples are out of order.
+// Whether a text is a rule as a whole, whose lists of samples are out of order.
 pub(crate) fn is_out_of_order(alloc: Global, text: &str) -> Result<bool, AllocError>
     ensures { IfOk result (λ other. MatchBool other (IsOutOfOrder text.now) (¬ (IsOutOfOrder text.now))) }
 {
@@ -18,14 +18,14 @@ pub(crate) fn is_out_of_order(alloc: Global, text: &str) -> Result<bool, AllocEr
     is_read_whole(alloc, text.as_bytes())
 }
 
-// Returns whether the lists of samples that a text names are in order.
+// Whether the lists of samples that a text names are in order.
 fn has_order(text: &str) -> bool
     ensures { HasOrder text.now result }
 {
     are_in_order(Lexer::new(text.as_bytes()))
 }
 
-// Returns whether the types of lists among these tokens are in order.
+// Whether the types of lists among these tokens are in order.
 fn are_in_order(mut tokens: Lexer<'_>) -> bool
     ensures { result ≡ are_in_order (filter is_list_type tokens.entry) }
 {
@@ -52,7 +52,7 @@ fn next_type(tokens: &mut Lexer<'_>) -> Option<Token>
     None
 }
 
-// Returns whether a token names a type of lists.
+// Whether a token names a type of lists.
 fn is_list_type(token: &Token) -> bool
     ensures { result ≡ is_list_type token.now }
 {

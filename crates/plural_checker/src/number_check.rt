@@ -16,7 +16,7 @@ use icu_plurals::{AskedRules, CompactDecimal, PluralCategory, PluralOperands};
 use plural_base::laws::kept_choice_is_exact;
 use std::alloc::{AllocError, Global};
 
-// Returns the fault of the first number that is wrong, if there is one.
+// The fault of the first number that is wrong, if there is one.
 pub(crate) fn check_numbers(
     alloc: Global,
     rules: Option<&AskedRules<'_>>,
@@ -38,7 +38,7 @@ pub(crate) fn check_numbers(
     Ok(None)
 }
 
-// Returns the fault of a text that is listed under a category: that of the verdict, else of a check.
+// The fault of a text that is listed under a category: that of the verdict, else of a check.
 fn fault_by(
     alloc: Global,
     rules: Option<&AskedRules<'_>>,
@@ -56,7 +56,7 @@ fn fault_by(
     }
 }
 
-// Returns the fault of a text that is listed under a category.
+// The fault of a text that is listed under a category.
 fn check_text(
     alloc: Global,
     rules: Option<&AskedRules<'_>>,
@@ -71,7 +71,7 @@ fn check_text(
     }
 }
 
-// Returns the fault of a number that is listed under a category; `None` without rules.
+// The fault of a number that is listed under a category; `None` without rules.
 fn check_number(
     rules: Option<&AskedRules<'_>>,
     category: PluralCategory,
@@ -85,7 +85,7 @@ fn check_number(
     }
 }
 
-// Returns the fault of a number under these rules.
+// The fault of a number under these rules.
 fn check_by(
     rules: &AskedRules<'_>,
     category: PluralCategory,
@@ -104,7 +104,7 @@ fn check_by(
     }
 }
 
-// Returns the category of a number.
+// The category of a number.
 fn category_of(rules: &AskedRules<'_>, number: &CompactDecimal) -> PluralCategory
     ensures { HasCategory rules.now number.now result }
 {

@@ -16,13 +16,13 @@ struct PlainNumber {
     places: Option<u64>,
 }
 
-// Returns how many numbers the samples have. No text is counted that writes no number, that has an
-// exponent or more than 16 bytes, nor a range that has none.
+// How many numbers the samples have. No text is counted that writes no number, that has an exponent
+// or more than 16 bytes, nor a range that has none.
 pub(crate) fn number_count(samples: &Samples) -> u64 {
     count_in(&samples.integer).saturating_add(count_in(&samples.decimal))
 }
 
-// Returns the same of a list, if it is present.
+// The same of a list, if it is present.
 fn count_in(list: &Option<SampleList>) -> u64 {
     let Some(list) = list else {
         return 0;
@@ -34,7 +34,7 @@ fn count_in(list: &Option<SampleList>) -> u64 {
     count
 }
 
-// Returns the same of a range of samples, or `None` if it doesn't count.
+// The same of a range of samples, or `None` if it doesn't count.
 fn count_of(range: &SampleRange) -> Option<u64> {
     let first = plain_number(&range.lower_val)?;
     match &range.upper_val {
@@ -43,7 +43,7 @@ fn count_of(range: &SampleRange) -> Option<u64> {
     }
 }
 
-// Returns how many numbers are from one to another, or `None` if there are none or too many.
+// How many numbers are from one to another, or `None` if there are none or too many.
 fn count_between(first: PlainNumber, last: PlainNumber) -> Option<u64> {
     if first.places != last.places {
         return None;
@@ -55,7 +55,7 @@ fn count_between(first: PlainNumber, last: PlainNumber) -> Option<u64> {
     more.checked_add(1)
 }
 
-// Returns the number of a sample's text, or `None` if it doesn't count.
+// The number of a sample's text, or `None` if it doesn't count.
 fn plain_number(sample: &DecimalValue) -> Option<PlainNumber> {
     let text = sample.0.as_str().as_bytes();
     let first = text.first()?;
@@ -75,7 +75,7 @@ fn plain_number(sample: &DecimalValue) -> Option<PlainNumber> {
     Some(number)
 }
 
-// Returns a number with a byte more, or `None` if that is no digit and no first point.
+// A number with a byte more, or `None` if that is no digit and no first point.
 fn with_byte(number: PlainNumber, byte: u8) -> Option<PlainNumber> {
     match byte {
         b'0'..=b'9' => Some(PlainNumber {

@@ -6,7 +6,7 @@ ghost use Rattle.plural_checker.specs.SampleNumbers.{digit_text, c_and_exponent,
 use icu_plurals::provider::rules::reference::ast::DecimalValue;
 use std::alloc::{AllocError, Global};
 
-// Returns the text of `parts / 10^places`, with an exponent.
+// The text of `parts / 10^places`, with an exponent.
 pub(crate) fn number_text(
     alloc: Global,
     places: usize,
@@ -20,8 +20,7 @@ pub(crate) fn number_text(
     Ok(DecimalValue(text))
 }
 
-// Returns the text of `parts / 10^places`: the text of the digits before the last, and then the
-// last digit.
+// The text of `parts / 10^places`: the text of the digits before the last, and then the last digit.
 fn parts_text(alloc: Global, places: usize, parts: u128) -> Result<String, AllocError>
     ensures { IfOk result (λ text. string_bytes text ≡ parts_text places parts) }
 {
@@ -34,14 +33,14 @@ fn parts_text(alloc: Global, places: usize, parts: u128) -> Result<String, Alloc
     Ok(text)
 }
 
-// Returns the point if this is the first fraction digit, otherwise an empty text.
+// The point if this is the first fraction digit, otherwise an empty text.
 fn point_at(place: usize) -> &'static str
     ensures { result.now ≡ point_at place }
 {
     if place == 0 { "." } else { "" }
 }
 
-// Returns the text of a digit.
+// The text of a digit.
 fn digit_text(digit: u8) -> &'static str
     requires { digit < 10 }
     ensures { result.now ≡ digit_text digit }

@@ -50,7 +50,7 @@ pub(crate) fn check_samples(
     )
 }
 
-// Returns the rules, if there are any, which will be asked for these samples.
+// The rules, if there are any, which will be asked for these samples.
 fn asked_for<'a>(
     alloc: Global,
     rules: Option<&'a PluralRules<'_>>,
@@ -112,7 +112,7 @@ fn check_ranges(
     Ok(())
 }
 
-// Returns the fault of a range of samples, and the count of its numbers.
+// The fault of a range of samples, and the count of its numbers.
 fn check_range(
     alloc: Global,
     rules: Option<&AskedRules<'_>>,
@@ -132,7 +132,7 @@ fn check_range(
     }
 }
 
-// Returns the same by the numbers' texts.
+// The same by the numbers' texts.
 fn check_by_text(
     alloc: Global,
     rules: Option<&AskedRules<'_>>,

@@ -11,7 +11,7 @@ use std::alloc::{AllocError, Global};
 // The most digits that an end of a range may have.
 pub(crate) const MOST_DIGITS: usize = 18;
 
-// Returns the number that a sample writes, or why it writes none.
+// The number that a sample writes, or why it writes none.
 pub(crate) fn read_sample(
     alloc: Global,
     sample: &DecimalValue,
@@ -22,7 +22,7 @@ pub(crate) fn read_sample(
     read_number(alloc, text.0.as_str())
 }
 
-// Returns the sample's text, with `c` in place of an `e`.
+// The sample's text, with `c` in place of an `e`.
 pub(crate) fn compact_text(alloc: Global, sample: &DecimalValue) -> Result<DecimalValue, AllocError>
     ensures { IfOk result (λ text. text ≡ text_with_c sample.now) }
 {
@@ -37,7 +37,7 @@ pub(crate) fn compact_text(alloc: Global, sample: &DecimalValue) -> Result<Decim
     Ok(DecimalValue(compact))
 }
 
-// Returns the number that a text writes, or why it writes none.
+// The number that a text writes, or why it writes none.
 pub(crate) fn read_number(
     alloc: Global,
     text: &str,
@@ -52,14 +52,14 @@ pub(crate) fn read_number(
     }
 }
 
-// Returns how many fraction digits a number shows.
+// How many fraction digits a number shows.
 pub(crate) fn places_of(number: &CompactDecimal) -> usize
     ensures { result ≡ fraction_places number.now }
 {
     number.significand().absolute.places_after(0).1
 }
 
-// Returns the number that all digits write, if there are at most 18.
+// The number that all digits write, if there are at most 18.
 pub(crate) fn parts_of(number: &CompactDecimal) -> Option<u64>
     ensures { result ≡ (if has_many_digits number.now then None else Some (parts_of number.now)) }
 {
@@ -71,7 +71,7 @@ pub(crate) fn parts_of(number: &CompactDecimal) -> Option<u64>
     Some(value_of_all(digits, whole + fraction))
 }
 
-// Returns the number that all digits write, given their count.
+// The number that all digits write, given their count.
 fn value_of_all(digits: &UnsignedDecimal, count: usize) -> u64
     requires all { count ≡ length digits.now.whole + length digits.now.fraction }
     requires few { count ≤ MOST_DIGITS }

@@ -17,7 +17,7 @@ pub struct Report {
 }
 
 impl Report {
-    // Returns a report of no fault and no number.
+    // A report of no fault and no number.
     pub(crate) fn new(alloc: Global) -> Report
         ensures { result ≡ record { faults = []; numbers = 0 } }
     {

@@ -16,7 +16,7 @@ pub struct Sample {
 }
 
 impl Sample {
-    // Returns the sample that bytes write, if they are a short text.
+    // The sample that bytes write, if they are a short text.
     pub(crate) fn of(word: &[u8]) -> Option<Sample>
         ensures { MatchOption result (¬ (IsShort word.now)) (λ sample. (sample ≡ kept_sample word.now) × IsShort word.now) }
     {
@@ -29,7 +29,7 @@ impl Sample {
         }
     }
 
-    // Returns the sample that a short text writes.
+    // The sample that a short text writes.
     fn of_short(word: &[u8]) -> Sample
         requires { IsShort word.now }
         ensures { result ≡ kept_sample word.now }
@@ -54,7 +54,7 @@ impl Sample {
     }
 }
 
-// Returns the text that bytes are, or an empty one.
+// The text that bytes are, or an empty one.
 fn shown(bytes: &[u8]) -> &str
     ensures { result.now ≡ shown bytes.now }
 {

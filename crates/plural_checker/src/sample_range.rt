@@ -86,7 +86,7 @@ impl SampleNumbers {
     }
 }
 
-// Returns the numbers from one sample to another.
+// The numbers from one sample to another.
 fn between(
     alloc: Global,
     lower: &DecimalValue,
@@ -104,7 +104,7 @@ fn between(
     }
 }
 
-// Returns the numbers from one number to another.
+// The numbers from one number to another.
 fn stepped(first: &CompactDecimal, last: &CompactDecimal) -> Result<SampleNumbers, RangeFault>
     ensures { result ≡ numbers_between first.now last.now }
 {

@@ -15,7 +15,7 @@ enum Mark {
     Range,
 }
 
-// Returns whether a byte is that of a mark.
+// Whether a byte is that of a mark.
 fn is_marked(mark: Mark, byte: u8) -> bool
     ensures { result ≡ is_marked mark byte }
 {
@@ -26,7 +26,7 @@ fn is_marked(mark: Mark, byte: u8) -> bool
     }
 }
 
-// Returns where the first mark of a kind stands, or the length.
+// Where the first mark of a kind stands, or the length.
 fn place_of(mark: Mark, bytes: &[u8]) -> usize
     ensures { result ≡ position_or_len (is_marked mark) bytes.now }
 {
@@ -38,7 +38,7 @@ fn place_of(mark: Mark, bytes: &[u8]) -> usize
     bytes.len()
 }
 
-// Returns what stands behind the first `@`.
+// What stands behind the first `@`.
 fn listed(text: &[u8]) -> &[u8]
     ensures { result.now ≡ after_first is_at text.now }
 {
@@ -49,7 +49,7 @@ fn listed(text: &[u8]) -> &[u8]
     &[]
 }
 
-// Returns what stands before the first gap, and behind it, if there is one.
+// What stands before the first gap, and behind it, if there is one.
 fn cut_part(bytes: &[u8]) -> (&[u8], Option<&[u8]>)
     ensures { slice_split is_gap bytes.now ≡ result.0.now ∷ parts_left (left_view result.1) }
 {
@@ -60,7 +60,7 @@ fn cut_part(bytes: &[u8]) -> (&[u8], Option<&[u8]>)
     (bytes, None)
 }
 
-// Returns the start of a range, or a single sample.
+// The start of a range, or a single sample.
 fn start_of(part: &[u8]) -> &[u8]
     ensures { result.now ≡ before_first is_tilde part.now }
 {
@@ -83,7 +83,7 @@ impl<'t> Model for SampleWords<'t> {
 }
 
 impl<'t> SampleWords<'t> {
-    // Returns those of a text.
+    // Those of a text.
     pub(crate) fn of(text: &'t [u8]) -> SampleWords<'t>
         ensures { result ≡ sample_words text.now }
     {

@@ -75,7 +75,7 @@ fn verdict_on_sample(
     }
 }
 
-// Returns the operands of a sample's text, if it has at most 16 bytes and no exponent.
+// The operands of a sample's text, if it has at most 16 bytes and no exponent.
 fn sample_operands(alloc: Global, sample: &DecimalValue) -> Option<PluralOperands>
     ensures { IfSome result (λ operands. WritesShortNumber (text_with_c sample.now) operands) }
 {
@@ -86,7 +86,7 @@ fn sample_operands(alloc: Global, sample: &DecimalValue) -> Option<PluralOperand
     }
 }
 
-// Returns the operands of a text, if it has at most 16 bytes and no exponent.
+// The operands of a text, if it has at most 16 bytes and no exponent.
 fn text_operands(alloc: Global, text: &str) -> Option<PluralOperands>
     ensures { IfSome result (λ operands. WritesShortNumber text.now operands) }
 {
@@ -99,7 +99,7 @@ fn text_operands(alloc: Global, text: &str) -> Option<PluralOperands>
     }
 }
 
-// Returns operands without an exponent.
+// Operands without an exponent.
 fn without_exponent(operands: PluralOperands) -> Option<PluralOperands>
     ensures { IfSome result (λ same. (same ≡ operands) × (operands.c ≡ 0)) }
 {
@@ -172,7 +172,7 @@ fn verdict_under(
     }
 }
 
-// Returns the operands of a number of steps, if it has at most 18 digits and no exponent.
+// The operands of a number of steps, if it has at most 18 digits and no exponent.
 fn operands_at(steps: &Steps, index: u64) -> Option<PluralOperands>
     ensures { let text = number_text steps.now.places (steps.now.first + index) steps.now.exponent in
         IfSome result (λ operands. WritesShortNumber text operands) }
@@ -187,7 +187,7 @@ fn operands_at(steps: &Steps, index: u64) -> Option<PluralOperands>
     Some(operands_of(steps.places, parts))
 }
 
-// Returns the operands of `parts / 10^places`.
+// The operands of `parts / 10^places`.
 fn operands_of(places: usize, parts: u64) -> PluralOperands
     requires places { places ≤ 18 }
     requires parts { parts < 10 ^ 18 }
@@ -206,8 +206,8 @@ fn operands_of(places: usize, parts: u64) -> PluralOperands
     })
 }
 
-// Returns how many of the digits that are shown are left without the zeros at their end, and what
-// these write.
+// How many of the digits that are shown are left without the zeros at their end, and what these
+// write.
 fn without_zeros(shown: usize, written: u64) -> (usize, u64)
     ensures divides { 10 ^ (shown - result.0) ∣ written }
     ensures least { (k : ℕ) → 10 ^ (shown - k) ∣ written → result.0 ≤ k }

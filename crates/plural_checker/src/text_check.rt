@@ -113,7 +113,7 @@ fn check_condition(
     report.add(Fault { category, kind })
 }
 
-// Returns whether two texts have the same tokens.
+// Whether two texts have the same tokens.
 fn has_tokens_of(text: &str, other: &str) -> bool
     ensures { MatchBool result (HaveSameTokens text.now other.now) (HaveOtherTokens text.now other.now) }
 {
@@ -126,14 +126,14 @@ fn has_tokens_of(text: &str, other: &str) -> bool
     are_cut_alike(text, other)
 }
 
-// Returns the same by cutting both.
+// The same by cutting both.
 fn are_cut_alike(text: &str, other: &str) -> bool
     ensures { MatchBool result (HaveSameTokens text.now other.now) (HaveOtherTokens text.now other.now) }
 {
     are_equal(Lexer::new(text.as_bytes()), Lexer::new(other.as_bytes()))
 }
 
-// Returns whether a text is another one behind spaces, or none.
+// Whether a text is another one behind spaces, or none.
 fn is_behind_spaces(text: &str, other: &str) -> bool
     ensures { IsTrue result → (tokens : List Token) → AreTokensOf other.now tokens → AreTokensOf text.now tokens }
 {
@@ -147,7 +147,7 @@ fn is_behind_spaces(text: &str, other: &str) -> bool
     rest == other.as_bytes()
 }
 
-// Returns whether the remaining tokens are the same.
+// Whether the remaining tokens are the same.
 fn are_equal(mut tokens: Lexer<'_>, mut others: Lexer<'_>) -> bool
     ensures { MatchBool result (tokens.entry ≡ others.entry) (tokens.entry ≢ others.entry) }
 {

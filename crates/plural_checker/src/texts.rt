@@ -37,7 +37,7 @@ impl<'a> LanguageTexts<'a> {
     }
 }
 
-// Returns whether a text has more than the most bytes.
+// Whether a text has more than the most bytes.
 pub(crate) fn is_long(text: &str) -> bool
     ensures { result ≡ is_long text.now }
 {

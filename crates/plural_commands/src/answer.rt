@@ -17,7 +17,7 @@ use crate::select_command::element_line;
 use std::alloc::Global;
 use std::borrow::CowStr;
 
-// Returns the answer to a query of the document that the bytes write.
+// The answer to a query of the document that the bytes write.
 pub(crate) fn text_in(
     alloc: Global,
     bytes: &[u8],
@@ -29,7 +29,7 @@ pub(crate) fn text_in(
     text_of(alloc, &document, lookup)
 }
 
-// Returns the answer to a query of a document.
+// The answer to a query of a document.
 fn text_of(
     alloc: Global,
     document: &Document,

@@ -39,7 +39,7 @@ pub(crate) enum Lookup<'a> {
     Message(&'a str, PluralRuleType, CompactDecimal, &'a str),
 }
 
-// Returns the query of the words.
+// The query of the words.
 pub(crate) fn query_of<'a>(alloc: Global, words: &[&'a str]) -> Result<Query<'a>, RunError>
     ensures query { GivesQuery (command_of (map (λ w. w.now) words.now)) result }
     ensures usage { (result ≡ Err RunError.Usage) ↔ (command_of (map (λ w. w.now) words.now) ≡ None) }
@@ -51,7 +51,7 @@ pub(crate) fn query_of<'a>(alloc: Global, words: &[&'a str]) -> Result<Query<'a>
     }
 }
 
-// Returns the query of a command. Its condition and its numbers are read in the order of its words.
+// The query of a command. Its condition and its numbers are read in the order of its words.
 fn read_words<'a>(alloc: Global, command: Command<'a>) -> Result<Query<'a>, RunError>
     ensures query { GivesQuery (Some (command_view command.entry)) result }
     ensures memory { (result ≡ Err RunError.Memory) → ReadingTakesMemory (Some (command_view command.entry)) }

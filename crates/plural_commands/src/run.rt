@@ -68,7 +68,7 @@ pub fn run<R: Read, W: Write>(
     }
 }
 
-// Returns the answer to a query. A truth value needs no input.
+// The answer to a query. A truth value needs no input.
 fn answer<R: Read>(
     alloc: Global,
     query: &Query<'_>,
@@ -87,7 +87,7 @@ fn answer<R: Read>(
     }
 }
 
-// Returns the answer to a query of the document in the reader.
+// The answer to a query of the document in the reader.
 fn looked_up<R: Read>(
     alloc: Global,
     lookup: &Lookup<'_>,

@@ -50,7 +50,7 @@ impl<'a> HeldToken<'a> {
     }
 }
 
-// Returns what is held of a token, if it may come.
+// What is held of a token, if it may come.
 #[inline(always)]
 fn held_if<'a>(comes: bool, held: HeldToken<'a>) -> Option<HeldToken<'a>>
     ensures { result ≡ (if comes then Some held.entry else None) }

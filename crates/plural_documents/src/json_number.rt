@@ -8,7 +8,7 @@ ghost use Rattle.serde_json.specs.View.{number_view};
 use fast_float::Numeral;
 use serde_json::Number;
 
-// Returns the number that a text of JSON writes, as `serde_json` reads it, unless it is too large.
+// The number that a text of JSON writes, as `serde_json` reads it, unless it is too large.
 #[inline(always)]
 pub(crate) fn json_number(text: &str) -> Option<Number>
     ensures { option_map number_view result ≡ number_of text.now }
@@ -21,8 +21,8 @@ pub(crate) fn json_number(text: &str) -> Option<Number>
     }
 }
 
-// Returns the number of this size, or below zero. One without a point or an exponent that fits 64
-// bits is an integer, except `-0`, and another one a float.
+// The number of this size, or below zero. One without a point or an exponent that fits 64 bits is
+// an integer, except `-0`, and another one a float.
 #[inline(always)]
 fn signed_number(is_negative: bool, size: &[u8]) -> Option<Number>
     ensures { option_map number_view result ≡ number_from is_negative (scan size.now) }

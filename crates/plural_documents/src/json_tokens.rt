@@ -90,7 +90,7 @@ fn read_by<'a>(
     }
 }
 
-// Returns what is held of the tokens of a value with nothing after it.
+// What is held of the tokens of a value with nothing after it.
 fn read_tokens<'a>(
     alloc: Global,
     names: Option<&[&str]>,
@@ -135,7 +135,7 @@ fn hold<'a>(
     Ok(())
 }
 
-// Returns whether a token is held, and what comes after it, up to the next token that tells: in the
+// Whether a token is held, and what comes after it, up to the next token that tells: in the
 // outermost object, where as many are open, a key, and its end.
 #[inline(always)]
 fn is_held_after(depth: u32, is_held: bool, names: Option<&[&str]>, held: HeldToken<'_>) -> bool
@@ -151,7 +151,7 @@ fn is_held_after(depth: u32, is_held: bool, names: Option<&[&str]>, held: HeldTo
     }
 }
 
-// Returns whether the member with a key is held.
+// Whether the member with a key is held.
 fn is_held_name(names: Option<&[&str]>, key: &str) -> bool
     ensures { result ≡ is_held_name (given_names names.entry) key.now }
 {
@@ -161,7 +161,7 @@ fn is_held_name(names: Option<&[&str]>, key: &str) -> bool
     }
 }
 
-// Returns whether a key is among the names.
+// Whether a key is among the names.
 fn is_named(names: &[&str], key: &str) -> bool
     ensures { result ≡ is_named (names_view names.now) key.now }
 {

@@ -38,7 +38,7 @@ impl Nesting {
         }
     }
 
-    // Returns whether the innermost is an object. Nothing may be open.
+    // Whether the innermost is an object. Nothing may be open.
     pub(crate) fn innermost(&self) -> Option<bool>
         ensures { result ≡ innermost self.now }
     {
@@ -48,7 +48,7 @@ impl Nesting {
         Some(self.objects % 2 == 1)
     }
 
-    // Returns whether the innermost is an object, if this is true, or an array.
+    // Whether the innermost is an object, if this is true, or an array.
     #[inline(always)]
     pub(crate) fn is_in(&self, is_object: bool) -> bool
         ensures { result ≡ is_in is_object self.now }
@@ -60,7 +60,7 @@ impl Nesting {
         }
     }
 
-    // Returns how many are open.
+    // How many are open.
     #[inline(always)]
     pub(crate) fn depth(&self) -> u32
         ensures { result ≡ length self.now }

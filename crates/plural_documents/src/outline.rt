@@ -66,8 +66,8 @@ impl<'a> JsonTokens<'a> {
     }
 }
 
-// Returns the outline of the value that begins with this token, and goes past it. Without a sieve it
-// is kept whole.
+// The outline of the value that begins with this token, which is passed. Without a sieve it is kept
+// whole.
 #[cycle(build)]
 fn outlined<S: Sieve>(
     alloc: Global,
@@ -90,7 +90,7 @@ fn outlined<S: Sieve>(
     }
 }
 
-// Returns the items of an array, and goes past it.
+// The items of an array, which is passed.
 #[cycle(build)]
 fn whole_items<S: Sieve>(
     alloc: Global,
@@ -113,7 +113,7 @@ fn whole_items<S: Sieve>(
     Ok(items)
 }
 
-// Returns what is kept of the members of an object, and goes past it.
+// What is kept of the members of an object, which is passed.
 #[cycle(build)]
 fn outlined_members<S: Sieve>(
     alloc: Global,
@@ -192,7 +192,7 @@ fn put_value(
     Ok(())
 }
 
-// Returns how much is kept of the member with a key; without a sieve, all.
+// How much is kept of the member with a key; without a sieve, all.
 fn portion_below<S: Sieve>(sieve: Option<S>, key: &str) -> Portion<S>
     ensures { result ≡ portion_below S.keeps sieve key.now }
 {

@@ -35,14 +35,14 @@ pub fn key_text(alloc: Global, most: usize, key: &str) -> Result<String, AllocEr
     Ok(text)
 }
 
-// Returns what is printed in place of a key.
+// What is printed in place of a key.
 fn length_text(alloc: Global, key: &str) -> Result<String, AllocError>
     ensures { IfOk result (λ text. string_bytes text ≡ length_text key.now) }
 {
     format!(in alloc; "\\({} bytes)", key.len())
 }
 
-// Returns a key with escapes.
+// A key with escapes.
 fn escaped_key(alloc: Global, key: &str) -> Result<String, AllocError>
     ensures { IfOk result (λ text. string_bytes text ≡ escaped_key key.now) }
 {
@@ -71,7 +71,7 @@ fn push_char(text: &mut String, c: char) -> Result<(), AllocError>
     push_escape(text, c as u32 as u8)
 }
 
-// Returns whether a character is printed as it is.
+// Whether a character is printed as it is.
 fn is_plain(c: u32) -> bool
     ensures { result ≡ is_plain c }
 {
@@ -87,7 +87,7 @@ fn push_escape(text: &mut String, byte: u8) -> Result<(), AllocError>
     text.push(digit_char(byte % 16))
 }
 
-// Returns a hexadecimal digit.
+// A hexadecimal digit.
 fn digit_char(digit: u8) -> char
     requires { digit < 16 }
     ensures value { result ≡ digit_char digit }

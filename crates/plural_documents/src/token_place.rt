@@ -26,14 +26,14 @@ impl TokenPlace {
         }
     }
 
-    // Returns whether a value has ended, and nothing is open.
+    // Whether a value has ended, and nothing is open.
     pub(crate) fn is_end(&self) -> bool
         ensures { MatchBool result (IsAfter self.now []) (IsAfter self.now [] → ⊥) }
     {
         !self.is_due && self.open.innermost().is_none()
     }
 
-    // Returns how many objects and arrays are open.
+    // How many objects and arrays are open.
     #[inline(always)]
     pub(crate) fn depth(&self) -> u32
         ensures { result ≡ length self.now.open }
@@ -41,14 +41,14 @@ impl TokenPlace {
         self.open.depth()
     }
 
-    // Returns whether it goes on in an object, if this is true, or in an array.
+    // Whether it goes on in an object, if this is true, or in an array.
     fn goes_on(&self, is_object: bool) -> bool
         ensures { result ≡ goes_on is_object self.now.is_due self.now.open }
     {
         !self.is_due && self.open.is_in(is_object)
     }
 
-    // Returns whether a value may come.
+    // Whether a value may come.
     fn may_have_value(&self) -> bool
         ensures { result ≡ may_have_value self.now.is_due self.now.open }
     {

@@ -61,7 +61,7 @@ impl<'t, 'a> TokensLeft<'t, 'a> {
     }
 }
 
-// Returns how many arrays and objects are open after a token.
+// How many arrays and objects are open after a token.
 fn opened_after(opened: usize, token: HeldToken<'_>) -> usize
     requires { opened + 1 < 2 ^ 64 }
     ensures { result ≡ opened_after opened (held_token token.entry) }

@@ -66,7 +66,7 @@ impl<'a, P: PluralsProvider, L: Locales> FallbackProvider<'a, P, L> {
     }
 }
 
-// Returns what was loaded, with its key.
+// What was loaded, with its key.
 fn with_key<'a, R: Drop>(
     key: &'a str,
     value: Result<R, DataError>,

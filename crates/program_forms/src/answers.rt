@@ -29,7 +29,7 @@ pub(crate) enum Asked<'a> {
 }
 
 impl<'a> Asked<'a> {
-    // Returns whether the input is read for the numbers.
+    // Whether the input is read for the numbers.
     pub(crate) fn has_input(&self) -> bool {
         matches!(self, Asked::Lines(_))
     }

@@ -115,7 +115,7 @@ impl Failure {
         }
     }
 
-    // Returns the exit status: 1 if the locale has no rules, otherwise 2.
+    // The exit status: 1 if the locale has no rules, otherwise 2.
     pub(crate) fn status(&self) -> u8 {
         match self {
             Failure::File(_, error) | Failure::Input(error) | Failure::Other(error) => {

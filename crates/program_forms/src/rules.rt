@@ -8,7 +8,7 @@ use std::rt::{Env, Files};
 // The variable that names a file of rules.
 const VARIABLE: &str = "PLURALS_RULES";
 
-// Returns the name of the file that has the rules: the given one, else the one that the variable
+// The name of the file that has the rules: the given one, else the one that the variable
 // `PLURALS_RULES` names. `None` if the variable is absent or empty.
 pub(crate) fn rules_name<R: Env + AllocGlobal>(
     rt: &R,
@@ -23,7 +23,7 @@ pub(crate) fn rules_name<R: Env + AllocGlobal>(
     }
 }
 
-// Returns the name that the variable has.
+// The name that the variable has.
 fn named_by_variable<R: Env + AllocGlobal>(rt: &R) -> Result<Option<String>, Failure> {
     match var(rt, VARIABLE) {
         Ok(name) => Ok(if name.is_empty() { None } else { Some(name) }),

@@ -98,7 +98,7 @@ fn push_compared(
     text.push_str("\"")
 }
 
-// Returns a document of many values by many samples.
+// A document of many values by many samples.
 fn many_compared(alloc: Global, source: &mut Source) -> Result<String, AllocError> {
     let mut text = String::from_str(alloc, "{\"cardinal\":{")?;
     for number in 0..source.some_of(COMPARED) {
@@ -113,7 +113,7 @@ fn many_compared(alloc: Global, source: &mut Source) -> Result<String, AllocErro
     Ok(text)
 }
 
-// Returns a document of parents above a locale of 128 subtags.
+// A document of parents above a locale of 128 subtags.
 fn parents(alloc: Global, source: &mut Source) -> Result<String, AllocError> {
     let mut text = String::from_str(alloc, "{\"parents\":{\"b\":\"x")?;
     for _ in 0..127 {
@@ -130,7 +130,7 @@ fn parents(alloc: Global, source: &mut Source) -> Result<String, AllocError> {
     Ok(text)
 }
 
-// Returns a document whose names print as four times their bytes, in each of many lines.
+// A document whose names print as four times their bytes, in each of many lines.
 fn names(alloc: Global, source: &mut Source) -> Result<String, AllocError> {
     let mut text = String::from_str(alloc, "{\"cardinal\":{")?;
     for number in 0..source.some_of(NAMES) {

@@ -55,7 +55,7 @@ pub(crate) const LANGUAGES: [Language; 7] = [
     },
 ];
 
-// Returns the rules of a language.
+// The rules of a language.
 pub(crate) fn rules_of(
     alloc: Global,
     documents: &Documents,

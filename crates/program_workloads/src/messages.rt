@@ -113,7 +113,7 @@ pub(crate) fn push_pattern(
     }
 }
 
-// Returns a catalogue of patterns.
+// A catalogue of patterns.
 fn catalogue(
     alloc: Global,
     source: &mut Source,
@@ -199,7 +199,7 @@ fn patterns(
     Ok(())
 }
 
-// Returns a text with a number in it, for a form that the language has.
+// A text with a number in it, for a form that the language has.
 fn form(
     alloc: Global,
     source: &mut Source,

@@ -52,7 +52,7 @@ fn lines(
     Ok(())
 }
 
-// Returns a category as a number.
+// A category as a number.
 fn number_of(category: PluralCategory) -> u64 {
     u64::from(category as u8)
 }

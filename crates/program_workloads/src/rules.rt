@@ -57,7 +57,7 @@ fn push_part(
     Ok(())
 }
 
-// Returns a document of CLDR's rules under other names.
+// A document of CLDR's rules under other names.
 fn renamed(
     alloc: Global,
     source: &mut Source,

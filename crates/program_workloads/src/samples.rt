@@ -40,7 +40,7 @@ pub(crate) fn push_number(text: &mut String, source: &mut Source) -> Result<(), 
     }
 }
 
-// Returns so many numbers.
+// So many numbers.
 pub(crate) fn numbers(
     alloc: Global,
     source: &mut Source,
@@ -55,7 +55,7 @@ pub(crate) fn numbers(
     Ok(all)
 }
 
-// Returns one of the numbers, or 0 if there are none.
+// One of the numbers, or 0 if there are none.
 pub(crate) fn one_number<'a>(source: &mut Source, numbers: &'a [String]) -> &'a str {
     let place = source.place(numbers.len());
     match numbers.get(place) {

@@ -85,7 +85,7 @@ fn push_patterns(
     Ok(())
 }
 
-// Returns a document of messages: four of five of a locale have forms, the others are patterns.
+// A document of messages: four of five of a locale have forms, the others are patterns.
 fn document(
     alloc: Global,
     source: &mut Source,

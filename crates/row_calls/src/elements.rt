@@ -95,7 +95,7 @@ impl Elements {
 }
 
 impl Element {
-    // Returns the element under a name, if it is present.
+    // The element under a name, if it is present.
     fn under(call: &mut Call, value: &Value, name: &str, has_metadata: bool) -> Option<Element> {
         match value.get(name) {
             Some(value) => Some(Element::of(call, value, has_metadata)),
@@ -103,7 +103,7 @@ impl Element {
         }
     }
 
-    // Returns the element of a text, or of a list of metadata and a text.
+    // The element of a text, or of a list of metadata and a text.
     fn of(call: &mut Call, value: &Value, has_metadata: bool) -> Element {
         let mut metadata = FourBitMetadata::zero();
         let mut text = value;
