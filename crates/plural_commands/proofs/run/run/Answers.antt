@@ -1,11 +1,13 @@
-use Rattle.std.proofs.Common.{ℕ, List, Bor, map, Ok, Err, inl, inr, refl, sym, ◌∙◌, subst, rules}
+use Rattle.std.proofs.Common.{ℕ, List, Bor, map, Result, Ok, Err, inl, inr, refl, sym, ◌∙◌, subst, rules}
 use Rattle.std.proofs.lemmas.Result.{err_from_is_err_and}
 use Rattle.std.specs.Cow.{cow_str_bytes}
 use Rattle.std.specs.Prelude.{⊤}
 use Rattle.plural_commands.specs.Answer.{AnswersQuery, AnswersWords, run_origin}
 use Rattle.plural_commands.specs.Commands.{command_of}
+use Rattle.plural_commands.specs.Inner.CallAnswers.{Text}
 use Rattle.plural_commands.specs.Inner.PrivateViews.{query_view}
 use Rattle.plural_commands.specs.Queries.{Asks}
+use Rattle.plural_commands.specs.declared.error.RunError.{RunError}
 use Rattle.plural_commands.proofs.Faults.{fault_of_first, handed_on, no_error, same_error, same_fault}
 use Rattle.plural_documents.proofs.InputLemmas.{implied, some_input, without_reading}
 use Rattle.plural_commands.proofs.Questions.{needs, needs_input, settled}
@@ -17,12 +19,13 @@ returns-in_err-query-clause-answers g c =
     let words = map (λ (w : Bor (List ℕ)). w.now) c.args.words.now in
     let input = some_input (g.R.Read.remaining c.args.reader.now) in
     let e = c.in_err-query.field-0.0 in
+    let failed : Result Text RunError = Err e in
     let IsAnswer = AnswersWords words input.0 in (
       input.0,
       input.1,
       not_written IsAnswer (g.W.Write.contents c.args.writer.now) e c.from_residual.result
           (handed_on _ _ (err_from_is_err_and c.from_residual.result c.from_residual.ensures.1))
-          (without_reading run_origin cow_str_bytes IsAnswer (Err e)
+          (without_reading run_origin cow_str_bytes IsAnswer failed
           (fault_of_first (Asks words) (λ query. AnswersQuery query input.0) e c.in_err-query.ensures.query)),
     )
 
@@ -46,13 +49,14 @@ returns-in_err-text-clause-answers g c =
     let words = map (λ (w : Bor (List ℕ)). w.now) c.args.words.now in
     let query = query_view c.in_ok-query.query in
     let e = c.in_err-text.field-0.0 in
+    let failed : Result Text RunError = Err e in
     let a = c.in_err-text.ensures.answers in (
       a.0,
       a.1,
       not_written (AnswersWords words a.0) (g.W.Write.contents c.args.writer.now) e c.from_residual-in_err-text.result
           (handed_on _ _ (err_from_is_err_and c.from_residual-in_err-text.result c.from_residual-in_err-text.ensures.1))
           (implied run_origin cow_str_bytes (AnswersQuery query a.0) (AnswersWords words a.0)
-          (λ answer h. (Ok query, c.in_ok-query.ensures.query.0, h)) (Err e) a.2),
+          (λ answer h. (Ok query, c.in_ok-query.ensures.query.0, h)) failed a.2),
     )
 
 pub returns-in_err-text-clause-reads : goal.returns-in_err-text-clause-reads
