@@ -13,7 +13,7 @@ use Rattle.icu_plurals.specs.declared.provider.rules.runtime.ast.RuleError.TheVa
 use Rattle.icu_plurals.specs.FiveRules.{five, passes}
 use Rattle.icu_plurals.specs.Lexer.{AreTokensOf, TextReads, TextFaulty}
 use Rattle.icu_plurals.specs.PackedRelations.{PackedRelation}
-use Rattle.icu_plurals.specs.PackedTree.{packed, packing, Packs}
+use Rattle.icu_plurals.specs.PackedTree.{packed, Packs}
 use Rattle.icu_plurals.specs.Reading.{AnswersExactly}
 use Rattle.icu_plurals.specs.RuleOfText.{IsPackedFrom}
 use Rattle.icu_plurals.specs.RuleTexts.{IsRefused}
