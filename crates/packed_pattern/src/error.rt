@@ -14,7 +14,7 @@ pub enum BlockError {
     /// above 32, or its name is longer than the item.
     Part(usize),
     /// The item at this place is a part, and the argument or the branch that it begins doesn't end
-    /// where it says, or a branch isn't where it says.
+    /// where it says, a branch isn't where it says, or bytes of its places are missing.
     Place(usize),
     /// The part at this place may not follow the one before it, or the parts end before it in an
     /// argument.
