@@ -1,6 +1,5 @@
 use Rattle.std.proofs.Common.{◌≡◌, [], ◌∷◌, ap, sym, ◌∙◌}
-use Rattle.message_report.specs.FoundInMessages.{Found, fault_at, faults_of, finding_at, found_at, notes_of, together}
-use Rattle.message_report.specs.Inner.ToldFindings.{note_at}
+use Rattle.message_report.specs.FoundInMessages.{Found, faults_of, finding_at, notes_of, together}
 use Rattle.message_report.specs.FindingCauses.{severity_of}
 use Rattle.message_report.specs.MessagePlaces.{Place, place_view}
 use Rattle.message_report.specs.declared.cause.Cause.{Cause}
