@@ -97,9 +97,11 @@ fn packed_places(call: &mut Call) {
 
 // The places of a part up to the last that isn't 0, and its depth, if it has such a place.
 fn print_places(call: &mut Call, index: usize, placed: &PlacedPart<'_>) {
-    let mut count = 9;
-    while count > 0 && placed.place(count - 1) == 0 {
-        count -= 1;
+    let mut count = 0;
+    for which in 0..9usize {
+        if placed.place(which) != 0 {
+            count = which + 1;
+        }
     }
     if count > 0 {
         call.separate(" ");
