@@ -1,12 +1,12 @@
 //! What is found in a file of messages.
 
-ghost use Rattle.std.specs.Prelude.{◌≡◌, ◌++◌, codes, IfOk, string_bytes};
-ghost use Rattle.message_report.specs.FindingCauses.{cause_text};
+ghost use Rattle.std.specs.Prelude.{◌≡◌, IfOk, Some, string_bytes};
 ghost use Rattle.message_report.specs.MessageFindings.{finding_line, finding_view};
 
 use crate::cause::Cause;
 use crate::place::Place;
 use std::alloc::{AllocError, Global};
+use std::fmt;
 
 /// What is found in a file of messages.
 #[derive(Clone, Copy, Debug)]
@@ -23,14 +23,15 @@ impl Finding<'_> {
     pub fn line(&self, alloc: Global) -> Result<String, AllocError>
         ensures { IfOk result (λ line. string_bytes line ≡ finding_line (finding_view self.now)) }
     {
-        let place = self.place.text(alloc)?;
-        line_of(alloc, self.place.file(), place.as_str(), self.cause)
+        self.to_string(alloc)
     }
 }
 
-// The line of a cause, given the name of the file and what is printed for the place.
-fn line_of(alloc: Global, file: &str, place: &str, cause: Cause) -> Result<String, AllocError>
-    ensures { IfOk result (λ line. string_bytes line ≡ file.now ++ (codes ": " ++ (place.now ++ (codes ": " ++ cause_text cause)))) }
-{
-    format!(in alloc; "{file}: {place}: {cause}")
+/// The line that is printed, without a newline: `ru.json: ru files two: no number is two`.
+impl fmt::Display for Finding<'_> {
+    ghost output = { λ finding. Some (finding_line (finding_view finding)) };
+
+    fn fmt<W: fmt::Write>(&self, f: &mut fmt::Formatter<W>) -> fmt::Result {
+        write!(f, "{}: {}: {}", self.place.file(), self.place, self.cause)
+    }
 }

@@ -1,35 +1,36 @@
 //! How the keys of messages and the bytes of patterns are printed.
 
-ghost use Rattle.std.specs.Prelude.{◌≡◌, IfOk, string_bytes};
-ghost use Rattle.plural_documents.specs.PrintedKeys.{length_text};
+ghost use Rattle.std.specs.Prelude.{◌≡◌, Some};
+ghost use Rattle.plural_documents.specs.PrintedKeys.{key_text};
 ghost use Rattle.message_report.specs.PrintedKeys.{bytes_text, message_text};
 
-use plural_documents::{key_text, name_text};
-use std::alloc::{AllocError, Global};
+use plural_documents::{PrintedKey, printed_name};
+use std::fmt;
 
 // The most bytes that the key of a message prints.
 const MOST_MESSAGE_BYTES: usize = 255;
 
-// What is printed for the key of a message.
-pub(crate) fn message_text(alloc: Global, key: &str) -> Result<String, AllocError>
-    ensures { IfOk result (λ text. string_bytes text ≡ message_text key.now) }
+// The key of a message, to be printed.
+pub(crate) fn message_key(key: &str) -> PrintedKey<'_>
+    ensures { key_text result.most result.key.now ≡ message_text key.now }
 {
-    key_text(alloc, MOST_MESSAGE_BYTES, key)
-}
-
-// What is printed for bytes of a pattern.
-pub(crate) fn bytes_text(alloc: Global, bytes: &[u8]) -> Result<String, AllocError>
-    ensures { IfOk result (λ text. string_bytes text ≡ bytes_text bytes.now) }
-{
-    match std::str::from_utf8(bytes) {
-        Ok(text) => name_text(alloc, text),
-        Err(_) => cut_text(alloc, bytes),
+    PrintedKey {
+        most: MOST_MESSAGE_BYTES,
+        key,
     }
 }
 
-// What is printed in place of bytes that are no text.
-fn cut_text(alloc: Global, bytes: &[u8]) -> Result<String, AllocError>
-    ensures { IfOk result (λ text. string_bytes text ≡ length_text bytes.now) }
-{
-    format!(in alloc; "\\({} bytes)", bytes.len())
+// Bytes of a pattern, to be printed.
+#[derive(Drop)]
+pub(crate) struct PrintedBytes<'a>(pub(crate) &'a [u8]);
+
+impl fmt::Display for PrintedBytes<'_> {
+    ghost output = { λ bytes. Some (bytes_text bytes.0.now) };
+
+    fn fmt<W: fmt::Write>(&self, f: &mut fmt::Formatter<W>) -> fmt::Result {
+        match std::str::from_utf8(self.0) {
+            Ok(text) => write!(f, "{}", printed_name(text)),
+            Err(_) => write!(f, "\\({} bytes)", self.0.len()),
+        }
+    }
 }

@@ -10,6 +10,7 @@ use crate::finding::Finding;
 use crate::found::Found;
 use plural_documents::{LinePrinter, push_lines};
 use std::alloc::{AllocError, Global};
+use std::fmt::Write;
 
 /// Returns the text of a report: a line for each finding, and one with the counts. It allocates; the
 /// only error is out of memory.
@@ -35,12 +36,14 @@ impl<'a> LinePrinter<Finding<'a>> for FindingLines {
 
     fn push(
         &mut self,
-        alloc: Global,
+        _alloc: Global,
         finding: &Finding<'a>,
         text: &mut String,
     ) -> Result<(), AllocError> {
-        text.push_str(finding.line(alloc)?.as_str())?;
-        text.push_str("\n")
+        match write!(text, "{finding}\n") {
+            Ok(()) => Ok(()),
+            Err(_) => Err(AllocError),
+        }
     }
 }
 

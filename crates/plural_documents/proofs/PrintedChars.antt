@@ -2,12 +2,11 @@
 use Rattle.std.proofs.Common.{◌≡◌, ℕ, ◌+◌, ◌<◌, ◌≤◌, Bool, true, false, List, [], ◌∷◌, ◌++◌, length, get_or}
 use Rattle.std.proofs.Common.{encode_utf8, refl, sym, ap, ◌∙◌, arith, append_assoc}
 use Rattle.std.proofs.lemmas.Grind.{common_steps, flat_map-append}
-use Rattle.std.specs.Prelude.{nat_lt, OnOk, if◌then◌else◌, is_ok}
-use Rattle.std.proofs.Common.{Result, Ok, Err}
+use Rattle.std.specs.Prelude.{nat_lt}
 use Rattle.std.proofs.lemmas.List.{append-nil}
 use Rattle.std.proofs.lemmas.Str.{encode_ascii, inside_one}
 use Rattle.std.specs.List.{flat_map}
-use Rattle.plural_documents.specs.PrintedKeys.{byte_escape, is_plain, printed_byte}
+use Rattle.plural_documents.specs.PrintedKeys.{byte_escape, escaped_key, is_plain, printed_byte}
 
 -- a character of more than one byte has no byte of ASCII
 wide_bytes : (c k : ℕ) → 128 ≤ c → k < length (encode_utf8 c) → 128 ≤ get_or (encode_utf8 c) k 0
@@ -48,12 +47,10 @@ escape_printed c other = one_printed c (low_of c other) ∙ rw other refl
 -- ---- Character after character
 
 -- one character more is printed
-pub next_char : (c : ℕ) (now next old rest whole : List ℕ) → old ≡ encode_utf8 c ++ rest
-    → next ≡ now ++ flat_map printed_byte (encode_utf8 c) → now ++ flat_map printed_byte old ≡ whole
-    → next ++ flat_map printed_byte rest ≡ whole
-next_char c now next old rest whole step wrote so_far =
-    ap (λ l. l ++ flat_map printed_byte rest) wrote
-    ∙ append_assoc now (flat_map printed_byte (encode_utf8 c)) (flat_map printed_byte rest)
+pub next_char : (c : ℕ) (now old rest whole : List ℕ) → old ≡ encode_utf8 c ++ rest → now ++ flat_map printed_byte old ≡ whole
+    → (now ++ flat_map printed_byte (encode_utf8 c)) ++ flat_map printed_byte rest ≡ whole
+next_char c now old rest whole step so_far =
+    append_assoc now (flat_map printed_byte (encode_utf8 c)) (flat_map printed_byte rest)
     ∙ ap (λ l. now ++ l) (sym (flat_map-append printed_byte (encode_utf8 c) rest))
     ∙ ap (λ l. now ++ flat_map printed_byte l) (sym step)
     ∙ so_far
@@ -63,14 +60,29 @@ pub no_more : (rest now whole : List ℕ) → length rest ≡ 0 → now ++ flat_
 no_more [] now whole none so_far = sym (append-nil now) ∙ so_far
 no_more (b ∷ bs) now whole none so_far = absurd (omega arith)
 
--- ---- What was appended
+-- ---- Without escapes
 
-pub on_ok : {A E P Q : Type 0} (r : Result A E) → (P → Q) → OnOk r P → OnOk r Q
-on_ok (Ok x) f h = f h
-on_ok (Err e) f h = tt
+-- a byte prints at least one
+some_printed : (byte : ℕ) → 1 ≤ length (printed_byte byte)
+some_printed byte = by (is_plain byte) refl
+  where
+    by : (plain : Bool) → is_plain byte ≡ plain → 1 ≤ length (printed_byte byte)
+    by true plain = rw plain (omega arith)
+    by false other = rw other (omega arith)
 
--- a text that is changed only by an `Ok`
-pub if_ok : {A E : Type 0} (r : Result A E) (new changed kept : List ℕ) → new ≡ (if is_ok r then changed else kept)
-    → OnOk r (new ≡ changed)
-if_ok (Ok x) new changed kept e = e
-if_ok (Err e) new changed kept h = tt
+-- a key prints as many bytes at least
+as_many : (key : List ℕ) → length key ≤ length (escaped_key key)
+as_many [] = omega arith
+as_many (b ∷ bs) = grind (arith, common_steps, some_printed b, as_many bs)
+
+-- one that prints no more is printed as it is
+pub as_it_is : (key : List ℕ) → length (escaped_key key) ≡ length key → escaped_key key ≡ key
+as_it_is [] same = refl
+as_it_is (b ∷ bs) same = by (is_plain b) refl (as_it_is bs)
+  where
+    by : (plain : Bool) → is_plain b ≡ plain → (length (escaped_key bs) ≡ length bs → escaped_key bs ≡ bs)
+        → escaped_key (b ∷ bs) ≡ b ∷ bs
+    by true plain rest =
+        let shorter : length (escaped_key bs) ≡ length bs = grind (arith, common_steps, same, plain) in
+        rw plain (ap (λ l. b ∷ l) (rest shorter))
+    by false other rest = absurd (grind (arith, common_steps, same, other, as_many bs))

@@ -28,4 +28,4 @@ pub use lines::{LinePrinter, push_lines};
 pub use members::{Findings, MemberCheck, add_members};
 pub use outline::{Portion, Sieve, json_outline};
 pub use output::{OutputError, write_output};
-pub use printed_key::{key_text, name_text};
+pub use printed_key::{PrintedKey, key_text, name_text, printed_name};
