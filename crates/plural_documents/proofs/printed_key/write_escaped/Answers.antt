@@ -13,8 +13,7 @@ loop-c-init g c =
 
 pub loop-c-preserved : goal.loop-c-preserved
 loop-c-preserved g c =
-    let (now, so_far, wrote) = c.loop-c.invariant in
-    (
+    let (now, so_far, wrote) = c.loop-c.invariant in (
       now ++ flat_map printed_byte (encode_utf8 c.in-Some.c),
       next_char c.in-Some.c now _ _ _ c.in-Some.ensures.steps.0 so_far,
       λ plain. let before = wrote plain in has_written_append _ _ _ _ _ _ before (c.in_ok-write_char.ensures before.plain refl),
