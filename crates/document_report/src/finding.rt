@@ -1,12 +1,12 @@
 //! What is found in a document.
 
-ghost use Rattle.std.specs.Prelude.{◌≡◌, ◌++◌, codes, IfOk, string_bytes};
-ghost use Rattle.document_report.specs.DocumentCauses.{cause_text};
+ghost use Rattle.std.specs.Prelude.{◌≡◌, IfOk, Some, string_bytes};
 ghost use Rattle.document_report.specs.DocumentFindings.{finding_line, finding_view};
 
 use crate::cause::Cause;
 use crate::finding_place::FindingPlace;
 use std::alloc::{AllocError, Global};
+use std::fmt;
 
 /// What is found in a document.
 #[derive(Debug, Drop)]
@@ -23,14 +23,15 @@ impl Finding<'_> {
     pub fn line(&self, alloc: Global) -> Result<String, AllocError>
         ensures { IfOk result (λ line. string_bytes line ≡ finding_line (finding_view self.now)) }
     {
-        let place = self.place.text(alloc)?;
-        line_of(alloc, place.as_str(), &self.cause)
+        self.to_string(alloc)
     }
 }
 
-// The line of a cause, given what is printed for the place.
-fn line_of(alloc: Global, place: &str, cause: &Cause) -> Result<String, AllocError>
-    ensures { IfOk result (λ line. string_bytes line ≡ place.now ++ (codes ": " ++ cause_text cause.now)) }
-{
-    format!(in alloc; "{place}: {cause}")
+/// The line that is printed, without a newline: `cardinal ru few: expected value`.
+impl fmt::Display for Finding<'_> {
+    ghost output = { λ finding. Some (finding_line (finding_view finding)) };
+
+    fn fmt<W: fmt::Write>(&self, f: &mut fmt::Formatter<W>) -> fmt::Result {
+        write!(f, "{}: {}", self.place, self.cause)
+    }
 }

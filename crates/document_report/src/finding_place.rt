@@ -1,15 +1,15 @@
 //! The places in a document where something is wrong.
 
-ghost use Rattle.std.specs.Prelude.{◌≡◌, ◌++◌, codes, IfOk, string_bytes};
+ghost use Rattle.std.specs.Prelude.{◌≡◌, IfOk, Some, string_bytes};
 ghost use Rattle.std.specs.Bool.{OnTrue};
-ghost use Rattle.document_report.specs.DocumentPlaces.{finding_place_text, finding_place_view, locale_place_text, locale_place_view, named};
-ghost use Rattle.plural_documents.specs.PrintedKeys.{name_text};
+ghost use Rattle.document_report.specs.DocumentPlaces.{finding_place_text, finding_place_view, locale_place_text, locale_place_view};
 
 use crate::languages::name_of;
 use icu_plurals::PluralCategory;
-use plural_documents::{PrintedPlace, name_text};
+use plural_documents::{PrintedPlace, printed_name};
 use plural_fallback::Part;
 use std::alloc::{AllocError, Global};
+use std::fmt;
 
 /// A locale, in a part.
 #[derive(Clone, Copy, Debug)]
@@ -44,15 +44,33 @@ impl FindingPlace<'_> {
     pub fn text(&self, alloc: Global) -> Result<String, AllocError>
         ensures { IfOk result (λ text. string_bytes text ≡ finding_place_text (finding_place_view self.now)) }
     {
+        self.to_string(alloc)
+    }
+}
+
+/// What is printed for the place: `cardinal ru few`.
+impl fmt::Display for FindingPlace<'_> {
+    ghost output = { λ place. Some (finding_place_text (finding_place_view place)) };
+
+    fn fmt<W: fmt::Write>(&self, f: &mut fmt::Formatter<W>) -> fmt::Result {
         match *self {
-            FindingPlace::Document => String::from_str(alloc, "document"),
-            FindingPlace::Part(key) => name_text(alloc, key),
-            FindingPlace::Parents => String::from_str(alloc, "parents"),
-            FindingPlace::Parent(locale) => parent_text(alloc, locale),
-            FindingPlace::Locale(locale) => locale_text(alloc, locale),
-            FindingPlace::Text(locale, category) => named_in(alloc, locale, name_of(category)),
-            FindingPlace::Key(locale, key) => key_text(alloc, locale, key),
+            FindingPlace::Document => f.write_str("document"),
+            FindingPlace::Part(key) => write!(f, "{}", printed_name(key)),
+            FindingPlace::Parents => f.write_str("parents"),
+            FindingPlace::Parent(locale) => write!(f, "parents {}", printed_name(locale)),
+            FindingPlace::Locale(locale) => write!(f, "{locale}"),
+            FindingPlace::Text(locale, category) => write!(f, "{locale} {}", name_of(category)),
+            FindingPlace::Key(locale, key) => write!(f, "{locale} {}", printed_name(key)),
         }
+    }
+}
+
+/// The part and the locale: `cardinal ru`.
+impl fmt::Display for LocalePlace<'_> {
+    ghost output = { λ place. Some (locale_place_text (locale_place_view place)) };
+
+    fn fmt<W: fmt::Write>(&self, f: &mut fmt::Formatter<W>) -> fmt::Result {
+        write!(f, "{} {}", self.part.as_str(), printed_name(self.locale))
     }
 }
 
@@ -81,47 +99,4 @@ fn is_same_locale(first: LocalePlace<'_>, second: LocalePlace<'_>) -> bool
     ensures { OnTrue result (locale_place_view first.entry ≡ locale_place_view second.entry) }
 {
     first.part == second.part && first.locale == second.locale
-}
-
-// What is printed for the parent of a locale.
-fn parent_text(alloc: Global, locale: &str) -> Result<String, AllocError>
-    ensures { IfOk result (λ text. string_bytes text ≡ named (codes "parents") (name_text locale.now)) }
-{
-    let name = name_text(alloc, locale)?;
-    named(alloc, "parents", name.as_str())
-}
-
-// What is printed for a locale.
-fn locale_text(alloc: Global, locale: LocalePlace<'_>) -> Result<String, AllocError>
-    ensures { IfOk result (λ text. string_bytes text ≡ locale_place_text (locale_place_view locale.entry)) }
-{
-    let name = name_text(alloc, locale.locale)?;
-    named(alloc, locale.part.as_str(), name.as_str())
-}
-
-// What is printed for what has a name in a locale.
-fn named_in(alloc: Global, locale: LocalePlace<'_>, name: &str) -> Result<String, AllocError>
-    ensures { IfOk result (λ text. string_bytes text ≡ named (locale_place_text (locale_place_view locale.entry)) name.now) }
-{
-    let place = locale_text(alloc, locale)?;
-    named(alloc, place.as_str(), name)
-}
-
-// What is printed for a key of a locale.
-fn key_text(alloc: Global, locale: LocalePlace<'_>, key: &str) -> Result<String, AllocError>
-    ensures { IfOk result (λ text. string_bytes text ≡ named (locale_place_text (locale_place_view locale.entry)) (name_text key.now)) }
-{
-    let name = name_text(alloc, key)?;
-    named_in(alloc, locale, name.as_str())
-}
-
-// What is printed for what has a name at a place.
-fn named(alloc: Global, place: &str, name: &str) -> Result<String, AllocError>
-    ensures { IfOk result (λ text. string_bytes text ≡ named place.now name.now) }
-{
-    let mut text = String::with_capacity(alloc, place.len() + 1 + name.len())?;
-    text.push_str(place)?;
-    text.push_str(" ")?;
-    text.push_str(name)?;
-    Ok(text)
 }
