@@ -72,7 +72,8 @@ module _ (next : List ℕ → Option (List ℕ)) (locale : List ℕ) (k : ℕ) (
   around zero n within = was_there next locale n k (omega arith) (ap is_some here)
   around (suc most) n within = by_case (around most) (leb n k) refl
     where
-      by_case : ((m : ℕ) → m ≤ most → is_some (locale_at next locale m) ≡ true) → (b : Bool) → leb n k ≡ b → is_some (locale_at next locale n) ≡ true
+      by_case : ((m : ℕ) → m ≤ most → is_some (locale_at next locale m) ≡ true) → (b : Bool) → leb n k ≡ b
+          → is_some (locale_at next locale n) ≡ true
       by_case before true e = was_there next locale n k (omega (arith, leb-true)) (ap is_some here)
       by_case before false e =
           let less : n - k ≤ most = omega (arith, leb-false) in

@@ -129,7 +129,8 @@ of_input text_of left cause.Read h = let i = some_input left in (i.0, i.1, tt)
 of_input text_of left cause.TooLong h = (
   h.0,
   h.1,
-  subst (λ (value : Result Data CheckError). AnswersDocument text_of value (Err TooLong)) (sym (beyond TooLong document_of_bytes h.0 h.2)) refl,
+  subst (λ (value : Result Data CheckError). AnswersDocument text_of value (Err TooLong))
+      (sym (beyond TooLong document_of_bytes h.0 h.2)) refl,
 )
 of_input text_of left cause.Memory h = let i = some_input left in (i.0, i.1, tt)
 

@@ -293,7 +293,8 @@ record IsEntry (key : List ℕ) (value : Data) : Type 0 where
   pub category : RawPluralCategory
   pub value_is : category_meant value ≡ Ok category
 
-entry_means : (texts : SixTexts) (place : LocalePlace) (key : List ℕ) (value : Data) (all : Found) → IsFoundInEntry texts place key value all
+entry_means : (texts : SixTexts) (place : LocalePlace) (key : List ℕ) (value : Data) (all : Found)
+    → IsFoundInEntry texts place key value all
     → all.faults ≡ 0
     → IsEntry key value
 entry_means texts place key value all (Some fault, has, is) none = absurd (let e = ap (λ (f : Found). f.faults) is in cc)
@@ -328,7 +329,8 @@ ranges_mean document locale value all (entries, is, whole) none formed =
     let key = (found_of_key place).faults in
     let of_rules = (found_of_rules place rules).faults in
     let later : of_rules + entries.faults ≡ 0 = no_second key (of_rules + entries.faults) sum in
-    let each = each_faultless (IsFoundInEntry (texts_at rules) place) (members_or_none (table_in value)) entries is (no_second of_rules entries.faults later) in (
+    let each = each_faultless (IsFoundInEntry (texts_at rules) place) (members_or_none (table_in value)) entries is
+    (no_second of_rules entries.faults later) in (
       table_means (table_in value) formed (each_of (texts_at rules) place (members_or_none (table_in value)) each),
       rules_there place rules (no_first of_rules entries.faults later),
     )
@@ -473,7 +475,8 @@ maps_of value formed cardinal ordinal ranges =
 -- the document, part by part
 of_parts : TextsGiveOneAnswer → (value : Data) (all : Found) → IsFormed value → IsFoundInDocument value all → all.faults ≡ 0
     → (maps : Document) × (document_of_json value ≡ Ok maps) × HasAll value maps
-of_parts one value all formed (keys, cardinal, ordinal, ranges, parents, in_keys, in_cardinal, in_ordinal, in_ranges, in_parents, whole) none =
+of_parts one value all formed
+    (keys, cardinal, ordinal, ranges, parents, in_keys, in_cardinal, in_ordinal, in_ranges, in_parents, whole) none =
     let sum = sym (ap (λ (f : Found). f.faults) whole) ∙ none in
     let after_keys = no_second keys.faults (cardinal.faults + (ordinal.faults + (ranges.faults + parents.faults))) sum in
     let after_cardinal = no_second cardinal.faults (ordinal.faults + (ranges.faults + parents.faults)) after_keys in

@@ -264,7 +264,8 @@ module _ (locale : List ℕ) (row : Seen) (at rest_same rest_exact all_same all_
       → Holds locale (option_or same (Some row)) (exact_after exact is_exact) rest_same rest_exact all_same all_exact
   alike is_exact None exact named there h =
       let none : exact_after exact is_exact ≡ None =
-      ap (λ (o : Option Seen). if is_some o then option_or exact (if is_exact then Some row else None) else exact) there ∙ h.none refl in record {
+      ap (λ (o : Option Seen). if is_some o then option_or exact (if is_exact then Some row else None) else exact) there
+      ∙ h.none refl in record {
         same_is = h.same_is;
         exact_is =
             ap (λ (o : Option Seen). option_or (exact_of locale (Some row) o) rest_exact) none
@@ -311,7 +312,8 @@ parent_is locale None exact all_same all_exact h = rw (sym h.same_is, sym h.exac
 parent_is locale (Some row) exact all_same all_exact h =
     by_case (bytes_eq row.0 locale) exact
     ∙ ap (λ (o : Option Seen). option_flatten (option_or (option_map text_of o) (Some row.1))) h.exact_is
-    ∙ ap (λ (o : Option Seen). option_flatten (option_or (option_map text_of all_exact) (option_or (option_map text_of o) (Some None)))) h.same_is
+    ∙ ap (λ (o : Option Seen). option_flatten (option_or (option_map text_of all_exact) (option_or (option_map text_of o) (Some None))))
+    h.same_is
   where
     by_case : (b : Bool) (o : Option Seen) → (if b then row.1 else exact_parent row.1 o)
         ≡ option_flatten (option_or (option_map text_of (option_or (if b then Some row else o) None)) (Some row.1))
@@ -364,7 +366,8 @@ seen name parent = (name, parent)
 -- the same by the name and the text that were put
 pub rows_put : (members : Members) (key : List ℕ) (value : Data) (left : Members) (locale name : List ℕ) (text : Option (List ℕ))
     (same exact new_same new_exact : List ℕ → Option Seen) → name ≡ key → text ≡ as_str value
-    → ((other : List ℕ) → new_same other ≡ option_or (same other) (if bytes_eq other (map folded name) then Some (seen name text) else None))
+    → ((other : List ℕ) → new_same other
+    ≡ option_or (same other) (if bytes_eq other (map folded name) then Some (seen name text) else None))
     → ((other : List ℕ) → new_exact other
     ≡ (if is_some (same (map folded name)) then option_or (exact other) (if bytes_eq other name then Some (seen name text) else None)
     else exact other))
@@ -376,9 +379,11 @@ rows_put members key value left locale name text same exact new_same new_exact n
     ∙ ap (λ (t : Option (List ℕ)). option_or (same other) (if bytes_eq other (map folded key) then Some (seen key t) else None)) told)
     (λ other. also other
     ∙ ap (λ (k : List ℕ).
-    if is_some (same (map folded k)) then option_or (exact other) (if bytes_eq other k then Some (seen k text) else None) else exact other) named
+    if is_some (same (map folded k)) then option_or (exact other) (if bytes_eq other k then Some (seen k text) else None)
+    else exact other) named
     ∙ ap (λ (t : Option (List ℕ)).
-    if is_some (same (map folded key)) then option_or (exact other) (if bytes_eq other key then Some (seen key t) else None) else exact other) told)
+    if is_some (same (map folded key)) then option_or (exact other) (if bytes_eq other key then Some (seen key t) else None)
+    else exact other) told)
 
 -- at first there are no rows
 pub no_rows_yet : (all left : Members) (locale : List ℕ) (same exact : List ℕ → Option Seen) → left ≡ all
@@ -427,7 +432,8 @@ up_to_put most more key row old new up_to wider within is = λ name long.
     ∙ ap (λ (o : Option Seen). option_or o (if bytes_eq name (map folded key) then Some row else None)) before
     ∙ ap (λ (b : Bool). if b then Some row else None) (by_case name long (bytes_eq name (map folded key)) refl)
   where
-    by_case : (name : List ℕ) → more < length name → (b : Bool) → bytes_eq name (map folded key) ≡ b → bytes_eq name (map folded key) ≡ false
+    by_case : (name : List ℕ) → more < length name → (b : Bool) → bytes_eq name (map folded key) ≡ b
+        → bytes_eq name (map folded key) ≡ false
     by_case name long true e =
         let same : length name ≡ length key = ap length (equal name (map folded key) e) ∙ length-map key folded in
         absurd (let less : length key < length key = omega (arith, same) in omega arith)

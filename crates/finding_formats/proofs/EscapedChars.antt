@@ -20,7 +20,8 @@ wide_kept Message byte h = grind (arith, common_steps)
 wide_kept Property byte h = grind (arith, common_steps)
 
 -- such bytes stand for themselves
-wide_written : (slot : Slot) (bytes : List ℕ) → ((k : ℕ) → k < length bytes → 128 ≤ get_or bytes k 0) → flat_map (slot_byte slot) bytes ≡ bytes
+wide_written : (slot : Slot) (bytes : List ℕ) → ((k : ℕ) → k < length bytes → 128 ≤ get_or bytes k 0)
+    → flat_map (slot_byte slot) bytes ≡ bytes
 wide_written slot [] h = refl
 wide_written slot (b ∷ bs) h =
     let head : 128 ≤ b = grind (arith, common_steps, h 0) in

@@ -39,7 +39,8 @@ lines_tell (d ∷ ds) [] h k same = absurd (no_end (compact_text d) (flat_map js
 lines_tell (d ∷ ds) (e ∷ es) h k same =
     let good : IsLineValue d = All-head IsLineValue d ds h in
     let fine : IsLineValue e = All-head IsLineValue e es k in
-    let cut = cut_line (compact_text d) (compact_text e) (flat_map json_line ds) (flat_map json_line es) (text_free d good.plain) (text_free e fine.plain)
+    let cut = cut_line (compact_text d) (compact_text e) (flat_map json_line ds) (flat_map json_line es) (text_free d good.plain)
+    (text_free e fine.plain)
     (sym (ended d (flat_map json_line ds)) ∙ same ∙ ended e (flat_map json_line es)) in
     let first : d ≡ e = text_tells d e good fine cut.0 in
     let rest : ds ≡ es = lines_tell ds es (All-tail IsLineValue d ds h) (All-tail IsLineValue e es k) cut.1 in

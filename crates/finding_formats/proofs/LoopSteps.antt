@@ -4,7 +4,8 @@ use Rattle.std.proofs.Math.ListN.{get_or}
 use Rattle.std.proofs.lemmas.List.{drop_more}
 
 -- the first of what is left is the item at the place
-left_at : {X : Type 0} (xs : List X) (place : ℕ) (x : X) → place < length xs → x ≡ get_or xs place x → drop place xs ≡ x ∷ drop (place + 1) xs
+left_at : {X : Type 0} (xs : List X) (place : ℕ) (x : X) → place < length xs → x ≡ get_or xs place x
+    → drop place xs ≡ x ∷ drop (place + 1) xs
 left_at xs place x inside is = drop_more xs place x inside ∙ ap (λ first. first ∷ drop (place + 1) xs) (sym is)
 
 -- what is appended so far, and what the items that are left give

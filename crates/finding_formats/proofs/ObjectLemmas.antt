@@ -58,7 +58,8 @@ form_part (fault.Missing category first (Some second)) h = record { plain = (tt,
 form_part (fault.MissingRare category None None) h = record { plain = (tt, (tt, (tt, (tt, tt)))); shallow = lit≤ tt }
 form_part (fault.MissingRare category None (Some second)) h = record { plain = (tt, (tt, (tt, ((tt, (tt, tt)), tt)))); shallow = lit≤ tt }
 form_part (fault.MissingRare category (Some first) None) h = record { plain = (tt, (tt, (tt, ((tt, tt), tt)))); shallow = lit≤ tt }
-form_part (fault.MissingRare category (Some first) (Some second)) h = record { plain = (tt, (tt, (tt, ((tt, (tt, tt)), tt)))); shallow = lit≤ tt }
+form_part (fault.MissingRare category (Some first) (Some second)) h =
+    record { plain = (tt, (tt, (tt, ((tt, (tt, tt)), tt)))); shallow = lit≤ tt }
 
 branch_part : (f : BranchFault) → BranchFits f → IsPart (cause_data (cause.Branch f))
 branch_part branch.NoCategory h = record { plain = (tt, (tt, tt)); shallow = lit≤ tt }
@@ -68,9 +69,11 @@ branch_part (branch.NoHash category first second) h = record { plain = (tt, (tt,
 branch_part (branch.Missing category first None) h = record { plain = (tt, (tt, ((h.0, tt), (tt, tt)))); shallow = lit≤ tt }
 branch_part (branch.Missing category first (Some second)) h = record { plain = (tt, (tt, ((h.0, (h.1, tt)), (tt, tt)))); shallow = lit≤ tt }
 branch_part (branch.MissingRare category None None) h = record { plain = (tt, (tt, (tt, (tt, tt)))); shallow = lit≤ tt }
-branch_part (branch.MissingRare category None (Some second)) h = record { plain = (tt, (tt, (tt, ((tt, (tt, tt)), tt)))); shallow = lit≤ tt }
+branch_part (branch.MissingRare category None (Some second)) h =
+    record { plain = (tt, (tt, (tt, ((tt, (tt, tt)), tt)))); shallow = lit≤ tt }
 branch_part (branch.MissingRare category (Some first) None) h = record { plain = (tt, (tt, (tt, ((tt, tt), tt)))); shallow = lit≤ tt }
-branch_part (branch.MissingRare category (Some first) (Some second)) h = record { plain = (tt, (tt, (tt, ((tt, (tt, tt)), tt)))); shallow = lit≤ tt }
+branch_part (branch.MissingRare category (Some first) (Some second)) h =
+    record { plain = (tt, (tt, (tt, ((tt, (tt, tt)), tt)))); shallow = lit≤ tt }
 
 pub cause_part : (c : Cause) → CauseFits c → IsPart (cause_data c)
 cause_part cause.NoObject h = record { plain = (tt, tt); shallow = lit≤ tt }
@@ -105,8 +108,10 @@ counts_line_value counts h k l m = record { plain = ((h, (k, (l, (m, tt)))), tt)
 
 found_line_values : (found : Found) → AllHaveTexts found → All IsLineValue (found_data found)
 found_line_values found h =
-    All-append IsLineValue (map finding_data found.findings) (counts_data (counts_found found) ∷ []) (findings_line_values found.findings h.findings)
-    (All-cons IsLineValue (counts_data (counts_found found)) [] (counts_line_value (counts_found found) h.faults h.forms h.messages h.notes) (All-nil IsLineValue))
+    All-append IsLineValue (map finding_data found.findings) (counts_data (counts_found found) ∷ [])
+    (findings_line_values found.findings h.findings)
+    (All-cons IsLineValue (counts_data (counts_found found)) []
+    (counts_line_value (counts_found found) h.faults h.forms h.messages h.notes) (All-nil IsLineValue))
 
 -- ---- The objects tell what is found
 

@@ -330,7 +330,8 @@ form_fault_again (fault.MissingRare category (Some first) None) h =
     ap (λ (c : PluralCategory). cause.Form (fault.MissingRare c (Some (kept_sample (sample_text first))) None)) (category_again category)
     ∙ ap (λ (s : Sample). cause.Form (fault.MissingRare category (Some s) None)) h.0
 form_fault_again (fault.MissingRare category (Some first) (Some second)) h =
-    ap (λ (c : PluralCategory). cause.Form (fault.MissingRare c (Some (kept_sample (sample_text first))) (Some (kept_sample (sample_text second))))) (category_again category)
+    ap (λ (c : PluralCategory). cause.Form
+    (fault.MissingRare c (Some (kept_sample (sample_text first))) (Some (kept_sample (sample_text second))))) (category_again category)
     ∙ ap (λ (s : Sample). cause.Form (fault.MissingRare category (Some s) (Some (kept_sample (sample_text second))))) h.0
     ∙ ap (λ (s : Sample). cause.Form (fault.MissingRare category (Some first) (Some s))) h.1
 
@@ -348,13 +349,15 @@ branch_fault_again (branch.Missing category first (Some second)) h =
 branch_fault_again (branch.MissingRare category None None) h =
     ap (λ (c : PluralCategory). cause.Branch (branch.MissingRare c None None)) (category_again category)
 branch_fault_again (branch.MissingRare category None (Some second)) h =
-    ap (λ (c : PluralCategory). cause.Branch (branch.MissingRare c None (Some (kept_sample (sample_text second))))) (category_again category)
+    ap (λ (c : PluralCategory). cause.Branch (branch.MissingRare c None (Some (kept_sample (sample_text second)))))
+    (category_again category)
     ∙ ap (λ (s : Sample). cause.Branch (branch.MissingRare category None (Some s))) h.1
 branch_fault_again (branch.MissingRare category (Some first) None) h =
     ap (λ (c : PluralCategory). cause.Branch (branch.MissingRare c (Some (kept_sample (sample_text first))) None)) (category_again category)
     ∙ ap (λ (s : Sample). cause.Branch (branch.MissingRare category (Some s) None)) h.0
 branch_fault_again (branch.MissingRare category (Some first) (Some second)) h =
-    ap (λ (c : PluralCategory). cause.Branch (branch.MissingRare c (Some (kept_sample (sample_text first))) (Some (kept_sample (sample_text second))))) (category_again category)
+    ap (λ (c : PluralCategory). cause.Branch
+    (branch.MissingRare c (Some (kept_sample (sample_text first))) (Some (kept_sample (sample_text second))))) (category_again category)
     ∙ ap (λ (s : Sample). cause.Branch (branch.MissingRare category (Some s) (Some (kept_sample (sample_text second))))) h.0
     ∙ ap (λ (s : Sample). cause.Branch (branch.MissingRare category (Some first) (Some s))) h.1
 
@@ -381,7 +384,8 @@ finding_in d = record {
 
 pub finding_again : (f : Finding) → HasTexts f → finding_in (finding_data f) ≡ f
 finding_again f h =
-    ap (λ (place : Place). let found : Finding = record { place = place; cause = cause_in (cause_data f.cause) } in found) (place_again f.place h.place)
+    ap (λ (place : Place). let found : Finding = record { place = place; cause = cause_in (cause_data f.cause) } in found)
+    (place_again f.place h.place)
     ∙ ap (λ (c : Cause). let found : Finding = record { place = f.place; cause = c } in found) (cause_again f.cause h.cause)
 
 -- so the object tells the finding

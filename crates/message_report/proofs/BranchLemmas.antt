@@ -57,7 +57,8 @@ other_part depth ps rest p is low not = rw is (by p.piece refl)
 -- ---- In a loop
 
 -- the findings of the remaining branches complete those that were told
-abbrev pub GoingOn : Language → ArgumentPlace → PluralArgument → ℕ → Found → ℕ → Found → List Selector → List parts.Part → List Finding → Type 0
+abbrev pub GoingOn : Language → ArgumentPlace → PluralArgument → ℕ → Found → ℕ → Found → List Selector → List parts.Part → List Finding
+    → Type 0
 GoingOn language place a first old count now seen left all =
     (before : List Selector) × (seen ≡ take most_compared before)
     × Going first old count now (branch_findings language place a before (branches_of a.depth (parts_view left))) all

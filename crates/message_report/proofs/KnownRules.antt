@@ -13,7 +13,8 @@ use Rattle.plural_fallback.specs.declared.locales.Part.{Part}
 use Rattle.message_report.specs.Inner.KnownLanguages.{GivesKnown}
 use Rattle.message_report.specs.RulesSource.{HasRules, HasText, IsKnown, RulesSource, chain_key, source_of}
 
-module _ (cardinal ordinal : List ℕ → Option FiveRules) (texts : Part → List ℕ → PluralCategory → Option (List ℕ)) (keys : Part → List (List ℕ))
+module _ (cardinal ordinal : List ℕ → Option FiveRules) (texts : Part → List ℕ → PluralCategory → Option (List ℕ))
+    (keys : Part → List (List ℕ))
     (parent : List ℕ → Option (List ℕ)) (locale : List ℕ) where
   abbrev source : RulesSource
   source = source_of cardinal ordinal texts keys parent

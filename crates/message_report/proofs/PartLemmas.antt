@@ -50,23 +50,27 @@ either_second : (a b : Bool) → IsTrue b → IsTrue (a || b)
 either_second true b h = refl
 either_second false b h = h
 
-by_messages : (source : RulesSource) (arguments : Option Data) (type : PluralRuleType) (locale : LocalePlace) (language : Option Language) (members : Members)
+by_messages : (source : RulesSource) (arguments : Option Data) (type : PluralRuleType) (locale : LocalePlace)
+    (language : Option Language) (members : Members)
     (found : Found) → (IsTrue (is_filled (Some members)) → HasLanguage source type locale.locale language)
     → IsFoundInMessagesBy language arguments type locale members found → IsFoundInMessages source arguments type locale members found
 by_messages source arguments type locale language no_members found has by = by
 by_messages source arguments type locale language (member key value left) found has by = (language, has refl, by)
 
-by_object : (source : RulesSource) (arguments : Option Data) (type : PluralRuleType) (locale : LocalePlace) (language : Option Language) (members : Option Members)
+by_object : (source : RulesSource) (arguments : Option Data) (type : PluralRuleType) (locale : LocalePlace)
+    (language : Option Language) (members : Option Members)
     (found : Found) → (IsTrue (is_filled members) → HasLanguage source type locale.locale language)
     → IsFoundInObjectBy language arguments type locale members found → IsFoundInObject source arguments type locale members found
 by_object source arguments type locale language None found has by = by
 by_object source arguments type locale language (Some all) found has by = by_messages source arguments type locale language all found has by
 
-by_part : (source : RulesSource) (arguments : Option Data) (type : PluralRuleType) (locale : LocalePlace) (language : Option Language) (part : Option Data)
+by_part : (source : RulesSource) (arguments : Option Data) (type : PluralRuleType) (locale : LocalePlace) (language : Option Language)
+    (part : Option Data)
     (found : Found) → (IsTrue (has_members_in part) → HasLanguage source type locale.locale language)
     → IsFoundInPartBy language arguments type locale part found → IsFoundInPart source arguments type locale part found
 by_part source arguments type locale language None found has by = by
-by_part source arguments type locale language (Some part) found has by = by_object source arguments type locale language (as_object part) found has by
+by_part source arguments type locale language (Some part) found has by =
+    by_object source arguments type locale language (as_object part) found has by
 
 by_patterns : (source : RulesSource) (locale : LocalePlace) (two : TwoLanguages) (members : Option Members) (found : Found)
     → (IsTrue (is_some members) → HaveLanguages source locale.locale two) → IsFoundInPatternsObjectBy two locale members found

@@ -33,7 +33,8 @@ same_offset None = refl
 same_offset (Some digits) = refl
 
 -- findings that are told are those that are meant
-pub those_told : {E : Type 0} (Are : List Finding → Type 0) (before : ℕ) (old new : Found) (findings : List Finding) (r : Result ℕ E) → Are findings
+pub those_told : {E : Type 0} (Are : List Finding → Type 0) (before : ℕ) (old new : Found) (findings : List Finding) (r : Result ℕ E)
+    → Are findings
     → IfOk r (λ count. Tells before old count new findings) → IfOk r (λ count. TellsThose Are before old count new)
 those_told {E} Are before old new findings (Ok count) are told = (findings, are, told)
 those_told {E} Are before old new findings (Err e) are told = tt
@@ -60,11 +61,13 @@ part_told two place all ps rest p old count now next new is so_far told = (
   λ more h.
       subst (λ (l : List Finding). HasPatternFindings two place all l) (sym (append_assoc so_far.0 told.0 more))
       (so_far.2 (told.0 ++ more)
-      (subst (λ (l : List parts.Part). HasPatternFindings two place (parts_view l) (told.0 ++ more)) (sym is) (told.0, more, told.1, h, refl))),
+      (subst (λ (l : List parts.Part). HasPatternFindings two place (parts_view l) (told.0 ++ more)) (sym is)
+      (told.0, more, told.1, h, refl))),
 )
 
 -- all are told
-pub pattern_told : (two : TwoLanguages) (place : PatternPlace) (all : List Part) (ps : List parts.Part) (old : Found) (count : ℕ) (now : Found)
+pub pattern_told : (two : TwoLanguages) (place : PatternPlace) (all : List Part) (ps : List parts.Part) (old : Found)
+    (count : ℕ) (now : Found)
     → ps ≡ [] → GoingPattern two place all (parts_view ps) old count now → TellsThose (HasPatternFindings two place all) 0 old count now
 pattern_told two place all ps old count now none so_far = (
   so_far.0,

@@ -58,7 +58,8 @@ same_relation : (relation : PackedRelation) (a b : ℕ) → AreAlike a b
     → is_true_at (of_whole a) relation ≡ is_true_at (of_whole b) relation
 same_relation relation a b alike by =
     relation_truth-whole relation.meaning a
-    ∙ ap (under relation.meaning.operator) (same_value relation.meaning.operand relation.meaning.modulus relation.meaning.ranges a b alike by)
+    ∙ ap (under relation.meaning.operator)
+    (same_value relation.meaning.operand relation.meaning.modulus relation.meaning.ranges a b alike by)
     ∙ sym (relation_truth-whole relation.meaning b)
 
 -- ---- Rules
@@ -67,7 +68,8 @@ same_walk : (a b : ℕ) (earlier group : Bool) (relations : List PackedRelation)
     → truth_from (is_true_at (of_whole a)) earlier group relations ≡ truth_from (is_true_at (of_whole b)) earlier group relations
 same_walk a b earlier group [] alike by = refl
 same_walk a b earlier group (relation ∷ relations) alike by =
-    ap (λ (t : Bool). truth_from (is_true_at (of_whole a)) (earlier_after relation.and_or earlier group) (group_after relation.and_or group t) relations)
+    ap (λ (t : Bool). truth_from (is_true_at (of_whole a)) (earlier_after relation.and_or earlier group)
+    (group_after relation.and_or group t) relations)
     (same_relation relation a b alike by.0)
     ∙ same_walk a b (earlier_after relation.and_or earlier group)
     (group_after relation.and_or group (is_true_at (of_whole b) relation)) relations alike by.1
@@ -77,7 +79,8 @@ same_rule : (rule : Option (List PackedRelation)) (a b : ℕ) → AreAlike a b �
 unfolding packed_truth
 same_rule None a b alike by = refl
 same_rule (Some relations) a b alike by =
-    sym (truth_from-is (is_true_at (of_whole a)) relations) ∙ same_walk a b false true relations alike by ∙ truth_from-is (is_true_at (of_whole b)) relations
+    sym (truth_from-is (is_true_at (of_whole a)) relations) ∙ same_walk a b false true relations alike by
+    ∙ truth_from-is (is_true_at (of_whole b)) relations
 
 pub same_category : (rules : FiveRules) (a b : ℕ) → AreAlike a b → ArePeriodic rules
     → first_category (packed_truth (of_whole a)) rules ≡ first_category (packed_truth (of_whole b)) rules

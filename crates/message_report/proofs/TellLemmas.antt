@@ -127,7 +127,8 @@ counted_is before (f ∷ fs) = by (nat_lt before most_told) refl (λ (n : ℕ). 
         let low : before < most_told = ltb-true before most_told few in
         let m = most_told - (before + 1) in
         let left : most_told - before ≡ suc (most_told - (before + 1)) = omega arith in
-        let more : before + 1 + (length (take m fs) + count_faults (drop m fs)) ≡ before + (suc (length (take m fs)) + count_faults (drop m fs)) =
+        let more : before + 1 + (length (take m fs) + count_faults (drop m fs))
+        ≡ before + (suc (length (take m fs)) + count_faults (drop m fs)) =
         omega arith in
         rw few (rest (before + 1) ∙ rw left more)
     by false many rest =
@@ -181,7 +182,8 @@ completes before old count now rest all none so_far =
 -- they are the first ones
 pub remembers : (before seen : List Selector) (selector : Selector) → seen ≡ take most_compared before
     → remembered seen selector ≡ take most_compared (before ++ selector ∷ [])
-remembers before seen selector same = ap (λ (l : List Selector). remembered l selector) same ∙ by (nat_lt (length before) most_compared) refl
+remembers before seen selector same =
+    ap (λ (l : List Selector). remembered l selector) same ∙ by (nat_lt (length before) most_compared) refl
   where
     by : (few : Bool) → nat_lt (length before) most_compared ≡ few
         → remembered (take most_compared before) selector ≡ take most_compared (before ++ selector ∷ [])
@@ -200,6 +202,7 @@ remembers before seen selector same = ap (λ (l : List Selector). remembered l s
 
 -- what is told first, and by the call
 pub tells_if_ok : {E : Type 0} (before : ℕ) (old : Found) (middle : ℕ) (now new : Found) (xs ys : List Finding) (r : Result ℕ E)
-    → Tells before old middle now xs → IfOk r (λ count. Tells middle now count new ys) → IfOk r (λ count. Tells before old count new (xs ++ ys))
+    → Tells before old middle now xs → IfOk r (λ count. Tells middle now count new ys)
+    → IfOk r (λ count. Tells before old count new (xs ++ ys))
 tells_if_ok {E} before old middle now new xs ys (Ok count) first then_ = tells_both before old middle now count new xs ys first then_
 tells_if_ok {E} before old middle now new xs ys (Err e) first then_ = tt

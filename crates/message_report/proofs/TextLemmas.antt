@@ -13,17 +13,23 @@ use Rattle.message_report.specs.PatternFaults.{TwoLanguages}
 use Rattle.message_report.specs.declared.cause.Cause.TheVariants.{NoPattern}
 
 -- a pattern
-pub pattern_found : (two : TwoLanguages) (place : PatternPlace) (text bytes : List ℕ) (ps shown : List Part) (old new : Found) → bytes ≡ text
+pub pattern_found : (two : TwoLanguages) (place : PatternPlace) (text bytes : List ℕ) (ps shown : List Part) (old new : Found)
+    → bytes ≡ text
     → ParsesStyledExactly bytes (Ok ps) → shown ≡ unstyled ps → HasGrownBy (IsFoundInArguments two place shown) old new
     → HasGrownBy (IsFoundInText two place text) old new
 pattern_found two place text bytes ps shown old new same answers is added = (
   added.0,
-  inl (ps, subst (λ (b : List ℕ). IsStyledPattern b ps) same answers.only, subst (λ (l : List Part). IsFoundInArguments two place l added.0) is added.1),
+  inl (
+    ps,
+    subst (λ (b : List ℕ). IsStyledPattern b ps) same answers.only,
+    subst (λ (l : List Part). IsFoundInArguments two place l added.0) is added.1,
+  ),
   added.2,
 )
 
 -- none
-pub fault_found : (two : TwoLanguages) (place : PatternPlace) (text bytes : List ℕ) (kind : FaultKind) (byte : ℕ) (old new : Found) → bytes ≡ text
+pub fault_found : (two : TwoLanguages) (place : PatternPlace) (text bytes : List ℕ) (kind : FaultKind) (byte : ℕ) (old new : Found)
+    → bytes ≡ text
     → ParsesStyledExactly bytes (Err (error.Fault kind byte)) → new ≡ together old (fault_at (at_pattern place) (NoPattern kind byte))
     → HasGrownBy (IsFoundInText two place text) old new
 fault_found two place text bytes kind byte old new same answers added = (

@@ -24,7 +24,8 @@ is_some_tests = record { none = refl; only = λ text h. tt; each = λ text h. re
 is_other_tests : IsTestOf (λ text. text ≢ placeholder) is_other
 is_other_tests = record {
   none = refl;
-  only = λ text other same. let no : not true ≡ true = subst (λ (b : Bool). not b ≡ true) ((bytes_eq-Decides text placeholder).1 same) other in cc;
+  only = λ text other same. let no : not true ≡ true =
+      subst (λ (b : Bool). not b ≡ true) ((bytes_eq-Decides text placeholder).1 same) other in cc;
   each = λ text other. apart text other (bytes_eq text placeholder) refl;
 }
   where

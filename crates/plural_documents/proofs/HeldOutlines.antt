@@ -15,7 +15,8 @@ module _ {C : Type 0} (keeps : C → List ℕ → Portion C) (choice : C) (names
     where
       by : (b : Bool) → is_named names key ≡ b
           → outline_members keeps choice (outline_members named names ms) ≡ outline_members keeps choice ms
-          → outline_members keeps choice (with_member key (outline named (if b then kept.Whole else kept.Nothing) value) (outline_members named names ms))
+          → outline_members keeps choice
+          (with_member key (outline named (if b then kept.Whole else kept.Nothing) value) (outline_members named names ms))
           ≡ with_member key (outline keeps (keeps choice key) value) (outline_members keeps choice ms)
       by true is further = ap (with_member key (outline keeps (keeps choice key) value)) further
       by false is further = rw (others key is) further

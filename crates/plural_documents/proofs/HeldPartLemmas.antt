@@ -55,7 +55,8 @@ abbrev pub all_or_none : Bool → List Held → List Held → List Held
 all_or_none true one two = one ++ two
 all_or_none false one two = two
 
-with_all : (is_held : Bool) (t : Held) (one two : List Held) → with_held is_held t (all_or_none is_held one two) ≡ all_or_none is_held (t ∷ one) two
+with_all : (is_held : Bool) (t : Held) (one two : List Held)
+    → with_held is_held t (all_or_none is_held one two) ≡ all_or_none is_held (t ∷ one) two
 with_all true t one two = refl
 with_all false t one two = refl
 

@@ -120,7 +120,8 @@ without_reading origin seen IsAnswer (Err e) h = by_origin (origin e) (IsAnswer 
     by_origin from_answer Is h = h
 
 -- a call that gives an answer of one kind also gives an answer of a wider kind
-pub implied : {A B E : Type 0} (origin : E → Origin) (seen : A → B) (P Q : Result B E → Type 0) → ((answer : Result B E) → P answer → Q answer)
+pub implied : {A B E : Type 0} (origin : E → Origin) (seen : A → B) (P Q : Result B E → Type 0)
+    → ((answer : Result B E) → P answer → Q answer)
     → (r : Result A E) → GivesByReading origin seen P r → GivesByReading origin seen Q r
 implied origin seen P Q f (Ok x) h = f _ h
 implied origin seen P Q f (Err e) h = by_origin (origin e) (P (Err e)) (Q (Err e)) (f (Err e)) h

@@ -11,8 +11,10 @@ sucs n = omega arith
 -- one bit more
 pub opened_more : (count objects : ℕ) (is_object : Bool) (bit : ℕ) → bit ≡ cond is_object 1 0
     → open_of (count + 1) (objects * 2 + bit) ≡ is_object ∷ open_of count objects
-opened_more count objects true bit is = rw (sucs count, is, mod-mul-add objects 2 1 (omega arith), div-mul-add objects 2 1 (omega arith)) refl
-opened_more count objects false bit is = rw (sucs count, is, mod-mul-add objects 2 0 (omega arith), div-mul-add objects 2 0 (omega arith)) refl
+opened_more count objects true bit is =
+    rw (sucs count, is, mod-mul-add objects 2 1 (omega arith), div-mul-add objects 2 1 (omega arith)) refl
+opened_more count objects false bit is =
+    rw (sucs count, is, mod-mul-add objects 2 0 (omega arith), div-mul-add objects 2 0 (omega arith)) refl
 
 pow-suc : (n : ℕ) → 2 ^ suc n ≡ 2 ^ n * 2
 pow-suc n = omega (arith)

@@ -18,7 +18,8 @@ module _ {F : Type 0} (nothing : F) (together : F → F → F) where
     -- and after each member
     pub goes_on : ((a b c : F) → together (together a b) c ≡ together a (together b c))
         → (key : List ℕ) (value : Data) (left : Members) (now next : F)
-        → Completes Is (member key value left) all now first → HasGrownBy together (Is key value) now next → Completes Is left all next first
+        → Completes Is (member key value left) all now first → HasGrownBy together (Is key value) now next
+        → Completes Is left all next first
     goes_on joins key value left now next so_far added rest h =
         let whole = so_far (together added.0 rest) (added.0, rest, added.1, h, refl) in (
           whole.0,

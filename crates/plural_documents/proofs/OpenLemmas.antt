@@ -228,7 +228,8 @@ no_members_left no_members after is = absurd (cc)
 no_members_left (member k j ms) after is = absurd (cc)
 
 -- a place that is due, or where something is open, isn't the end
-pub not_end : (most : ℕ) (rest : List Token) (is_due : Bool) (opened : List Bool) → (is_due ≡ false → opened ≡ [] → ⊥) → Comes most rest is_due opened [] → ⊥
+pub not_end : (most : ℕ) (rest : List Token) (is_due : Bool) (opened : List Bool) → (is_due ≡ false → opened ≡ [] → ⊥)
+    → Comes most rest is_due opened [] → ⊥
 not_end most rest true opened other comes = no_value comes.0 comes.1 comes.2
 not_end most rest false [] other comes = other refl refl
 not_end most rest false (true ∷ opened) other comes = no_members_left comes.0 comes.1 comes.2

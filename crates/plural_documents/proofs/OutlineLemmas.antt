@@ -49,7 +49,8 @@ abbrev put_in : List ℕ → Data → List ℕ → Data → Members → Ordering
 put_in key value next old ms o =
     match_ordering o (member key value (member next old ms)) (member next value ms) (member next old (put key value ms))
 
-before_put : (first key : List ℕ) (value : Data) (ms : Members) → order first key ≡ Less → IsBefore first ms → IsBefore first (put key value ms)
+before_put : (first key : List ℕ) (value : Data) (ms : Members) → order first key ≡ Less → IsBefore first ms
+    → IsBefore first (put key value ms)
 before_put first key value no_members less before = (less, tt)
 before_put first key value (member next old ms) less before =
     by (order key next) (before_put first key value ms less before.1)
@@ -109,7 +110,8 @@ module _ (C : Type 0) (keeps : C → List ℕ → Portion C) where
 
   -- in place of what was kept of the key before
   replaced : (key : List ℕ) (kept : Portion C) (value old : Data) (ms : Members)
-      → with_member key (outline keeps kept value) ms ≡ put_portion key (outline keeps kept value) (with_member key (outline keeps kept old) ms)
+      → with_member key (outline keeps kept value) ms
+      ≡ put_portion key (outline keeps kept value) (with_member key (outline keeps kept old) ms)
   replaced key kept.Whole value old ms = rw (itself key) refl
   replaced key kept.Nothing value old ms = refl
   replaced key (kept.Members choice) value old ms =
@@ -154,7 +156,8 @@ module _ (C : Type 0) (keeps : C → List ℕ → Portion C) where
             rw (same_key key next is) (replaced next (keeps choice next) value old (outline_members keeps choice ms))
         by Greater is further =
             ap (with_member next (outline keeps (keeps choice next) old)) further
-            ∙ passed key next (outline keeps (keeps choice key) value) (outline keeps (keeps choice next) old) (outline_members keeps choice ms) is
+            ∙ passed key next (outline keeps (keeps choice key) value) (outline keeps (keeps choice next) old)
+            (outline_members keeps choice ms) is
 
     -- ---- What is found
 
@@ -171,7 +174,8 @@ module _ (C : Type 0) (keeps : C → List ℕ → Portion C) where
         by Less is further =
             found_after key next (outline keeps (keeps choice next) value) (outline_members keeps choice ms) Less refl is ∙ further
         by Equal is further =
-            rw (← same_key key next is) (found_at key (keeps choice key) value (outline_members keeps choice ms) (get_member key ms) further)
+            rw (← same_key key next is)
+            (found_at key (keeps choice key) value (outline_members keeps choice ms) (get_member key ms) further)
         by Greater is further =
             found_after key next (outline keeps (keeps choice next) value) (outline_members keeps choice ms) Greater refl is ∙ further
 

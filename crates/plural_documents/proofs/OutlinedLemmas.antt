@@ -122,7 +122,8 @@ module _ {S : Type 0} (keeps : S → List ℕ → Portion S) (sieve : Option S) 
 
   -- ---- Arrays and objects
 
-  pub array_outlined : (ts new : List Held) (found : Items) → AreItems ts found new → IsOutlined keeps sieve (Held.begin_array ∷ ts) (array found) new
+  pub array_outlined : (ts new : List Held) (found : Items) → AreItems ts found new
+      → IsOutlined keeps sieve (Held.begin_array ∷ ts) (array found) new
   array_outlined ts new found are json.null rest whole is read = absurd (cc)
   array_outlined ts new found are (json.boolean t) rest whole is read = absurd (cc)
   array_outlined ts new found are (json.number n) rest whole is read = absurd (cc)
@@ -154,7 +155,8 @@ module _ {S : Type 0} (keeps : S → List ℕ → Portion S) (sieve : Option S) 
       let kept = outlined value rest whole is read in
       (kept.0, puts ∙ ap (λ o. put_portion key o before) (sym kept.1))
 
-  pub part_passed : (key : List ℕ) (old new : List Held) (before : Members) → IsPassed old new → KeepsPart keeps kept.Nothing key old before before new
+  pub part_passed : (key : List ℕ) (old new : List Held) (before : Members) → IsPassed old new
+      → KeepsPart keeps kept.Nothing key old before before new
   part_passed key old new before passed value rest whole is read = (passed value rest is, refl)
 
 -- ---- What a value stands for

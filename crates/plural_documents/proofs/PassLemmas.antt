@@ -30,7 +30,8 @@ mutual
   members_passed : (n : ℕ) (ms : json.Members) (rest : List Held) → passed (suc n) (held_members ms ++ rest) ≡ passed n rest
   members_passed n json.no_members rest = ap (λ k. passed k rest) (one_less n)
   members_passed n (json.member k j ms) rest =
-      ap (passed (suc n)) (joined (held_tokens j) (held_members ms) rest) ∙ value_passed n j (held_members ms ++ rest) ∙ members_passed n ms rest
+      ap (passed (suc n)) (joined (held_tokens j) (held_members ms) rest) ∙ value_passed n j (held_members ms ++ rest)
+      ∙ members_passed n ms rest
 
 -- what is left after the first token, and what it opens
 abbrev after_first : List Held → List Held
@@ -60,7 +61,8 @@ passed_by_one zero t ts some = absurd (omega arith)
 passed_by_one (suc count) t ts some = refl
 
 -- after one token more
-pub leaves_on : (rest : List Held) (count : ℕ) (t : Held) (ts : List Held) → 0 < count → Leaves rest count (t ∷ ts) → Leaves rest (opened_after count t) ts
+pub leaves_on : (rest : List Held) (count : ℕ) (t : Held) (ts : List Held) → 0 < count → Leaves rest count (t ∷ ts)
+    → Leaves rest (opened_after count t) ts
 leaves_on rest count t ts some (left, is, same) = (left, sym (passed_by_one count t ts some) ∙ is, same)
 
 -- nothing is open

@@ -40,7 +40,8 @@ module _ (most : ℕ) where
   abbrev Same : Type 0 → Type 0 → Type 0
   Same A B = (A → B) × (B → A)
 
-  by : (is_due : Bool) (opened : List Bool) (t : Token) (ts : List Token) → Same (Next is_due opened (t ∷ ts)) (Follows most [] is_due opened t ts)
+  by : (is_due : Bool) (opened : List Bool) (t : Token) (ts : List Token)
+      → Same (Next is_due opened (t ∷ ts)) (Follows most [] is_due opened t ts)
   by is_due opened t ts = (follows most [] is_due opened t ts, leads most [] is_due opened t ts)
 
   -- ---- An object or an array ends
@@ -161,7 +162,8 @@ module _ (most : ℕ) where
   chained : {A B C : Type 0} → Same A B → Same B C → Same A C
   chained one two = (λ a. two.0 (one.0 a), λ c. one.1 (two.1 c))
 
-  pub scalars : (t : Token) (is_due : Bool) (opened : List Bool) (ts : List Token) → is_scalar t ≡ true → may_have_value is_due opened ≡ true
+  pub scalars : (t : Token) (is_due : Bool) (opened : List Bool) (ts : List Token) → is_scalar t ≡ true
+      → may_have_value is_due opened ≡ true
       → Same (Next is_due opened (t ∷ ts)) (Next false opened ts)
   scalars t true opened ts is may = chained (by true opened t ts) (scalar t opened ts is)
   scalars t false [] ts is may = absurd (true≢false (cc))
@@ -180,7 +182,8 @@ module _ (most : ℕ) where
   in_object Token.null opened ts is comes = comes
   in_object Token.bad opened ts is comes = comes
 
-  pub no_scalar : (t : Token) (is_due : Bool) (opened : List Bool) (ts : List Token) → is_scalar t ≡ true → may_have_value is_due opened ≡ false
+  pub no_scalar : (t : Token) (is_due : Bool) (opened : List Bool) (ts : List Token) → is_scalar t ≡ true
+      → may_have_value is_due opened ≡ false
       → Next is_due opened (t ∷ ts) → ⊥
   no_scalar t true opened ts is may comes = absurd (true≢false may)
   no_scalar t false [] ts is may comes = nothing_left t ts comes

@@ -102,7 +102,8 @@ there text test ts ((j, after, is, nests, done), fit, holds) =
     )
 
 -- so the text is that of a value, and this is held of it
-pub text_held : (text : List ℕ) (names : Option (List (List ℕ))) (ts : List Held) → IsUtf8 text → AreHeld (is_held_name names) (tokens text) ts
+pub text_held : (text : List ℕ) (names : Option (List (List ℕ))) (ts : List Held) → IsUtf8 text
+    → AreHeld (is_held_name names) (tokens text) ts
     → ((whole : Data) × (json_of text ≡ Some whole)) × Holds record { bytes = text; names = names } ts
 text_held text names ts utf8 are =
     let found = there text (is_held_name names) ts are in
@@ -139,7 +140,8 @@ some_byte [] some = subst (λ (ts : List Token). 0 < length ts) no_tokens some
 some_byte (byte ∷ bytes) some = omega arith
 
 -- why there are no tokens
-pub fault_given : (names : Option (List (List ℕ))) (bytes : List ℕ) (cause : JsonTextError) → (cause ≡ fault.Json → AreNoTokens (tokens bytes))
+pub fault_given : (names : Option (List (List ℕ))) (bytes : List ℕ) (cause : JsonTextError)
+    → (cause ≡ fault.Json → AreNoTokens (tokens bytes))
     → (cause ≡ fault.Memory → 0 < length (tokens bytes)) → GivesHeldText names bytes (Err cause)
 fault_given names bytes fault.Json none some = value_refused bytes (λ text. not_there bytes (none refl))
 fault_given names bytes fault.Memory none some = some_byte bytes (some refl)
@@ -147,8 +149,10 @@ fault_given names bytes fault.Memory none some = some_byte bytes (some refl)
 -- ---- An outline
 
 -- what is kept of the first tokens is kept of what is held
-pub outline_given : {S : Type 0} (keeps : S → List ℕ → Portion S) (sieve : S) (text : HeldText) (ts new : List Held) (r : Result Value AllocError)
-    → Holds text ts → IfOk r (λ value. IsOutlined keeps (Some sieve) ts (view value) new) → IfOk r (λ value. IsOutlineOf keeps sieve text (view value))
+pub outline_given : {S : Type 0} (keeps : S → List ℕ → Portion S) (sieve : S) (text : HeldText) (ts new : List Held)
+    (r : Result Value AllocError)
+    → Holds text ts → IfOk r (λ value. IsOutlined keeps (Some sieve) ts (view value) new)
+    → IfOk r (λ value. IsOutlineOf keeps sieve text (view value))
 outline_given keeps sieve text ts new (Ok value) (held, is_held, (j, spelled, read)) outlined =
     (held, is_held, (outlined j [] held (spelled ∙ sym (none_left (held_tokens j))) read).1)
 outline_given keeps sieve text ts new (Err error) holds outlined = outlined

@@ -71,9 +71,11 @@ mutual
       let longer = has_token v others in
       let fits = subst (λ (k : ℕ). k ≤ n) (ap length same) room in
       ap (items (value most) n) same
-      ∙ items_more (value most) n (json_tokens v ++ others) others v (some_room (length others) (length (json_tokens v ++ others)) n longer fits)
+      ∙ items_more (value most) n (json_tokens v ++ others) others v
+      (some_room (length others) (length (json_tokens v ++ others)) n longer fits)
       (begins_no_end v others) (value_back v most others deep.0)
-      ∙ ap (parse_map (item v)) (items_back vs most (n - 1) rest deep.1 (room_left (length others) (length (json_tokens v ++ others)) n longer fits))
+      ∙ ap (parse_map (item v))
+      (items_back vs most (n - 1) rest deep.1 (room_left (length others) (length (json_tokens v ++ others)) n longer fits))
 
   members_back : (pairs : Members) (most n : ℕ) (rest : List Token) → members_depth pairs ≤ most → length (members_tokens pairs ++ rest) ≤ n
       → members (value most) n (members_tokens pairs ++ rest) ≡ Some (pairs, rest)
@@ -87,4 +89,5 @@ mutual
       ap (λ ts. members (value most) n (Token.key k ∷ ts)) same
       ∙ members_more (value most) n k (Token.key k ∷ (json_tokens v ++ others)) (json_tokens v ++ others) others v
       (some_left (length (json_tokens v ++ others)) n fits) refl (value_back v most others deep.0)
-      ∙ ap (parse_map (member k v)) (members_back pairs most (n - 1) rest deep.1 (left_over (length others) (length (json_tokens v ++ others)) n longer fits))
+      ∙ ap (parse_map (member k v))
+      (members_back pairs most (n - 1) rest deep.1 (left_over (length others) (length (json_tokens v ++ others)) n longer fits))

@@ -20,7 +20,8 @@ use Rattle.serde_json.specs.declared.number.Number.{Number}
 use Rattle.serde_json.specs.declared.value.Value.{Value}
 use Rattle.serde_json.specs.declared.value.Value.TheVariants as value
 
-pub held_then : {A B : Type 0} (o : Option A) (next : A → Option B) (b : B) → option_and_then next o ≡ Some b → (a : A) × (o ≡ Some a) × (next a ≡ Some b)
+pub held_then : {A B : Type 0} (o : Option A) (next : A → Option B) (b : B) → option_and_then next o ≡ Some b
+    → (a : A) × (o ≡ Some a) × (next a ≡ Some b)
 held_then None next b is = absurd (cc)
 held_then (Some a) next b is = (a, refl, is)
 
@@ -102,7 +103,8 @@ module _ {S : Type 0} (keeps : S → List ℕ → Portion S) where
       → Held.number (Some (number_view n)) ∷ ts ≡ held_items others ++ rest → of_items others ≡ Some more → whole ≡ items_after values more
       → ItemsGoOn (values ++ value.Number n ∷ []) ts rest whole
   number_added values n others ts rest more whole is read so_far =
-      item_added values (value.Number n) others (Held.number (Some (number_view n))) ts rest ts more whole is (number_is_no_end (Some (number_view n)))
+      item_added values (value.Number n) others (Held.number (Some (number_view n))) ts rest ts more whole is
+      (number_is_no_end (Some (number_view n)))
       read so_far (rw (view_number n) (number_outlined keeps None (number_view n) ts))
 
   -- ---- Members

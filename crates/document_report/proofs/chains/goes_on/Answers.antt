@@ -14,5 +14,6 @@ pub returns-clause-known : goal.returns-clause-known
 returns-clause-known c =
     let next = short_next (named_parent c.args.parents.now) in
     let path : All (IsStop next c.args.locale.now) c.as_slice.result.now =
-    All-same (IsStop next c.args.locale.now) c.as_slice.result.now c.walk.new.path.items c.as_slice.ensures.value c.in_ok-steps.ensures.path in
+    All-same (IsStop next c.args.locale.now) c.as_slice.result.now c.walk.new.path.items c.as_slice.ensures.value
+    c.in_ok-steps.ensures.path in
     c.learn_all.ensures next c.args.locale.now c.in_ok-steps.ensures.steps path c.requires

@@ -21,9 +21,11 @@ loop-key-preserved c =
     let all = members_view c.args.members.now.entries in
     let value = view c.in-Some.value.now in (
       c.in_ok-add_member.ensures.known,
-      goes_on nothing_found together Is all c.args.found.now together_assoc (string_bytes c.in-Some.key.now) value (members_view c.next.new.self) c.loop-key.found
+      goes_on nothing_found together Is all c.args.found.now together_assoc (string_bytes c.in-Some.key.now) value
+          (members_view c.next.new.self) c.loop-key.found
           c.add_member.new.found
-          (subst (λ es. Completes nothing_found together Is (members_view es) all c.loop-key.found c.args.found.now) c.in-Some.ensures.steps c.loop-key.invariant.1)
+          (subst (λ es. Completes nothing_found together Is (members_view es) all c.loop-key.found c.args.found.now)
+          c.in-Some.ensures.steps c.loop-key.invariant.1)
           (subst (λ key. HasGrownBy (Is key value) c.loop-key.found c.add_member.new.found) c.as_str.ensures.value
           c.in_ok-add_member.ensures.found),
     )

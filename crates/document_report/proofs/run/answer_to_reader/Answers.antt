@@ -8,7 +8,8 @@ use Rattle.document_report.proofs.run.answer_to_reader.Goals as goal
 
 pub returns-in_err-input-clause-answers : goal.returns-in_err-input-clause-answers
 returns-in_err-input-clause-answers g c =
-    no_input (g.P.ReportPrinter.text_of c.args.printer.now) (g.R.Read.remaining c.args.reader.now) c.in_err-input.field-0.0 c.from_residual.result
+    no_input (g.P.ReportPrinter.text_of c.args.printer.now)
+    (g.R.Read.remaining c.args.reader.now) c.in_err-input.field-0.0 c.from_residual.result
     (handed_on _ (check_input_fault c.in_err-input.field-0.0) (err_from_is_err_and c.from_residual.result c.from_residual.ensures.1))
     c.in_err-input.ensures.input
 
@@ -30,4 +31,5 @@ pub returns-clause-reads : goal.returns-clause-reads
 returns-clause-reads g c =
     to_the_end (AnswersDocument (g.P.ReportPrinter.text_of c.args.printer.now) (document_of_bytes c.as_slice.result.now))
     (g.R.Read.remaining c.args.reader.now) (g.R.Read.remaining c.read_input.new.reader)
-    (answer_not_long (g.P.ReportPrinter.text_of c.args.printer.now) c.as_slice.result.now) c.in_ok-input.ensures.read c.answer_to.result c.answer_to.ensures
+    (answer_not_long (g.P.ReportPrinter.text_of c.args.printer.now) c.as_slice.result.now) c.in_ok-input.ensures.read
+    c.answer_to.result c.answer_to.ensures

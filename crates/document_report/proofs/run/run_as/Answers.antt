@@ -13,7 +13,10 @@ returns-then-has_words-clause-answers g c =
     let input = some_input (g.R.Read.remaining c.args.reader.now) in (
       input.0,
       input.1,
-      (with_words (g.P.ReportPrinter.text_of c.args.printer.now) c.args.has_words input.0 c.if-has_words.true, kept (g.W.Write.contents c.args.writer.now)),
+      (
+        with_words (g.P.ReportPrinter.text_of c.args.printer.now) c.args.has_words input.0 c.if-has_words.true,
+        kept (g.W.Write.contents c.args.writer.now),
+      ),
     )
 
 pub returns-in_err-answer-clause-answers : goal.returns-in_err-answer-clause-answers
@@ -22,11 +25,13 @@ returns-in_err-answer-clause-answers g c =
     let a = c.in_err-answer.ensures.answers in (
       a.0,
       a.1,
-      not_written (AnswersInputAs (g.P.ReportPrinter.text_of c.args.printer.now) c.args.has_words a.0) (g.W.Write.contents c.args.writer.now) e c.from_residual.result
+      not_written (AnswersInputAs (g.P.ReportPrinter.text_of c.args.printer.now) c.args.has_words a.0)
+          (g.W.Write.contents c.args.writer.now) e c.from_residual.result
           (handed_on _ _ (err_from_is_err_and c.from_residual.result c.from_residual.ensures.1))
           (implied check_origin answer_view (AnswersDocument (g.P.ReportPrinter.text_of c.args.printer.now) (value_in a.0))
           (AnswersInputAs (g.P.ReportPrinter.text_of c.args.printer.now) c.args.has_words a.0)
-          (λ answer h. without_words (g.P.ReportPrinter.text_of c.args.printer.now) c.args.has_words a.0 answer c.if-has_words.false h) (Err e) a.2),
+          (λ answer h. without_words (g.P.ReportPrinter.text_of c.args.printer.now) c.args.has_words a.0 answer c.if-has_words.false h)
+          (Err e) a.2),
     )
 
 pub returns-in-Ok-clause-answers : goal.returns-in-Ok-clause-answers
@@ -35,7 +40,12 @@ returns-in-Ok-clause-answers g c =
     let answer = answer_view c.in_ok-answer.answer in (
       a.0,
       a.1,
-      (answer, without_words (g.P.ReportPrinter.text_of c.args.printer.now) c.args.has_words a.0 (Ok answer) c.if-has_words.false a.2, refl, search rules),
+      (
+        answer,
+        without_words (g.P.ReportPrinter.text_of c.args.printer.now) c.args.has_words a.0 (Ok answer) c.if-has_words.false a.2,
+        refl,
+        search rules,
+      ),
     )
 
 pub returns-clause-answers : goal.returns-clause-answers
@@ -44,5 +54,9 @@ returns-clause-answers g c =
     let answer = answer_view c.in_ok-answer.answer in (
       a.0,
       a.1,
-      (answer, without_words (g.P.ReportPrinter.text_of c.args.printer.now) c.args.has_words a.0 (Ok answer) c.if-has_words.false a.2, search rules),
+      (
+        answer,
+        without_words (g.P.ReportPrinter.text_of c.args.printer.now) c.args.has_words a.0 (Ok answer) c.if-has_words.false a.2,
+        search rules,
+      ),
     )

@@ -15,5 +15,6 @@ returns-then-needs_escape c =
 pub returns : goal.returns
 returns c =
     on_ok c.push.result
-    (λ wrote. wrote ∙ ap (λ shown. string_bytes c.args.text.now ++ shown) (sym (kept_written c.args.slot c.args.c (sym c.if-needs_escape.ensures))))
+    (λ wrote. wrote ∙ ap (λ shown. string_bytes c.args.text.now ++ shown)
+    (sym (kept_written c.args.slot c.args.c (sym c.if-needs_escape.ensures))))
     (if_ok c.push.result _ _ _ c.push.ensures.bytes)

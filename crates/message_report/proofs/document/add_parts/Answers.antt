@@ -23,7 +23,8 @@ returns c =
       (
         cardinal.0,
         added.0,
-        subst (λ (l : Option Language). IsFoundInPartBy l (get source_name value) Cardinal locale (get (type_name Cardinal) value) cardinal.0)
+        subst (λ (l : Option Language). IsFoundInPartBy l (get source_name value) Cardinal locale
+            (get (type_name Cardinal) value) cardinal.0)
             c.of.ensures cardinal.1,
         subst (λ (l : Option Language). IsFoundInPartBy l (get source_name value) Ordinal locale (get (type_name Ordinal) value) added.0)
             c.of-2.ensures added.1,

@@ -14,7 +14,8 @@ loop-file-preserved g c =
     let Is = IsFoundInFile (g.S.RulesOfLocales.source c.args.source.now) in
     each_goes_on Is c.args.files.now c.args.found.now c.loop-file.file-index c.file-item.result c.loop-file.found c.add_document.new.found
     c.loop-file-test.true c.loop-file.invariant
-    (subst (λ (file : MessageFile). HasGrownBy (Is file) c.loop-file.found c.add_document.new.found) c.file-item.is c.in_ok-add_document.ensures)
+    (subst (λ (file : MessageFile). HasGrownBy (Is file) c.loop-file.found c.add_document.new.found) c.file-item.is
+    c.in_ok-add_document.ensures)
 
 pub returns : goal.returns
 returns g c =

@@ -25,8 +25,10 @@ loop-key-preserved c =
     let counted = c.in_ok-count.ensures.count ∙ ap (λ (k : List ℕ). count_at count k) c.as_str.ensures.value in
     let step = ap members_view c.in-Some.ensures.steps in (
       next_key (message_place_view c.args.place) count c.in_ok-count.count key value left now c.add_key.new.found _ counted
-          (c.in_ok-count.ensures.found ∙ ap (λ (k : List ℕ). together now (told_at (message_place_view c.args.place) count k)) c.as_str.ensures.value)
-          (ap (λ (ms : Members). together now (told_from (message_place_view c.args.place) count (other_keys ms))) (sym step) ∙ c.loop-key.invariant.0),
+          (c.in_ok-count.ensures.found
+          ∙ ap (λ (k : List ℕ). together now (told_at (message_place_view c.args.place) count k)) c.as_str.ensures.value)
+          (ap (λ (ms : Members). together now (told_from (message_place_view c.args.place) count (other_keys ms))) (sym step)
+          ∙ c.loop-key.invariant.0),
       next_count count key value left c.in_ok-count.count _ counted
           (ap (λ (ms : Members). count + length (other_keys ms)) (sym step) ∙ c.loop-key.invariant.1),
     )

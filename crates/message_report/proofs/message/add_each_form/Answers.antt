@@ -11,17 +11,20 @@ use Rattle.message_report.proofs.message.add_each_form.Goals as goal
 
 pub loop-form-init : goal.loop-form-init
 loop-form-init c =
-    each_begins (IsFoundInForm (language_lent c.args.needs.language) c.args.needs.number (message_place_view c.args.place) (view c.args.message.now)) form_order
+    each_begins (IsFoundInForm (language_lent c.args.needs.language) c.args.needs.number (message_place_view c.args.place)
+    (view c.args.message.now)) form_order
     c.args.found.now
 
 pub loop-form-preserved : goal.loop-form-preserved
 loop-form-preserved c =
-    each_goes_on (IsFoundInForm (language_lent c.args.needs.language) c.args.needs.number (message_place_view c.args.place) (view c.args.message.now)) form_order
+    each_goes_on (IsFoundInForm (language_lent c.args.needs.language) c.args.needs.number (message_place_view c.args.place)
+    (view c.args.message.now)) form_order
     c.args.found.now c.loop-form.form-index ExplicitZero c.loop-form.found c.add_form.new.found c.loop-form-test.true c.loop-form.invariant
     c.in_ok-add_form.ensures
 
 pub returns : goal.returns
 returns c =
-    each_ends (IsFoundInForm (language_lent c.args.needs.language) c.args.needs.number (message_place_view c.args.place) (view c.args.message.now)) form_order
+    each_ends (IsFoundInForm (language_lent c.args.needs.language) c.args.needs.number (message_place_view c.args.place)
+    (view c.args.message.now)) form_order
     (drop c.loop-form.form-index form_order) c.args.found.now c.loop-form.found
     (drop_all c.loop-form.form-index form_order c.loop-form-test.false) c.loop-form.invariant

@@ -10,5 +10,6 @@ use Rattle.message_report.proofs.message.add_each_form.Given as goal
 -- what is found in the remaining forms completes what was found so far
 abbrev pub invariant-loop-form : goal.invariant-loop-form
 invariant-loop-form l =
-    CompletesEach (IsFoundInForm (language_lent l.needs.language) l.needs.number (message_place_view l.place) (view l.message)) (drop l.form-index form_order)
+    CompletesEach (IsFoundInForm (language_lent l.needs.language) l.needs.number (message_place_view l.place) (view l.message))
+    (drop l.form-index form_order)
     form_order l.found l.initial.found

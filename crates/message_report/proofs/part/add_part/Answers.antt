@@ -15,7 +15,8 @@ pub returns-in-None : goal.returns-in-None
 returns-in-None c = (
   nothing_found,
   subst (λ (part : Option Data).
-      IsFoundInPartBy (language_lent c.args.language) (get source_name (view c.args.value.now)) c.args.rule_type (locale_place_view c.args.locale) part nothing_found)
+      IsFoundInPartBy (language_lent c.args.language) (get source_name (view c.args.value.now)) c.args.rule_type
+      (locale_place_view c.args.locale) part nothing_found)
       (c.in-None.ensures ∙ ap (λ (key : List ℕ). get key (view c.args.value.now)) c.type_name.ensures) refl,
   none_added c.args.found.now,
 )

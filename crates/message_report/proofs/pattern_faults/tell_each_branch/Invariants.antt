@@ -12,7 +12,8 @@ abbrev pub invariant-loop-left : goal.invariant-loop-left
 invariant-loop-left l =
     GoingOn (language_view l.language) (argument_place_view l.place) (argument_view l.argument) l.before l.initial.found l.count l.found
     (map selector_view l.seen.items) l.left
-    (branch_findings (language_view l.language) (argument_place_view l.place) (argument_view l.argument) [] (argument_view l.argument).branches)
+    (branch_findings (language_view l.language) (argument_place_view l.place) (argument_view l.argument) []
+    (argument_view l.argument).branches)
 
 abbrev pub decreases-loop-left : goal.decreases-loop-left
 decreases-loop-left l = length l.left

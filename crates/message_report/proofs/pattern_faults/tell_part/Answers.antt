@@ -19,9 +19,16 @@ returns c =
     let findings = argument_findings two place (type_of_kind c.in-Begin.kind) a in
     subst
     (λ (x : pieces.Piece).
-    IfOk c.tell_argument.result (λ count. TellsThose (HasPieceFindings two place depth (piece_view x) ps) c.args.before c.args.found.now count c.tell_argument.new.found))
+    IfOk c.tell_argument.result
+    (λ count. TellsThose (HasPieceFindings two place depth (piece_view x) ps) c.args.before c.args.found.now count
+    c.tell_argument.new.found))
     (sym c.in-Begin.is)
-    (those_told (HasPieceFindings two place depth (Begin c.in-Begin.kind c.in-Begin.name.now (offset_view c.in-Begin.offset)) ps) c.args.before c.args.found.now c.tell_argument.new.found findings
-    c.tell_argument.result
-    (a, subst (λ (o : Bool). IsArgumentAt c.in-Begin.name.now o depth ps a) (c.is_some.ensures ∙ same_offset c.in-Begin.offset) c.in_ok-argument.ensures, refl)
+    (those_told (HasPieceFindings two place depth (Begin c.in-Begin.kind c.in-Begin.name.now (offset_view c.in-Begin.offset)) ps)
+    c.args.before c.args.found.now c.tell_argument.new.found findings
+    c.tell_argument.result (
+      a,
+      subst (λ (o : Bool). IsArgumentAt c.in-Begin.name.now o depth ps a)
+          (c.is_some.ensures ∙ same_offset c.in-Begin.offset) c.in_ok-argument.ensures,
+      refl,
+    )
     (rw c.type_of_kind.ensures at c.tell_argument.ensures))

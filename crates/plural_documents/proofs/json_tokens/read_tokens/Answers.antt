@@ -13,5 +13,6 @@ returns-then-is_end-clause-ok c =
     let none = c.in_default.ensures.value.0 in (
       l.invariant.4 (subst (λ (ts : List Token). IsAfter l.place ts) (sym none) c.if-is_end.ensures),
       l.invariant.1 ∙ ap (list_all fits) none,
-      all_held (is_held_name (given_names c.args.names)) c.args.reader.now l.reader (map held_token l.tokens.items) _ l.is_held none l.invariant.0,
+      all_held (is_held_name (given_names c.args.names)) c.args.reader.now l.reader
+          (map held_token l.tokens.items) _ l.is_held none l.invariant.0,
     )

@@ -11,7 +11,8 @@ use Rattle.plural_documents.proofs.json_tokens.read_tokens.Given as goal
 abbrev pub invariant-loop-token : goal.invariant-loop-token
 invariant-loop-token l =
     (part_held (is_held_name (given_names l.names)) 0 true (map held_of l.initial.reader)
-    ≡ map held_token l.tokens.items ++ part_held (is_held_name (given_names l.names)) (length l.place.«open») l.is_held (map held_of l.reader))
+    ≡ map held_token l.tokens.items ++ part_held (is_held_name (given_names l.names)) (length l.place.«open») l.is_held
+    (map held_of l.reader))
     × (list_all fits l.initial.reader ≡ list_all fits l.reader) × (length l.reader ≤ length l.initial.reader)
     × (Comes most_open [] true [] l.initial.reader → IsAfter l.place l.reader)
     × (IsAfter l.place l.reader → Comes most_open [] true [] l.initial.reader)

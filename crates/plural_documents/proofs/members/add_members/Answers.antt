@@ -16,7 +16,8 @@ loop-key-preserved g c =
     let Is = g.C.MemberCheck.finds c.args.check.now in
     let all = members_view c.args.members.now.entries in
     let value = view c.in-Some.value.now in
-    goes_on nothing together Is all c.args.found.now g.met.F.Findings.joins (string_bytes c.in-Some.key.now) value (members_view c.next.new.self)
+    goes_on nothing together Is all c.args.found.now g.met.F.Findings.joins (string_bytes c.in-Some.key.now) value
+    (members_view c.next.new.self)
     c.loop-key.found c.add.new.found
     (subst (λ es. Completes nothing together Is (members_view es) all c.loop-key.found c.args.found.now) c.in-Some.ensures.steps
     c.loop-key.invariant)

@@ -34,7 +34,8 @@ keep_member-returns-in-Members-clause-keeps g n c =
 pub outlined-returns-in_ok-outlined_members-in-BeginObject-clause-outlined : goal.outlined-returns-in_ok-outlined_members-in-BeginObject-clause-outlined
 outlined-returns-in_ok-outlined_members-in-BeginObject-clause-outlined g n c =
     rw (c.in-BeginObject.is, view-Object _)
-    (object_outlined g.S.Sieve.keeps c.args.sieve c.args.left.now c.outlined_members.new.left _ c.in_ok-outlined_members-in-BeginObject.ensures.members)
+    (object_outlined g.S.Sieve.keeps c.args.sieve c.args.left.now c.outlined_members.new.left _
+    c.in_ok-outlined_members-in-BeginObject.ensures.members)
 
 pub outlined-returns-in_ok-whole_items-in-BeginArray-clause-outlined : goal.outlined-returns-in_ok-whole_items-in-BeginArray-clause-outlined
 outlined-returns-in_ok-whole_items-in-BeginArray-clause-outlined g n c =
@@ -51,18 +52,23 @@ outlined-returns-in-Number-clause-outlined g n c =
     rw (c.in-Number.is, view_number _) (number_outlined g.S.Sieve.keeps c.args.sieve _ c.args.left.now)
 
 pub outlined-returns-in-Bool-clause-outlined : goal.outlined-returns-in-Bool-clause-outlined
-outlined-returns-in-Bool-clause-outlined g n c = rw (c.in-Bool.is, view_bool _) (boolean_outlined g.S.Sieve.keeps c.args.sieve _ c.args.left.now)
+outlined-returns-in-Bool-clause-outlined g n c =
+    rw (c.in-Bool.is, view_bool _) (boolean_outlined g.S.Sieve.keeps c.args.sieve _ c.args.left.now)
 
 pub outlined-returns-in-Null-clause-outlined : goal.outlined-returns-in-Null-clause-outlined
 outlined-returns-in-Null-clause-outlined g n c =
     rw (view_null) (by c.args.first c.in-Null.is)
   where
-    by : (first : HeldToken) → (first ≡ variant.Null) ⊎ (((k : Bor (List ℕ)) × (first ≡ variant.Key k)) ⊎ ((first ≡ variant.EndObject) ⊎ (first ≡ variant.EndArray)))
+    by : (first : HeldToken) → (first ≡ variant.Null)
+        ⊎ (((k : Bor (List ℕ)) × (first ≡ variant.Key k)) ⊎ ((first ≡ variant.EndObject) ⊎ (first ≡ variant.EndArray)))
         → IsOutlined g.S.Sieve.keeps c.args.sieve (held_token first ∷ c.args.left.now) null c.args.left.now
     by first (inl is) = rw (is) (null_outlined g.S.Sieve.keeps c.args.sieve c.args.left.now)
-    by first (inr (inl (k, is))) = rw (is) (none_outlined g.S.Sieve.keeps c.args.sieve (Held.key k.now) null c.args.left.now c.args.left.now refl)
-    by first (inr (inr (inl is))) = rw (is) (none_outlined g.S.Sieve.keeps c.args.sieve Held.end_object null c.args.left.now c.args.left.now refl)
-    by first (inr (inr (inr is))) = rw (is) (none_outlined g.S.Sieve.keeps c.args.sieve Held.end_array null c.args.left.now c.args.left.now refl)
+    by first (inr (inl (k, is))) =
+        rw (is) (none_outlined g.S.Sieve.keeps c.args.sieve (Held.key k.now) null c.args.left.now c.args.left.now refl)
+    by first (inr (inr (inl is))) =
+        rw (is) (none_outlined g.S.Sieve.keeps c.args.sieve Held.end_object null c.args.left.now c.args.left.now refl)
+    by first (inr (inr (inr is))) =
+        rw (is) (none_outlined g.S.Sieve.keeps c.args.sieve Held.end_array null c.args.left.now c.args.left.now refl)
 
 pub outlined_members-loop-first-preserved : goal.outlined_members-loop-first-preserved
 outlined_members-loop-first-preserved g n c = (
@@ -91,7 +97,8 @@ outlined_members-returns-clause-members g n c ms rest whole is read =
 pub put_outlined-returns-clause-puts : goal.put_outlined-returns-clause-puts
 put_outlined-returns-clause-puts g n c =
     on_success c.put_value.result
-    (part_put g.S.Sieve.keeps c.args.sieve c.args.key.now (held_token c.args.first ∷ c.args.left.now) c.outlined.new.left (view c.in_ok-value.value)
+    (part_put g.S.Sieve.keeps c.args.sieve c.args.key.now (held_token c.args.first ∷ c.args.left.now) c.outlined.new.left
+    (view c.in_ok-value.value)
     (members_view c.args.members.now.entries) (members_view c.put_value.new.members.entries) c.in_ok-value.ensures.outlined)
     c.put_value.ensures
 
@@ -124,7 +131,8 @@ whole_items-loop-first-preserved g n c = (
       let now = c.loop-first.invariant.0 items rest whole is read in
       rw (c.in_ok-push-in_default-first.ensures.items)
       (item_added g.S.Sieve.keeps c.loop-first.items.items _ now.0 _ c.next.new.self rest c.outlined.new.left now.1 whole
-      (sym c.in-Some.ensures ∙ now.2) (no_end c.in-Some.first c.in_default-first.not-EndArray) now.3 now.4 c.in_ok-outlined-in_default-first.ensures.outlined)),
+      (sym c.in-Some.ensures ∙ now.2)
+      (no_end c.in-Some.first c.in_default-first.not-EndArray) now.3 now.4 c.in_ok-outlined-in_default-first.ensures.outlined)),
   one_shorter (length c.outlined.new.left) (length c.next.new.self) (length c.loop-first.left) (length c.args.left.now)
       c.in_ok-outlined-in_default-first.ensures.shorter (ap length c.in-Some.ensures) c.loop-first.invariant.1,
 )

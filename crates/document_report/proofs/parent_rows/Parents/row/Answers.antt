@@ -10,5 +10,6 @@ returns-then-locale-self c =
     let rows = c.args.self.now in
     let locale = c.args.locale.now in
     let same : length (map folded locale) ≡ length locale = length-map locale folded in
-    let none : row_at rows.folded (map folded locale) ≡ None = rows.names (map folded locale) (omega (arith, same, c.if-locale-self.true)) in
+    let none : row_at rows.folded (map folded locale) ≡ None =
+    rows.names (map folded locale) (omega (arith, same, c.if-locale-self.true)) in
     ap (λ (row : Option Seen). parent_by (row_text rows.absent) locale row (row_at rows.exact locale)) (sym none)

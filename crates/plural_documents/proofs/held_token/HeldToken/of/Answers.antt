@@ -11,13 +11,15 @@ pub returns-in-String : goal.returns-in-String
 returns-in-String c =
     let token = Token.string c.in-String.text.now in
     rw (c.in-String.is)
-    (held_if_it_comes c.pass_scalar.result c.args.place.now token c.pass_scalar.new.self _ c.held_if-in-String.result (c.pass_scalar.ensures token refl)
+    (held_if_it_comes c.pass_scalar.result c.args.place.now token c.pass_scalar.new.self _ c.held_if-in-String.result
+    (c.pass_scalar.ensures token refl)
     refl refl c.held_if-in-String.ensures)
 
 pub returns-in-Some : goal.returns-in-Some
 returns-in-Some c =
     let token = Token.number c.in-Number.text.now in
-    let is : Some (number_view c.in-Some.number) ≡ number_of c.in-Number.text.now = ap (option_map number_view) (sym c.in-Some.is) ∙ c.json_number.ensures in
+    let is : Some (number_view c.in-Some.number) ≡ number_of c.in-Number.text.now =
+    ap (option_map number_view) (sym c.in-Some.is) ∙ c.json_number.ensures in
     rw (c.in-Number.is)
     (held_if_it_comes c.pass_scalar-in-Some.result c.args.place.now token c.pass_scalar-in-Some.new.self _ c.held_if-in-Some.result
     (c.pass_scalar-in-Some.ensures token refl) (ap is_some (sym is)) (ap Held.number is) c.held_if-in-Some.ensures)

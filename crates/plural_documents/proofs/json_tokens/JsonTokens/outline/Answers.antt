@@ -11,7 +11,8 @@ returns-in-Some g c =
     let first = ap (map held_token) (sym c.as_slice.ensures.value) ∙ sym c.of-left.ensures ∙ c.in-Some.ensures in
     outline_given g.S.Sieve.keeps c.args.sieve c.args.self.now _ c.outlined.new.left c.outlined.result
     (subst (λ (us : List Held). Holds c.args.self.now us) first
-    (subst (λ (text : HeldText). Holds text (map held_token c.self.inside.tokens.items)) c.self.view_is c.self.invariant)) c.outlined.ensures.outlined
+    (subst (λ (text : HeldText). Holds text (map held_token c.self.inside.tokens.items)) c.self.view_is c.self.invariant))
+    c.outlined.ensures.outlined
 
 pub returns-in-None : goal.returns-in-None
 returns-in-None g c =

@@ -20,7 +20,8 @@ returns c =
 
 pub overflow_mul-self : goal.overflow_mul-self
 overflow_mul-self c =
-    Fits-of_lt {w = w128} (alone (c.self.inside.objects * 2) (2 ^ 128) (more_below c.self.inside.objects 0 c.self.inside.count 128 c.self.invariant.1
+    Fits-of_lt {w = w128} (alone (c.self.inside.objects * 2) (2 ^ 128)
+    (more_below c.self.inside.objects 0 c.self.inside.count 128 c.self.invariant.1
     (room c.self.inside.count c.if-self-ge-MOST_OPEN.false) (lit≤ tt)))
 
 pub overflow_add-self-2 : goal.overflow_add-self-2

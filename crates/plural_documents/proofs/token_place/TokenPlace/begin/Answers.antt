@@ -8,8 +8,10 @@ pub returns : goal.returns
 returns c = by c.open.result c.open.new.self c.open.ensures
   where
     by : (opens : Bool) (new : List Bool)
-        → MatchBool opens ((length c.args.self.now.«open» < most_open) × (new ≡ c.args.is_object ∷ c.args.self.now.«open»)) (most_open ≤ length c.args.self.now.«open»)
-        → MatchBool opens (Passes c.args.self.now (beginning c.args.is_object) record { «open» = new; is_due = false }) (IsRefused c.args.self.now (beginning c.args.is_object))
+        → MatchBool opens ((length c.args.self.now.«open» < most_open) × (new ≡ c.args.is_object ∷ c.args.self.now.«open»))
+        (most_open ≤ length c.args.self.now.«open»)
+        → MatchBool opens (Passes c.args.self.now (beginning c.args.is_object) record { «open» = new; is_due = false })
+        (IsRefused c.args.self.now (beginning c.args.is_object))
     by true new is = (
       λ tokens.
           rw (is.1)

@@ -24,7 +24,8 @@ others : (ts : List HeldToken) → take (length ts - 1) (drop 1 ts) ≡ drop 1 t
 others ts = take_all (length ts - 1) (drop 1 ts) (omega (arith, length-drop 1 ts))
 
 -- the first token and the others
-parted : (ts : List HeldToken) (d first : HeldToken) → 1 ≤ length ts → first ≡ get_or ts 0 d → map held_token ts ≡ held_token first ∷ map held_token (drop 1 ts)
+parted : (ts : List HeldToken) (d first : HeldToken) → 1 ≤ length ts → first ≡ get_or ts 0 d
+    → map held_token ts ≡ held_token first ∷ map held_token (drop 1 ts)
 parted [] d first some is = absurd (none some)
   where
     none : 1 ≤ 0 → ⊥
@@ -55,8 +56,10 @@ pub loop-opened-preserved : goal.loop-opened-preserved
 loop-opened-preserved c =
     let ts = c.loop-opened.tokens.now in
     rw (others ts, c.opened_after-opened-in-loop-opened.ensures) (
-      (λ value rest is. leaves_on rest c.loop-opened.opened (held_token c.token-item.result) (map held_token (drop 1 ts)) c.loop-opened-test.true
-          (subst (Leaves rest c.loop-opened.opened) (parted ts _ c.token-item.result c.in-len1-up.len_at_least c.token-item.is) (c.loop-opened.invariant.0 value rest is))),
+      (λ value rest is. leaves_on rest c.loop-opened.opened (held_token c.token-item.result)
+          (map held_token (drop 1 ts)) c.loop-opened-test.true
+          (subst (Leaves rest c.loop-opened.opened) (parted ts _ c.token-item.result c.in-len1-up.len_at_least c.token-item.is)
+          (c.loop-opened.invariant.0 value rest is))),
       one_more_at_most _ c.loop-opened.opened (length (drop 1 ts)) (length c.self.inside.tokens.now)
           (rw (shorter ts c.in-len1-up.len_at_least) c.loop-opened.invariant.1),
       one_shorter (length (drop 1 ts)) (length ts) (length c.self.inside.tokens.now) (shorter ts c.in-len1-up.len_at_least)
@@ -87,4 +90,5 @@ returns-clause-passed c value rest is =
 
 pub returns-clause-shorter : goal.returns-clause-shorter
 returns-clause-shorter c =
-    rw (← c.self.view_is, length-map c.loop-opened.tokens.now held_token, length-map c.self.inside.tokens.now held_token) c.loop-opened.invariant.2
+    rw (← c.self.view_is, length-map c.loop-opened.tokens.now held_token, length-map c.self.inside.tokens.now held_token)
+    c.loop-opened.invariant.2
