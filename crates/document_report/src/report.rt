@@ -116,7 +116,8 @@ fn add_ranges<'a>(
     document: &'a Value,
     found: &mut Found<'a>,
 ) -> Result<(), AllocError>
-    ensures { OnOk result (HasGrownBy (IsFoundInMembers (IsFoundInRanges (view document.now)) (members_at Ranges (view document.now))) found.old found.new) }
+    ensures { OnOk result (HasGrownBy
+        (IsFoundInMembers (IsFoundInRanges (view document.now)) (members_at Ranges (view document.now))) found.old found.new) }
 {
     let members = members_of(document, Part::Ranges);
     add_members_of(alloc, &TableCheck { document }, members, found)

@@ -106,7 +106,8 @@ fn add_parts<'a>(
     value: &'a Value,
     found: &mut Found<'a>,
 ) -> Result<(), AllocError>
-    ensures { OnOk result (HasGrownBy (IsFoundInBothBy (languages_view languages.now) (locale_place_view locale.entry) (view value.now)) found.old found.new) }
+    ensures { OnOk result (HasGrownBy
+        (IsFoundInBothBy (languages_view languages.now) (locale_place_view locale.entry) (view value.now)) found.old found.new) }
 {
     let (cardinal, ordinal) = (PluralRuleType::Cardinal, PluralRuleType::Ordinal);
     add_part(
@@ -127,7 +128,8 @@ fn add_part_keys<'a>(
     members: &'a Map<String, Value>,
     found: &mut Found<'a>,
 ) -> Result<(), AllocError>
-    ensures { OnOk result (HasGrownBy (IsFoundInMembers (IsFoundInLocaleKey (locale_place_view locale.entry)) (members_view members.now.entries)) found.old found.new) }
+    ensures { OnOk result (HasGrownBy
+        (IsFoundInMembers (IsFoundInLocaleKey (locale_place_view locale.entry)) (members_view members.now.entries)) found.old found.new) }
 {
     add_members(alloc, &PartKeyCheck { locale }, members, found)
 }

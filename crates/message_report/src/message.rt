@@ -84,7 +84,8 @@ fn add_forms<'a>(
     message: &'a Value,
     found: &mut Found<'a>,
 ) -> Result<(), AllocError>
-    ensures { OnOk result (HasGrownBy (IsFoundInForms (language_lent needs.entry.language) needs.entry.number (message_place_view place.entry) (view message.now)
+    ensures { OnOk result (HasGrownBy
+        (IsFoundInForms (language_lent needs.entry.language) needs.entry.number (message_place_view place.entry) (view message.now)
         (as_object (view message.now))) found.old found.new) }
 {
     match message.as_object() {
@@ -101,7 +102,8 @@ fn add_all<'a>(
     members: &'a Map<String, Value>,
     found: &mut Found<'a>,
 ) -> Result<(), AllocError>
-    ensures { OnOk result (HasGrownBy (IsFoundInForms (language_lent needs.entry.language) needs.entry.number (message_place_view place.entry) (view message.now)
+    ensures { OnOk result (HasGrownBy
+        (IsFoundInForms (language_lent needs.entry.language) needs.entry.number (message_place_view place.entry) (view message.now)
         (Some (members_view members.now.entries))) found.old found.new) }
 {
     add_each_form(needs, place, message, found)?;
@@ -115,7 +117,8 @@ fn add_each_form<'a>(
     message: &Value,
     found: &mut Found<'a>,
 ) -> Result<(), AllocError>
-    ensures { OnOk result (HasGrownBy (IsFoundInEach (IsFoundInForm (language_lent needs.entry.language) needs.entry.number (message_place_view place.entry)
+    ensures { OnOk result (HasGrownBy
+        (IsFoundInEach (IsFoundInForm (language_lent needs.entry.language) needs.entry.number (message_place_view place.entry)
         (view message.now)) form_order) found.old found.new) }
 {
     let own = OwnForms::of(message);
@@ -135,7 +138,8 @@ fn add_form<'a>(
     found: &mut Found<'a>,
 ) -> Result<(), AllocError>
     requires { own ≡ own_forms (view message.now) }
-    ensures { OnOk result (HasGrownBy (IsFoundInForm (language_lent needs.entry.language) needs.entry.number (message_place_view place.entry) (view message.now) form)
+    ensures { OnOk result (HasGrownBy
+        (IsFoundInForm (language_lent needs.entry.language) needs.entry.number (message_place_view place.entry) (view message.now) form)
         found.old found.new) }
 {
     let value = form.in_message(message);

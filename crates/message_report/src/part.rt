@@ -30,7 +30,8 @@ pub(crate) fn add_part<'a>(
     value: &'a Value,
     found: &mut Found<'a>,
 ) -> Result<(), AllocError>
-    ensures { OnOk result (HasGrownBy (IsFoundInPartBy (language_lent language.entry) (get source_name (view value.now)) rule_type (locale_place_view locale.entry)
+    ensures { OnOk result (HasGrownBy
+        (IsFoundInPartBy (language_lent language.entry) (get source_name (view value.now)) rule_type (locale_place_view locale.entry)
         (get (type_name rule_type) (view value.now))) found.old found.new) }
 {
     match value.get(type_name(rule_type)) {
@@ -58,7 +59,8 @@ fn add_object<'a>(
     part: &'a Value,
     found: &mut Found<'a>,
 ) -> Result<(), AllocError>
-    ensures { OnOk result (HasGrownBy (IsFoundInObjectBy (language_lent language.entry) (value_lent arguments.entry) rule_type (locale_place_view locale.entry)
+    ensures { OnOk result (HasGrownBy
+        (IsFoundInObjectBy (language_lent language.entry) (value_lent arguments.entry) rule_type (locale_place_view locale.entry)
         (as_object (view part.now))) found.old found.new) }
 {
     match part.as_object() {
@@ -79,7 +81,8 @@ fn add_messages<'a>(
     members: &'a Map<String, Value>,
     found: &mut Found<'a>,
 ) -> Result<(), AllocError>
-    ensures { OnOk result (HasGrownBy (IsFoundInMessagesBy (language_lent language.entry) (value_lent arguments.entry) rule_type (locale_place_view locale.entry)
+    ensures { OnOk result (HasGrownBy
+        (IsFoundInMessagesBy (language_lent language.entry) (value_lent arguments.entry) rule_type (locale_place_view locale.entry)
         (members_view members.now.entries)) found.old found.new) }
 {
     if members.is_empty() {
@@ -100,7 +103,8 @@ fn add_under<'a>(
     members: &'a Map<String, Value>,
     found: &mut Found<'a>,
 ) -> Result<(), AllocError>
-    ensures { OnOk result (HasGrownBy (IsFoundUnder (language_lent language.entry) (value_lent arguments.entry) rule_type (locale_place_view locale.entry)
+    ensures { OnOk result (HasGrownBy
+        (IsFoundUnder (language_lent language.entry) (value_lent arguments.entry) rule_type (locale_place_view locale.entry)
         (members_view members.now.entries)) found.old found.new) }
 {
     add_no_rules(language, rule_type, locale, found)?;

@@ -54,7 +54,8 @@ fn add_value<'a>(
     value: &'a Value,
     found: &mut Found<'a>,
 ) -> Result<(), AllocError>
-    ensures { OnOk result (HasGrownBy (IsFoundInTextIf (languages_view languages.now) (pattern_place_view place.entry) (as_str (view value.now))) found.old found.new) }
+    ensures { OnOk result (HasGrownBy
+        (IsFoundInTextIf (languages_view languages.now) (pattern_place_view place.entry) (as_str (view value.now))) found.old found.new) }
 {
     match value.as_str() {
         Some(text) => add_text(alloc, languages, place, text, found),
@@ -103,7 +104,8 @@ fn add_arguments<'a>(
     parts: &[Part<'a>],
     found: &mut Found<'a>,
 ) -> Result<(), AllocError>
-    ensures { OnOk result (HasGrownBy (IsFoundInArguments (languages_view languages.now) (pattern_place_view place.entry) (parts_view parts.now)) found.old found.new) }
+    ensures { OnOk result (HasGrownBy
+        (IsFoundInArguments (languages_view languages.now) (pattern_place_view place.entry) (parts_view parts.now)) found.old found.new) }
 {
     let count = tell_pattern(alloc, languages, place, parts, found)?;
     found.add_rest(Place::Pattern(place), count)

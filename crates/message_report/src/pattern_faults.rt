@@ -48,7 +48,8 @@ pub(crate) fn tell_pattern<'a>(
     parts: &[Part<'a>],
     found: &mut Found<'a>,
 ) -> Result<u64, AllocError>
-    ensures { IfOk result (λ count. TellsThose (HasPatternFindings (languages_view languages.now) (pattern_place_view place.entry) (parts_view parts.now))
+    ensures { IfOk result (λ count. TellsThose
+        (HasPatternFindings (languages_view languages.now) (pattern_place_view place.entry) (parts_view parts.now))
         0 found.old count found.new) }
 {
     let mut count = 0;
