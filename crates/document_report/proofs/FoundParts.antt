@@ -1,7 +1,7 @@
 -- What is found, put together.
 use Rattle.std.proofs.Common.{◌≡◌, ℕ, suc, ◌+◌, ◌<◌, List, length, get_or, drop, refl, ap, ◌∙◌}
 use Rattle.std.proofs.Common.{false, Some, Result, Ok, Err}
-use Rattle.std.specs.Prelude.{OnOk, if◌then◌else◌, is_ok, is_some}
+use Rattle.std.specs.Prelude.{OnOk, is_some}
 use Rattle.std.proofs.Common.{add-one}
 use Rattle.std.proofs.Math.Seq.{drop-cons}
 use Rattle.serde_json.specs.Data.{Data}

@@ -7,7 +7,6 @@ ghost use Rattle.document_report.specs.DocumentReport.{HasEntryFault, HasRangeFa
 ghost use Rattle.document_report.specs.Inner.CheckCalls.{category_numbered};
 ghost use Rattle.serde_json.specs.View.{view};
 
-use crate::languages::name_of;
 use icu_plurals::PluralCategory;
 use icu_plurals::provider::UnvalidatedPluralRange;
 use plural_checker::LanguageTexts;
@@ -35,7 +34,7 @@ impl fmt::Display for EntryFault {
             EntryFault::RangeKey => f.write_str("range key"),
             EntryFault::NoText => f.write_str("no text"),
             EntryFault::RangeValue => f.write_str("range value"),
-            EntryFault::NoRule(category) => write!(f, "{} has no rule", name_of(*category)),
+            EntryFault::NoRule(category) => write!(f, "{category} has no rule"),
         }
     }
 }

@@ -4,7 +4,6 @@ ghost use Rattle.std.specs.Prelude.{◌≡◌, IfOk, Some, string_bytes};
 ghost use Rattle.std.specs.Bool.{OnTrue};
 ghost use Rattle.document_report.specs.DocumentPlaces.{finding_place_text, finding_place_view, locale_place_text, locale_place_view};
 
-use crate::languages::name_of;
 use icu_plurals::PluralCategory;
 use plural_documents::{PrintedPlace, printed_name};
 use plural_fallback::Part;
@@ -59,7 +58,7 @@ impl fmt::Display for FindingPlace<'_> {
             FindingPlace::Parents => f.write_str("parents"),
             FindingPlace::Parent(locale) => write!(f, "parents {}", printed_name(locale)),
             FindingPlace::Locale(locale) => write!(f, "{locale}"),
-            FindingPlace::Text(locale, category) => write!(f, "{locale} {}", name_of(category)),
+            FindingPlace::Text(locale, category) => write!(f, "{locale} {category}"),
             FindingPlace::Key(locale, key) => write!(f, "{locale} {}", printed_name(key)),
         }
     }

@@ -3,7 +3,6 @@
 ghost use Rattle.std.specs.Prelude.{◌≡◌, Some, OnOk, option_map};
 ghost use Rattle.std.specs.Option.{option_copied};
 ghost use Rattle.icu_plurals.specs.RulesJson.{text_under};
-ghost use Rattle.icu_plurals.specs.Categories.{name_of};
 ghost use Rattle.plural_checker.specs.LanguageTexts.{six_texts};
 ghost use Rattle.document_report.specs.DocumentPlaces.{locale_place_view};
 ghost use Rattle.document_report.specs.DocumentReport.{all_texts_in, faults_of, found_of_other, found_told};
@@ -18,7 +17,6 @@ use crate::finding_place::{FindingPlace, LocalePlace};
 use crate::found::Found;
 use crate::keys::{add_categories, add_key};
 use icu_plurals::PluralCategory;
-use icu_plurals::provider::RawPluralCategory;
 use plural_checker::{Fault, LanguageTexts, check_texts};
 use plural_documents::{MOST_TOLD, MemberCheck, sum};
 use plural_fallback::Part;
@@ -94,14 +92,7 @@ pub(crate) fn texts_of(value: &Value) -> LanguageTexts<'_>
 fn text_under(value: &Value, category: PluralCategory) -> Option<&str>
     ensures { option_copied result ≡ text_under category (view value.now) }
 {
-    value.get(name_of(category))?.as_str()
-}
-
-// The name of a category.
-pub(crate) fn name_of(category: PluralCategory) -> &'static str
-    ensures { result.now ≡ name_of category }
-{
-    RawPluralCategory::from(category).as_str()
+    value.get(category.as_str())?.as_str()
 }
 
 // Adds a fault if a language has no value of other.
@@ -122,7 +113,7 @@ fn add_other<'a>(
 fn lacks_other(value: &Value) -> bool
     ensures { result ≡ lacks_other (view value.now) }
 {
-    match value.get(name_of(PluralCategory::Other)) {
+    match value.get(PluralCategory::Other.as_str()) {
         Some(text) => text.is_null(),
         None => true,
     }
@@ -141,7 +132,7 @@ fn add_texts<'a>(
         ≡ together found.old (found_under_all (locale_place_view place.entry) (view value.now) faults.now text_order)) }
 {
     for category in &TEXT_ORDER {
-        let under = value.get(name_of(*category));
+        let under = value.get(category.as_str());
         add_text(place, *category, under, found)?;
         add_faults(alloc, place, *category, faults, found)?;
     }

@@ -10,7 +10,6 @@ ghost use Rattle.message_report.specs.PatternFaults.{IsArgumentAt};
 ghost use Rattle.message_report.specs.PatternBranches.{IsOwn, has_category_branch, has_number, inside_of};
 ghost use Rattle.message_report.specs.PatternBranches.{same_selector, says_number, stands_in};
 
-use crate::form::name_of;
 use fixed_decimal::CompactDecimal;
 use icu_plurals::PluralCategory;
 use message_format::has_branch_of_value;
@@ -125,7 +124,7 @@ pub(crate) fn has_category_branch(
 ) -> bool
     ensures { result ≡ has_category_branch category (branches_of depth (parts_view parts.now)) }
 {
-    has_word(name_of(category).as_bytes(), depth, parts)
+    has_word(category.as_str().as_bytes(), depth, parts)
 }
 
 // Whether it has a branch of a keyword.

@@ -11,7 +11,6 @@ ghost use Rattle.message_report.specs.Inner.ArgumentViews.{branching};
 
 use crate::argument::{Argument, has_category_branch, has_number, stands_in};
 use crate::fault::write_rare;
-use crate::form::name_of;
 use crate::language::Language;
 use crate::rare_samples::TwoSamples;
 use icu_plurals::PluralCategory;
@@ -44,27 +43,15 @@ impl fmt::Display for BranchFault {
         match *self {
             BranchFault::NoCategory => f.write_str("not a category"),
             BranchFault::Twice => f.write_str("stands twice"),
-            BranchFault::Unused(category) => write!(f, "no number is {}", name_of(category)),
+            BranchFault::Unused(category) => write!(f, "no number is {category}"),
             BranchFault::NoHash(category, first, second) => {
-                write!(
-                    f,
-                    "no #, but {} and {} are {}",
-                    first,
-                    second,
-                    name_of(category)
-                )
+                write!(f, "no #, but {first} and {second} are {category}")
             }
             BranchFault::Missing(category, first, Some(second)) => {
-                write!(
-                    f,
-                    "missing, but {} and {} are {}",
-                    first,
-                    second,
-                    name_of(category)
-                )
+                write!(f, "missing, but {first} and {second} are {category}")
             }
             BranchFault::Missing(category, first, None) => {
-                write!(f, "missing, but {} is {}", first, name_of(category))
+                write!(f, "missing, but {first} is {category}")
             }
             BranchFault::MissingRare(category, first, second) => {
                 write_rare(f, category, first, second)

@@ -10,7 +10,7 @@ ghost use Rattle.message_report.specs.Inner.LanguageViews.{language_view};
 ghost use Rattle.message_report.specs.declared.form.Form.TheVariants.{Category};
 ghost use Rattle.serde_json.specs.View.{view};
 
-use crate::form::{Form, OwnForms, name_of};
+use crate::form::{Form, OwnForms};
 use crate::language::Language;
 use crate::rare_samples::TwoSamples;
 use icu_plurals::PluralCategory;
@@ -41,27 +41,15 @@ impl fmt::Display for FormFault {
     fn fmt<W: fmt::Write>(&self, f: &mut fmt::Formatter<W>) -> fmt::Result {
         match *self {
             FormFault::NoText => f.write_str("no text"),
-            FormFault::Unused(category) => write!(f, "no number is {}", name_of(category)),
+            FormFault::Unused(category) => write!(f, "no number is {category}"),
             FormFault::NoNumber(category, first, second) => {
-                write!(
-                    f,
-                    "no {{}}, but {} and {} are {}",
-                    first,
-                    second,
-                    name_of(category)
-                )
+                write!(f, "no {{}}, but {first} and {second} are {category}")
             }
             FormFault::Missing(category, first, Some(second)) => {
-                write!(
-                    f,
-                    "missing, but {} and {} are {}",
-                    first,
-                    second,
-                    name_of(category)
-                )
+                write!(f, "missing, but {first} and {second} are {category}")
             }
             FormFault::Missing(category, first, None) => {
-                write!(f, "missing, but {} is {}", first, name_of(category))
+                write!(f, "missing, but {first} is {category}")
             }
             FormFault::MissingRare(category, first, second) => {
                 write_rare(f, category, first, second)
@@ -83,20 +71,12 @@ pub(crate) fn write_rare<W: fmt::Write>(
         (Some(first), Some(second)) => {
             write!(
                 f,
-                "missing, but {} and {} are {}",
+                "missing, but {} and {} are {category}",
                 first.as_str(),
-                second.as_str(),
-                name_of(category)
+                second.as_str()
             )
         }
-        (Some(first), None) => {
-            write!(
-                f,
-                "missing, but {} is {}",
-                first.as_str(),
-                name_of(category)
-            )
-        }
+        (Some(first), None) => { write!(f, "missing, but {} is {category}", first.as_str()) }
         (None, _) => f.write_str("missing"),
     }
 }

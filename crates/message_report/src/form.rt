@@ -1,13 +1,11 @@
 //! The forms of a message, by their keys.
 
 ghost use Rattle.std.specs.Prelude.{◌≡◌, option_map};
-ghost use Rattle.icu_plurals.specs.Categories.{name_of};
 ghost use Rattle.message_report.specs.MessageForms.{form_name, form_under, has_form, is_form_name};
 ghost use Rattle.message_report.specs.Inner.OwnForms.{own_forms};
 ghost use Rattle.serde_json.specs.View.{view};
 
 use icu_plurals::PluralCategory;
-use icu_plurals::provider::RawPluralCategory;
 use serde_json::Value;
 
 /// A form of a message.
@@ -30,7 +28,7 @@ impl Form {
         match self {
             Form::ExplicitZero => "explicit_zero",
             Form::ExplicitOne => "explicit_one",
-            Form::Category(category) => name_of(category),
+            Form::Category(category) => category.as_str(),
         }
     }
 
@@ -66,13 +64,6 @@ impl OwnForms {
             one: Form::ExplicitOne.is_in(message),
         }
     }
-}
-
-// The name of a category.
-pub(crate) fn name_of(category: PluralCategory) -> &'static str
-    ensures { result.now ≡ name_of category }
-{
-    RawPluralCategory::from(category).as_str()
 }
 
 // Whether a key names a form.

@@ -15,7 +15,6 @@ ghost use Rattle.message_report.specs.PatternFaults.{type_of_kind};
 use crate::argument::{Argument, argument_at};
 use crate::branch_fault::{BranchFault, branch_fault, missing_fault};
 use crate::cause::Cause;
-use crate::form::name_of;
 use crate::found::Found;
 use crate::language::Language;
 use crate::languages::Languages;
@@ -181,7 +180,7 @@ fn tell_missing<'a>(
     let mut left: &[PluralCategory] = &CATEGORY_ORDER;
     while let [category, rest @ ..] = left {
         let fault = missing_fault(language, argument, *category);
-        let keyword = Selector::Keyword(name_of(*category).as_bytes());
+        let keyword = Selector::Keyword(category.as_str().as_bytes());
         count = tell_branch(place, keyword, fault, count, found)?;
         left = rest;
     }

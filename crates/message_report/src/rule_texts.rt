@@ -2,7 +2,6 @@
 
 ghost use Rattle.std.specs.Prelude.{◌≡◌};
 
-use crate::form::name_of;
 use icu_plurals::PluralCategory;
 use plural_fallback::Part;
 use serde_json::Value;
@@ -32,7 +31,7 @@ impl RuleTexts for Value {
     fn rule_text(&self, part: Part, key: &str, category: PluralCategory) -> Option<&str> {
         self.get(part.as_str())?
             .get(key)?
-            .get(name_of(category))?
+            .get(category.as_str())?
             .as_str()
     }
 }

@@ -1,6 +1,6 @@
 -- Not a definition of the subject: the results of private calls, the values of private types, the
 -- start and the end of a range's byte, and what is told of a fault, by how many come before it.
-use Rattle.std.specs.Prelude.{◌≡◌, ℕ, ◌==◌, if◌then◌else◌, Result, Ok, Err, ⊤, string_bytes, List, [], ◌∷◌, nat_lt}
+use Rattle.std.specs.Prelude.{◌≡◌, ℕ, ◌==◌, if◌then◌else◌, Result, string_bytes, List, [], ◌∷◌, nat_lt}
 use Rattle.icu_plurals.specs.declared.PluralCategory.{PluralCategory}
 use Rattle.icu_plurals.specs.declared.PluralCategory.TheVariants.{Zero, One, Two, Few, Many, Other}
 use Rattle.plural_documents.specs.declared.InputError.{InputError}

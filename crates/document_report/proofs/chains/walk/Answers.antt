@@ -1,4 +1,4 @@
-use Rattle.std.proofs.Common.{◌+◌, ◌≡◌, List, ℕ, None, Option, [], ◌∷◌, ◌++◌, ap, sym, ◌∙◌, arith, Some, rules, is_some}
+use Rattle.std.proofs.Common.{◌+◌, ◌≡◌, List, ℕ, None, [], ◌∷◌, ◌++◌, ap, sym, ◌∙◌, arith, Some, rules, is_some}
 use Rattle.std.proofs.lemmas.List.Elements.{All-nil, All-push, All-same}
 use Rattle.std.specs.Prelude.{option_map}
 use Rattle.document_report.specs.Inner.ChainSteps.{IsStop}

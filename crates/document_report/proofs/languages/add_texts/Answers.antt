@@ -19,6 +19,6 @@ loop-category-preserved c =
     c.add_faults.new.found c.loop-category-test.true
     (c.in_ok-add_text.ensures
     ∙ ap (λ (under : Option Data). together now (found_under place category under))
-    (c.get-under.ensures ∙ ap (λ (key : List ℕ). get key value) c.name_of.ensures))
+    (c.get-under.ensures ∙ ap (λ (key : List ℕ). get key value) c.as_str.ensures))
     c.in_ok-add_faults.ensures
     ∙ c.loop-category.invariant

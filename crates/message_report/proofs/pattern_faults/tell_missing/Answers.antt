@@ -29,7 +29,7 @@ loop-left-preserved c =
     (missing_findings language place a cs) (missing_findings language place a category_order)
     (ap (λ (l : List PluralCategory). missing_findings language place a l) (headed cs Zero (length cs) c.in-len1-up.len_at_least refl))
     c.loop-left.invariant
-    (rw (c.missing_fault-fault.ensures, c.as_bytes.ensures.value, c.name_of.ensures) at c.in_ok-count.ensures)
+    (rw (c.missing_fault-fault.ensures, c.as_bytes.ensures.value, c.as_str.ensures) at c.in_ok-count.ensures)
 
 pub returns : goal.returns
 returns c =

@@ -1,4 +1,4 @@
-use Rattle.std.proofs.Common.{◌≡◌, ◌<◌, List, ℕ, None, Option, ap, length, map, sym, arith}
+use Rattle.std.proofs.Common.{◌≡◌, None, Option, ap, length, map, sym, arith}
 use Rattle.std.proofs.lemmas.List.{length-map}
 use Rattle.plural_fallback.specs.LocaleNames.{folded}
 use Rattle.document_report.specs.Inner.ParentRows.{parent_by}

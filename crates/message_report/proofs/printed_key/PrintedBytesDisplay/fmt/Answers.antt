@@ -10,3 +10,11 @@ not_utf8 bytes invalid = by (is_utf8 bytes) refl
     by : (is : Bool) → is_utf8 bytes ≡ is → is_utf8 bytes ≡ false
     by true e = absurd (invalid (IsUtf8-from_is_utf8 bytes e))
     by false e = e
+
+pub returns-in-Ok-clause-writes : goal.returns-in-Ok-clause-writes
+returns-in-Ok-clause-writes g c =
+    rw (is_utf8-from_IsUtf8 c.args.self.now.0.now c.in-Ok.ensures.cases.1)
+    (rw c.in-Ok.ensures.cases.0 at (rw c.printed_name.ensures at c.write.ensures.writes))
+
+pub returns-in-Err-clause-writes : goal.returns-in-Err-clause-writes
+returns-in-Err-clause-writes g c = rw (not_utf8 c.args.self.now.0.now c.in-Err.ensures.cases.0) c.write-in-Err.ensures.writes
