@@ -13,7 +13,8 @@ later_words (b ∷ s) = words_of s
 first_word : (s : List ℕ) → words_of s ≡ run_front Letter s ∷ later_words (behind_run Letter s)
 first_word [] = refl
 first_word (b ∷ s) =
-    elim (is_in Letter b) as (λ (t : Bool). (if t then first_begun_with b (words_of s) else [] ∷ words_of s) ≡ (if t then b ∷ run_front Letter s else []) ∷ later_words (if t then behind_run Letter s else b ∷ s)) [
+    elim (is_in Letter b) as (λ (t : Bool). (if t then first_begun_with b (words_of s) else [] ∷ words_of s)
+    ≡ (if t then b ∷ run_front Letter s else []) ∷ later_words (if t then behind_run Letter s else b ∷ s)) [
       | true ↦ ap (first_begun_with b) (first_word s)
       | false ↦ refl
     ]
@@ -29,9 +30,11 @@ first_or_later s word behind e k =
 
 pub number_here : (s word : List ℕ) → word ≡ run_front Letter s → is_number_word word ≡ true → is_number_name s ≡ true
 number_here s word e h =
-    first_or_later s word (behind_run Letter s) e refl ∙ ap (λ (t : Bool). t || list_any is_number_word (later_words (behind_run Letter s))) h
+    first_or_later s word (behind_run Letter s) e refl
+    ∙ ap (λ (t : Bool). t || list_any is_number_word (later_words (behind_run Letter s))) h
 
-pub no_word_left : (s word behind : List ℕ) → word ≡ run_front Letter s → behind ≡ behind_run Letter s → is_number_word word ≡ false → length behind < 1
+pub no_word_left : (s word behind : List ℕ) → word ≡ run_front Letter s → behind ≡ behind_run Letter s → is_number_word word ≡ false
+    → length behind < 1
     → is_number_name s ≡ false
 no_word_left s word [] e k h none =
     first_or_later s word [] e k ∙ ap (λ (t : Bool). t || list_any is_number_word (later_words [])) h

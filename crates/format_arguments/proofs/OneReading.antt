@@ -14,9 +14,11 @@ abbrev pub Follows : Format → List ℕ → Front → List TextPiece → Bool �
 Follows f s End pieces broken = (pieces ≡ []) × (broken ≡ false)
 Follows f s Broken pieces broken = (pieces ≡ []) × (broken ≡ true)
 Follows f s (Takes says rest) pieces broken =
-    (bytes : List ℕ) × (later : List TextPiece) × (s ≡ bytes ++ rest) × IsCutInto f rest later broken × (pieces ≡ piece_of bytes says ∷ later)
+    (bytes : List ℕ) × (later : List TextPiece) × (s ≡ bytes ++ rest) × IsCutInto f rest later broken
+    × (pieces ≡ piece_of bytes says ∷ later)
 
-follows : (f : Format) {s : List ℕ} {pieces : List TextPiece} {broken : Bool} → IsCutInto f s pieces broken → Follows f s (front f s) pieces broken
+follows : (f : Format) {s : List ℕ} {pieces : List TextPiece} {broken : Bool} → IsCutInto f s pieces broken
+    → Follows f s (front f s) pieces broken
 follows f (ends s e) = subst (λ (x : Front). Follows f s x [] false) (sym e) (refl, refl)
 follows f (breaks s e) = subst (λ (x : Front). Follows f s x [] true) (sym e) (refl, refl)
 follows f (goes s bytes rest says pieces broken is e cut) =
@@ -42,7 +44,8 @@ pub one_reading : HaveOneReading
 one_reading = λ f text a b m n h k.
     let same : (h.pieces ≡ k.pieces) × (h.broken ≡ k.broken) = one_cut f h.cut k.cut in (
       h.told ∙ (ap (arguments_from (first_place f) 0) same.0 ∙ sym k.told),
-      h.at_fault ∙ (ap (λ (t : List TextPiece). fault_behind t h.broken) same.0 ∙ (ap (λ (t : Bool). fault_behind k.pieces t) same.1 ∙ sym k.at_fault)),
+      h.at_fault ∙ (ap (λ (t : List TextPiece). fault_behind t h.broken) same.0
+          ∙ (ap (λ (t : Bool). fault_behind k.pieces t) same.1 ∙ sym k.at_fault)),
     )
 
 -- what is told is all that could be
@@ -55,7 +58,8 @@ pub tells : (f : Format) (text : List ℕ) (result : Result Arguments AllocError
 tells f text result h = record { only = h; told = λ arguments fault k. told_alone f text result arguments fault h k }
 
 -- pieces have no more bytes than the text
-cut_within : (f : Format) {s : List ℕ} {pieces : List TextPiece} {broken : Bool} → IsCutInto f s pieces broken → length (bytes_of pieces) ≤ length s
+cut_within : (f : Format) {s : List ℕ} {pieces : List TextPiece} {broken : Bool} → IsCutInto f s pieces broken
+    → length (bytes_of pieces) ≤ length s
 cut_within f (ends s e) = omega arith
 cut_within f (breaks s e) = omega arith
 cut_within f (goes s bytes rest says pieces broken is e cut) =
@@ -72,7 +76,8 @@ in_order_told : (next at from end : ℕ) (says : Option Directive) (more : List 
 in_order_told next at from end None more le h = earlier h at le
 in_order_told next at from end (Some d) more le h = one_more at end (argument_at next at from d) more (omega arith) le h
 
-in_order : (next at end : ℕ) (pieces : List TextPiece) → at + length (bytes_of pieces) ≤ end → StandInOrder at (arguments_from next at pieces) end
+in_order : (next at end : ℕ) (pieces : List TextPiece) → at + length (bytes_of pieces) ≤ end
+    → StandInOrder at (arguments_from next at pieces) end
 in_order next at end [] le = none_left at end (omega arith)
 in_order next at end (piece ∷ pieces) le =
     let from = at + length piece.bytes in

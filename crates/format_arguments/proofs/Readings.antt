@@ -19,7 +19,8 @@ IsReadBefore f text items next at rest =
     → HasArguments f text (items ++ arguments_from next at pieces) (fault_from at pieces broken)
 
 -- told in other words
-retold : (f : Format) (text : List ℕ) (a b : List FormatArgument) (m n : Option ℕ) → HasArguments f text a m → b ≡ a → n ≡ m → HasArguments f text b n
+retold : (f : Format) (text : List ℕ) (a b : List FormatArgument) (m n : Option ℕ) → HasArguments f text a m → b ≡ a → n ≡ m
+    → HasArguments f text b n
 retold f text a b m n h e k = record { pieces = h.pieces; broken = h.broken; cut = h.cut; told = e ∙ h.told; at_fault = k ∙ h.at_fault }
 
 at_most : (broken : Bool) (m n : ℕ) → m ≡ n → (if broken then Some m else None) ≡ (if broken then Some n else None)
@@ -48,12 +49,15 @@ width_of : (text s rest bytes : List ℕ) → length s ≤ length text → s ≡
 width_of text s rest bytes le e = omega (arith, ap length e, length-append bytes rest)
 
 fault_later : (at after : ℕ) (bytes : List ℕ) (pieces : List TextPiece) (broken : Bool) → at + length bytes ≡ after
-    → (if broken then Some (after + length (bytes_of pieces)) else None) ≡ (if broken then Some (at + length (bytes ++ bytes_of pieces)) else None)
+    → (if broken then Some (after + length (bytes_of pieces)) else None)
+    ≡ (if broken then Some (at + length (bytes ++ bytes_of pieces)) else None)
 fault_later at after bytes pieces broken e =
-    at_most broken (after + length (bytes_of pieces)) (at + length (bytes ++ bytes_of pieces)) (omega (arith, e, length-append bytes (bytes_of pieces)))
+    at_most broken (after + length (bytes_of pieces)) (at + length (bytes ++ bytes_of pieces))
+    (omega (arith, e, length-append bytes (bytes_of pieces)))
 
 -- a piece is read
-pub piece_read : (f : Format) (text s rest : List ℕ) (items more : List FormatArgument) (next : ℕ) (says : Option Directive) → length s ≤ length text
+pub piece_read : (f : Format) (text s rest : List ℕ) (items more : List FormatArgument) (next : ℕ) (says : Option Directive)
+    → length s ≤ length text
     → IsReadBefore f text items next (length text - length s) s → front f s ≡ Takes says rest
     → more ≡ items ++ argument_told next (length text - length s) (length text - length rest) says
     → IsReadBefore f text more (next_behind next says) (length text - length rest) rest
@@ -65,7 +69,8 @@ piece_read f text s rest items more next says le h e pushed pieces broken cut =
     let wide : at + length bytes ≡ after = width_of text s rest bytes le is in
     let piece = piece_of bytes says in
     let behind = next_behind next says in
-    retold f text (items ++ arguments_from next at (piece ∷ pieces)) (more ++ arguments_from behind after pieces) (fault_from at (piece ∷ pieces) broken) (fault_from after pieces broken)
+    retold f text (items ++ arguments_from next at (piece ∷ pieces)) (more ++ arguments_from behind after pieces)
+    (fault_from at (piece ∷ pieces) broken) (fault_from after pieces broken)
     (h (piece ∷ pieces) broken (goes s bytes rest says pieces broken is e cut))
     (ap (λ (t : List FormatArgument). t ++ arguments_from behind after pieces) pushed
     ∙ (append_assoc items (argument_told next at after says) (arguments_from behind after pieces)
@@ -73,19 +78,23 @@ piece_read f text s rest items more next says le h e pushed pieces broken cut =
     (fault_later at after bytes pieces broken wide)
 
 -- the text ends
-pub end_read : (f : Format) (text s : List ℕ) (items : List FormatArgument) (next at : ℕ) → IsReadBefore f text items next at s → front f s ≡ End
+pub end_read : (f : Format) (text s : List ℕ) (items : List FormatArgument) (next at : ℕ) → IsReadBefore f text items next at s
+    → front f s ≡ End
     → HasArguments f text items None
 end_read f text s items next at h e =
     retold f text (items ++ []) items None None (h [] false (ends s e)) (sym (append-nil items)) refl
 
 -- a fault
-pub fault_read : (f : Format) (text s : List ℕ) (items : List FormatArgument) (next at : ℕ) → IsReadBefore f text items next at s → front f s ≡ Broken
+pub fault_read : (f : Format) (text s : List ℕ) (items : List FormatArgument) (next at : ℕ) → IsReadBefore f text items next at s
+    → front f s ≡ Broken
     → HasArguments f text items (Some at)
 fault_read f text s items next at h e =
-    retold f text (items ++ []) items (Some (at + 0)) (Some at) (h [] true (breaks s e)) (sym (append-nil items)) (ap (λ (x : ℕ). Some x) (omega arith))
+    retold f text (items ++ []) items (Some (at + 0)) (Some at) (h [] true (breaks s e)) (sym (append-nil items))
+    (ap (λ (x : ℕ). Some x) (omega arith))
 
 -- an argument is pushed
-pub pushed : (old new : List arguments.Argument) (a : arguments.Argument) → new ≡ old ++ a ∷ [] → arguments_view new ≡ arguments_view old ++ argument_view a ∷ []
+pub pushed : (old new : List arguments.Argument) (a : arguments.Argument) → new ≡ old ++ a ∷ []
+    → arguments_view new ≡ arguments_view old ++ argument_view a ∷ []
 pushed old new a e = ap arguments_view e ∙ map-append argument_view old (a ∷ [])
 
 -- none is pushed

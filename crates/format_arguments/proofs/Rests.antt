@@ -37,7 +37,8 @@ first_end [] = whole []
 first_end (b ∷ s) = longer b s s (whole s)
 
 run_first_end : (class : Class) (s : List ℕ) → EndsIn s (behind_first (behind_run class s))
-run_first_end class s = through s (behind_run class s) (behind_first (behind_run class s)) (run_end class s) (first_end (behind_run class s))
+run_first_end class s = through s (behind_run class s) (behind_first (behind_run class s)) (run_end class s)
+    (first_end (behind_run class s))
 
 drop_end : (n : ℕ) (s : List ℕ) → EndsIn s (drop n s)
 drop_end n s = (take n s, sym (take-append-drop n s))
@@ -60,7 +61,8 @@ unfolding place_front
 place_end s =
     let rest = behind_first (behind_run Digit s) in
     let n = place_of (run_front Digit s) in
-    either (WhichEndsIn s) (begins_with 36 (behind_run Digit s) && not (is_empty_text (run_front Digit s))) (at_place n rest) (Some (Next, s))
+    either (WhichEndsIn s) (begins_with 36 (behind_run Digit s) && not (is_empty_text (run_front Digit s))) (at_place n rest)
+    (Some (Next, s))
     (which_later s rest (at_place n rest) (run_first_end Digit s) (at_place_end n rest)) (whole s)
 
 closed_name_end : (name s : List ℕ) → WhichEndsIn s (closed_name name s)
@@ -73,7 +75,8 @@ name_end s =
     let name = run_front Name inner in
     let rest = behind_run Name inner in
     either (WhichEndsIn s) (begins_with 40 s) (closed_name name rest) (Some (Next, s))
-    (which_later s rest (closed_name name rest) (through s inner rest (first_end s) (run_end Name inner)) (closed_name_end name rest)) (whole s)
+    (which_later s rest (closed_name name rest) (through s inner rest (first_end s) (run_end Name inner)) (closed_name_end name rest))
+    (whole s)
 
 which_end : (f : Format) (s : List ℕ) → WhichEndsIn s (which_front f s)
 which_end Python s = name_end s
@@ -130,7 +133,8 @@ later s t End h k = tt
 later s t (Takes says rest) h k = through s t rest h k
 later s t Broken h k = tt
 
-converts_end : (which : Which) (stars : ℕ) (size : List ℕ) (kind : Option Kind) (s : List ℕ) → FrontEndsIn s (converts which stars size kind s)
+converts_end : (which : Which) (stars : ℕ) (size : List ℕ) (kind : Option Kind) (s : List ℕ)
+    → FrontEndsIn s (converts which stars size kind s)
 converts_end which stars size (Some kind) s = whole s
 converts_end which stars size None s = tt
 
@@ -155,14 +159,16 @@ word_end (w ∷ word) [] = tt
 word_end (w ∷ word) (b ∷ s) =
     either (WordEndsIn (b ∷ s)) (w == b) (after_word word s) None (word_later b s (after_word word s) (word_end word s)) tt
 
-letter_end : (which : Which) (stars : ℕ) (s : List ℕ) (rest : Option (List ℕ)) → WordEndsIn s rest → FrontEndsIn s (macro_letter which stars rest)
+letter_end : (which : Which) (stars : ℕ) (s : List ℕ) (rest : Option (List ℕ)) → WordEndsIn s rest
+    → FrontEndsIn s (macro_letter which stars rest)
 letter_end which stars s None h = tt
 letter_end which stars s (Some []) h = tt
 letter_end which stars s (Some (b ∷ t)) h =
     let rest = behind_run Macro t in
     let bits = run_front Macro t in
     either (FrontEndsIn s) (is_one_of (codes "diouxX") b) (macro_end which stars (c_kind b) bits rest) Broken
-    (later s rest (macro_end which stars (c_kind b) bits rest) (through s (b ∷ t) rest h (longer b t rest (run_end Macro t))) (macro_end_end which stars (c_kind b) bits rest)) tt
+    (later s rest (macro_end which stars (c_kind b) bits rest) (through s (b ∷ t) rest h (longer b t rest (run_end Macro t)))
+    (macro_end_end which stars (c_kind b) bits rest)) tt
 
 conversion_end : (f : Format) (which : Which) (stars : ℕ) (size s : List ℕ) → FrontEndsIn s (conversion_front f which stars size s)
 conversion_end f which stars size [] = tt
@@ -183,8 +189,10 @@ flagged_end f s (Some (which, t)) h =
     let widths = widths_front f flags in
     let rest = behind_run (Size f) widths.1 in
     let behind : EndsIn s rest
-    = through s t rest h (through t flags rest (run_end (Flag f) t) (through flags widths.1 rest (widths_end f flags) (run_end (Size f) widths.1))) in
-    later s rest (conversion_front f which widths.0 (size_of f widths.1) rest) behind (conversion_end f which widths.0 (size_of f widths.1) rest)
+    = through s t rest h (through t flags rest (run_end (Flag f) t)
+    (through flags widths.1 rest (widths_end f flags) (run_end (Size f) widths.1))) in
+    later s rest (conversion_front f which widths.0 (size_of f widths.1) rest) behind
+    (conversion_end f which widths.0 (size_of f widths.1) rest)
 
 printf_end : (f : Format) (s : List ℕ) → FrontEndsIn s (printf_front f s)
 unfolding printf_front
@@ -198,7 +206,8 @@ barred_end_end : (s : List ℕ) (w : Option (Which × List ℕ)) → WhichEndsIn
 barred_end_end s None h = tt
 barred_end_end s (Some (which, t)) h =
     let rest = behind_first (behind_run Barred t) in
-    either (FrontEndsIn s) (begins_with 124 (behind_run Barred t)) (takes which rest) Broken (through s t rest h (run_first_end Barred t)) tt
+    either (FrontEndsIn s) (begins_with 124 (behind_run Barred t)) (takes which rest) Broken
+    (through s t rest h (run_first_end Barred t)) tt
 
 boost_end : (s : List ℕ) → FrontEndsIn s (boost_front s)
 unfolding boost_front
@@ -237,7 +246,8 @@ numbered_end f s =
     let at = takes (At (place_of digits)) (drop (length digits) t) in
     either P (is_the_number f t) (takes (Named (codes "n")) (behind_first t)) (if is_empty_text digits then Takes None s else at)
     (through s t (behind_first t) (letter_of_end f s) (first_end t))
-    (either P (is_empty_text digits) (Takes None s) at (whole s) (through s t (drop (length digits) t) (letter_of_end f s) (drop_end (length digits) t)))
+    (either P (is_empty_text digits) (Takes None s) at (whole s)
+    (through s t (drop (length digits) t) (letter_of_end f s) (drop_end (length digits) t)))
 
 closing_end : (quotes quoted : Bool) (depth : ℕ) (s : List ℕ) → WordEndsIn s (behind_closing quotes quoted depth s)
 closing_end quotes quoted depth [] = tt
@@ -299,7 +309,8 @@ field_front_end f s = field_end_end f s (run_front (Field f) s) (behind_run (Fie
 brace_end : (f : Format) (s : List ℕ) → FrontEndsIn s (brace_front f s)
 unfolding brace_front
 brace_end PythonBrace s =
-    either (FrontEndsIn s) (begins_with 123 s) (Takes None (behind_first s)) (field_front PythonBrace s) (first_end s) (field_front_end PythonBrace s)
+    either (FrontEndsIn s) (begins_with 123 s) (Takes None (behind_first s)) (field_front PythonBrace s) (first_end s)
+    (field_front_end PythonBrace s)
 brace_end C s = field_front_end C s
 brace_end ObjectiveC s = field_front_end ObjectiveC s
 brace_end Python s = field_front_end Python s
@@ -334,5 +345,6 @@ front_end f (b ∷ s) =
     let plain = if b == 125 && has_quotes f then Broken else Takes None s in
     let other = if b == 39 && has_quotes f then quoted_front s else plain in
     either P (b == opening_in (family_of f)) directive other (later (b ∷ s) s directive behind (directive_end f s))
-    (either P (b == 39 && has_quotes f) (quoted_front s) plain (longer b s (behind_first (behind_run Unquoted s)) (run_first_end Unquoted s))
+    (either P (b == 39 && has_quotes f) (quoted_front s) plain
+    (longer b s (behind_first (behind_run Unquoted s)) (run_first_end Unquoted s))
     (either P (b == 125 && has_quotes f) Broken (Takes None s) tt behind))

@@ -15,18 +15,24 @@ run_front-whole class (b ∷ s) =
     ]
 
 -- where what follows the run is as long as the rest, a text is cut into both
-run_length : (class : Class) (s rest : List ℕ) (n : ℕ) → rest ≡ behind_run class s → n + length rest ≡ length s → n ≡ length (run_front class s)
-run_length class s rest n e h = omega (arith, length-append (run_front class s) (behind_run class s), ap length (run_front-whole class s), ap length e)
+run_length : (class : Class) (s rest : List ℕ) (n : ℕ) → rest ≡ behind_run class s → n + length rest ≡ length s
+    → n ≡ length (run_front class s)
+run_length class s rest n e h =
+    omega (arith, length-append (run_front class s) (behind_run class s), ap length (run_front-whole class s), ap length e)
 
-pub cut_front : (class : Class) (s rest : List ℕ) (n : ℕ) → rest ≡ behind_run class s → n + length rest ≡ length s → take n s ≡ run_front class s
+pub cut_front : (class : Class) (s rest : List ℕ) (n : ℕ) → rest ≡ behind_run class s → n + length rest ≡ length s
+    → take n s ≡ run_front class s
 cut_front class s rest n e h =
     ap (λ (k : ℕ). take k s) (run_length class s rest n e h)
-    ∙ (ap (λ (t : List ℕ). take (length (run_front class s)) t) (sym (run_front-whole class s)) ∙ take-append_seam (run_front class s) (behind_run class s))
+    ∙ (ap (λ (t : List ℕ). take (length (run_front class s)) t) (sym (run_front-whole class s))
+    ∙ take-append_seam (run_front class s) (behind_run class s))
 
-pub cut_rest : (class : Class) (s rest : List ℕ) (n : ℕ) → rest ≡ behind_run class s → n + length rest ≡ length s → drop n s ≡ behind_run class s
+pub cut_rest : (class : Class) (s rest : List ℕ) (n : ℕ) → rest ≡ behind_run class s → n + length rest ≡ length s
+    → drop n s ≡ behind_run class s
 cut_rest class s rest n e h =
     ap (λ (k : ℕ). drop k s) (run_length class s rest n e h)
-    ∙ (ap (λ (t : List ℕ). drop (length (run_front class s)) t) (sym (run_front-whole class s)) ∙ drop-append_seam (run_front class s) (behind_run class s))
+    ∙ (ap (λ (t : List ℕ). drop (length (run_front class s)) t) (sym (run_front-whole class s))
+    ∙ drop-append_seam (run_front class s) (behind_run class s))
 
 -- a word isn't found where the text ends
 pub no_rest : (word : List ℕ) (i : ℕ) (rest : List ℕ) → i < length word → length rest < 1 → after_word (drop i word) rest ≡ None

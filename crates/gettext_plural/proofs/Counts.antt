@@ -17,9 +17,12 @@ is_within : (n : ℕ) → is_count n ≡ true → IsWithin n
 is_within n is =
     ⊎_elim
     (λ low.
-    ⊎_elim (λ high. (low.1, high.1)) (λ no. let clash : (nat_le 1 n && nat_le n FORMS_LIMIT) ≡ (true && false) = ap (λ b. b && nat_le n FORMS_LIMIT) low.0 ∙ ap (λ b. true && b) no.0 in absurd cc)
+    ⊎_elim (λ high. (low.1, high.1))
+    (λ no. let clash : (nat_le 1 n && nat_le n FORMS_LIMIT) ≡ (true && false) = ap (λ b. b && nat_le n FORMS_LIMIT) low.0
+    ∙ ap (λ b. true && b) no.0 in absurd cc)
     (leb_tells n FORMS_LIMIT))
-    (λ no. let clash : (nat_le 1 n && nat_le n FORMS_LIMIT) ≡ (false && nat_le n FORMS_LIMIT) = ap (λ b. b && nat_le n FORMS_LIMIT) no.0 in absurd cc)
+    (λ no. let clash : (nat_le 1 n && nat_le n FORMS_LIMIT)
+    ≡ (false && nat_le n FORMS_LIMIT) = ap (λ b. b && nat_le n FORMS_LIMIT) no.0 in absurd cc)
     (leb_tells 1 n)
 
 abbrev counted_as : ℕ → Result ℕ Fault

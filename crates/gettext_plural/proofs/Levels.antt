@@ -70,7 +70,8 @@ left_stays m o a ws e lt = cond-false (nat_le m (binding o)) _ _ (le_is_false m 
 pub colon_stays : (m : ℕ) (a b : Formula) (ws : List Waiting) (e : Formula) → 1 ≤ m → unwind m (colon a b ∷ ws) e ≡ (colon a b ∷ ws, e)
 colon_stays m a b ws e le = cond-false (nat_eq m 0) _ _ (zero_is_false m le)
 
-pub colon_ends : (m : ℕ) (a b : Formula) (ws : List Waiting) (e : Formula) → m ≤ 0 → unwind m (colon a b ∷ ws) e ≡ unwind m ws (chosen a b e)
+pub colon_ends : (m : ℕ) (a b : Formula) (ws : List Waiting) (e : Formula) → m ≤ 0
+    → unwind m (colon a b ∷ ws) e ≡ unwind m ws (chosen a b e)
 colon_ends m a b ws e le =
     let is : m ≡ 0 = omega arith in
     let P : ℕ → Type 0 = λ x. unwind x (colon a b ∷ ws) e ≡ unwind x ws (chosen a b e) in

@@ -20,7 +20,8 @@ record Reaches (l : ℕ) (ws : List Waiting) (ts : List Token) (e : Formula) : T
   runs : (s : List Token) → run (expects ws) (ts ++ s) ≡ run (has held operand) s
   unwinds : (m : ℕ) → m ≤ 6 → m ≤ l → unwind m held operand ≡ unwind m ws e
 
-in_brackets : (ws : List Waiting) (ts : List Token) (e : Formula) → Reaches 0 (bracket ∷ ws) ts e → Reaches 8 ws (Open ∷ (ts ++ Close ∷ [])) e
+in_brackets : (ws : List Waiting) (ts : List Token) (e : Formula) → Reaches 0 (bracket ∷ ws) ts e
+    → Reaches 8 ws (Open ∷ (ts ++ Close ∷ [])) e
 unfolding run
 in_brackets ws ts e r = record {
   held = ws;
@@ -36,7 +37,8 @@ behind_negation : (ws : List Waiting) (ts : List Token) (e : Formula) → Reache
 unfolding run
 behind_negation ws ts e r = record { held = r.held; operand = r.operand; runs = r.runs; unwinds = r.unwinds }
 
-behind_operator : (o : Operator) (ws : List Waiting) (front back : List Token) (a b : Formula) → Rests (binding o) ws → Reaches (binding o) ws front a
+behind_operator : (o : Operator) (ws : List Waiting) (front back : List Token) (a b : Formula) → Rests (binding o) ws
+    → Reaches (binding o) ws front a
     → Reaches (suc (binding o)) (left_of o a ∷ ws) back b → Reaches (binding o) ws (front ++ Joint o ∷ back) (joined o a b)
 unfolding run
 behind_operator o ws front back a b rests r q =
@@ -48,12 +50,14 @@ behind_operator o ws front back a b rests r q =
       runs = λ s.
           ap (run (expects ws)) (append_assoc front (Joint o ∷ back) s)
           ∙ r.runs (Joint o ∷ (back ++ s))
-          ∙ ap (λ it. run (jointed o it) (back ++ s)) (r.unwinds (binding o) high (omega arith) ∙ rests (binding o) a low (omega arith) high)
+          ∙ ap (λ it. run (jointed o it) (back ++ s))
+          (r.unwinds (binding o) high (omega arith) ∙ rests (binding o) a low (omega arith) high)
           ∙ q.runs s;
       unwinds = λ m most le. q.unwinds m most (omega arith) ∙ left_ends m o a ws b le;
     }
 
-in_choice : (ws : List Waiting) (first second third : List Token) (a b c : Formula) → Rests 1 ws → Reaches 1 ws first a → Reaches 0 (question a ∷ ws) second b
+in_choice : (ws : List Waiting) (first second third : List Token) (a b c : Formula) → Rests 1 ws → Reaches 1 ws first a
+    → Reaches 0 (question a ∷ ws) second b
     → Reaches 0 (colon a b ∷ ws) third c → Reaches 0 ws (first ++ Question ∷ (second ++ Colon ∷ third)) (chosen a b c)
 unfolding run
 in_choice ws first second third a b c rests r q p = record {
@@ -62,7 +66,8 @@ in_choice ws first second third a b c rests r q p = record {
   runs = λ s.
       ap (run (expects ws)) (append_assoc first (Question ∷ (second ++ Colon ∷ third)) s)
       ∙ r.runs (Question ∷ ((second ++ Colon ∷ third) ++ s))
-      ∙ ap (λ it. run (questioned it) ((second ++ Colon ∷ third) ++ s)) (r.unwinds 1 (omega arith) (omega arith) ∙ rests 1 a (omega arith) (omega arith) (omega arith))
+      ∙ ap (λ it. run (questioned it) ((second ++ Colon ∷ third) ++ s))
+      (r.unwinds 1 (omega arith) (omega arith) ∙ rests 1 a (omega arith) (omega arith) (omega arith))
       ∙ ap (run (expects (question a ∷ ws))) (append_assoc second (Colon ∷ third) s)
       ∙ q.runs (Colon ∷ (third ++ s))
       ∙ ap (λ it. proceed (Colon ∷ (third ++ s)) (coloned it) (λ next. run next (third ++ s))) (q.unwinds 0 (omega arith) (omega arith))
@@ -75,13 +80,15 @@ unfolding run
 reaches l ts e (spells_number k) ws rests = record { held = ws; operand = number k; runs = λ s. refl; unwinds = λ m most le. refl }
 reaches l ts e spells_n ws rests = record { held = ws; operand = the_n; runs = λ s. refl; unwinds = λ m most le. refl }
 reaches l ts e (spells_brackets us a s) ws rests = in_brackets ws us a (reaches 0 us a s (bracket ∷ ws) (λ m x low le most. refl))
-reaches l ts e (spells_negation us a s) ws rests = behind_negation ws us a (reaches 7 us a s (negation ∷ ws) (λ m x low le most. absurd (omega arith)))
+reaches l ts e (spells_negation us a s) ws rests =
+    behind_negation ws us a (reaches 7 us a s (negation ∷ ws) (λ m x low le most. absurd (omega arith)))
 reaches l ts e (spells_join o front back a b s t) ws rests =
     behind_operator o ws front back a b rests (reaches (binding o) front a s ws rests)
     (reaches (suc (binding o)) back b t (left_of o a ∷ ws) (λ m x low le most. left_stays m o a ws x (omega arith)))
 reaches l ts e (spells_choice first second third a b c s t u) ws rests =
     let from_one : Rests 1 ws = λ m x low le most. rests m x low (omega arith) most in
-    in_choice ws first second third a b c from_one (reaches 1 first a s ws from_one) (reaches 0 second b t (question a ∷ ws) (λ m x low le most. refl))
+    in_choice ws first second third a b c from_one (reaches 1 first a s ws from_one)
+    (reaches 0 second b t (question a ∷ ws) (λ m x low le most. refl))
     (reaches 0 third c u (colon a b ∷ ws) (λ m x low le most. colon_stays m a b ws x low))
 reaches l ts e (spells_tighter level us a s) ws rests =
     let r : Reaches (suc level) ws us a = reaches (suc level) us a s ws (λ m x low le most. rests m x low (omega arith) most) in

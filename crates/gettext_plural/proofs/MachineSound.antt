@@ -26,7 +26,8 @@ Waits [] before = before ≡ []
 Waits (bracket ∷ ws) before = (ts : List Token) × (before ≡ ts ++ Open ∷ []) × Waits ws ts
 Waits (negation ∷ ws) before = (ts : List Token) × (before ≡ ts ++ Not ∷ []) × Waits ws ts
 Waits (left_of o a ∷ ws) before =
-    (ts : List Token) × (us : List Token) × (before ≡ ts ++ (us ++ Joint o ∷ [])) × Waits ws ts × Spells (binding o) us a × (needed ws ≤ binding o)
+    (ts : List Token) × (us : List Token) × (before ≡ ts ++ (us ++ Joint o ∷ [])) × Waits ws ts × Spells (binding o) us a
+    × (needed ws ≤ binding o)
 Waits (question a ∷ ws) before =
     (ts : List Token) × (us : List Token) × (before ≡ ts ++ (us ++ Question ∷ [])) × Waits ws ts × Spells 1 us a × (needed ws ≤ 0)
 Waits (colon a b ∷ ws) before =
@@ -65,7 +66,14 @@ stays : (m l : ℕ) (ws : List Waiting) (e : Formula) (before us : List Token) �
     → unwind m ws e ≡ (ws, e) → Unwound m (unwind m ws e).0 (unwind m ws e).1 (before ++ us)
 stays m l ws e before us le within waits s is =
     let P : List Waiting × Formula → Type 0 = λ it. Unwound m it.0 it.1 (before ++ us) in
-    subst P (sym is) (record { before = before; behind = us; parts = refl; waits = waits; spelled = loosened l m us e le s; within = within })
+    subst P (sym is) (record {
+      before = before;
+      behind = us;
+      parts = refl;
+      waits = waits;
+      spelled = loosened l m us e le s;
+      within = within;
+    })
 
 -- the innermost ends
 ends : (m : ℕ) (ws vs : List Waiting) (e f : Formula) (all others : List Token) → unwind m ws e ≡ unwind m vs f → others ≡ all
@@ -76,7 +84,8 @@ ends m ws vs e f all others is same u =
     subst P (sym is) (subst Q same u)
 
 -- tokens in another grouping
-regroup_two : (ts us vs : List Token) (t : Token) (before : List Token) → before ≡ ts ++ (us ++ t ∷ []) → ts ++ (us ++ t ∷ vs) ≡ before ++ vs
+regroup_two : (ts us vs : List Token) (t : Token) (before : List Token) → before ≡ ts ++ (us ++ t ∷ [])
+    → ts ++ (us ++ t ∷ vs) ≡ before ++ vs
 regroup_two ts us vs t before is =
     let flat : (ts ++ (us ++ t ∷ [])) ++ vs ≡ ts ++ (us ++ t ∷ vs) = simp append_assoc in
     sym flat ∙ ap (λ x. x ++ vs) (sym is)
@@ -90,13 +99,15 @@ regroup_three ts us vs ws t u before is =
 regroup_one : (ts vs : List Token) (t : Token) (before : List Token) → before ≡ ts ++ t ∷ [] → ts ++ t ∷ vs ≡ before ++ vs
 regroup_one ts vs t before is = sym (append_assoc ts (t ∷ []) vs) ∙ ap (λ x. x ++ vs) (sym is)
 
-pub unwound : (m l : ℕ) (ws : List Waiting) (e : Formula) (before us : List Token) → m ≤ 6 → m ≤ l → needed ws ≤ l → Waits ws before → Spells l us e
+pub unwound : (m l : ℕ) (ws : List Waiting) (e : Formula) (before us : List Token) → m ≤ 6 → m ≤ l → needed ws ≤ l → Waits ws before
+    → Spells l us e
     → Unwound m (unwind m ws e).0 (unwind m ws e).1 (before ++ us)
 unwound m l [] e before us most le within waits s = stays m l [] e before us le (omega arith) waits s refl
 unwound m l (bracket ∷ ws) e before us most le within waits s = stays m l (bracket ∷ ws) e before us le (omega arith) waits s refl
 unwound m l (question a ∷ ws) e before us most le within waits s = stays m l (question a ∷ ws) e before us le (omega arith) waits s refl
 unwound m l (negation ∷ ws) e before us most le within waits s =
-    let u = unwound m 7 ws (negated e) waits.0 (Not ∷ us) most (omega arith) (needed_high ws) waits.2 (spells_negation us e (loosened l 7 us e within s)) in
+    let u = unwound m 7 ws (negated e) waits.0 (Not ∷ us) most (omega arith) (needed_high ws) waits.2
+    (spells_negation us e (loosened l 7 us e within s)) in
     ends m (negation ∷ ws) ws e (negated e) (before ++ us) (waits.0 ++ Not ∷ us) refl (regroup_one waits.0 us Not before waits.1) u
 unwound m l (left_of o a ∷ ws) e before us most le within waits s =
     ⊎_elim
@@ -113,7 +124,8 @@ unwound m l (colon a b ∷ ws) e before us most le within waits s =
     (λ ge.
     let t = spells_choice waits.1 waits.2 us a b e waits.5 waits.6 (loosened l 0 us e (omega arith) s) in
     let u = unwound m 0 ws (chosen a b e) waits.0 (waits.1 ++ Question ∷ (waits.2 ++ Colon ∷ us)) most ge waits.7 waits.4 t in
-    ends m (colon a b ∷ ws) ws e (chosen a b e) (before ++ us) (waits.0 ++ (waits.1 ++ Question ∷ (waits.2 ++ Colon ∷ us))) (colon_ends m a b ws e ge)
+    ends m (colon a b ∷ ws) ws e (chosen a b e) (before ++ us) (waits.0 ++ (waits.1 ++ Question ∷ (waits.2 ++ Colon ∷ us)))
+    (colon_ends m a b ws e ge)
     (regroup_three waits.0 waits.1 waits.2 us Question Colon before waits.3) u)
     (cases_lt 0 m)
 
@@ -128,7 +140,8 @@ IfStage (Ok s) P = P s
 IfStage (Err kind) P = Unit {0}
 
 -- what is left of an operand before an operator
-left_before : (m : ℕ) (ws : List Waiting) (e : Formula) (before ts us : List Token) → m ≤ 6 → before ≡ ts ++ us → Waits ws ts → Spells 8 us e
+left_before : (m : ℕ) (ws : List Waiting) (e : Formula) (before ts us : List Token) → m ≤ 6 → before ≡ ts ++ us → Waits ws ts
+    → Spells 8 us e
     → Unwound m (unwind m ws e).0 (unwind m ws e).1 before
 left_before m ws e before ts us most parts waits s =
     let high = needed_high ws in
@@ -139,33 +152,53 @@ left_before m ws e before ts us most parts waits s =
 with_next : (ts us all : List Token) (t : Token) → all ≡ ts ++ us → all ++ t ∷ [] ≡ ts ++ (us ++ t ∷ [])
 with_next ts us all t is = ap (λ x. x ++ t ∷ []) is ∙ append_assoc ts us (t ∷ [])
 
-colon_sound : (ws : List Waiting) (e : Formula) (all : List Token) → Unwound 0 ws e all → IfStage (colon_stage ws e) (λ s. IsAt s (all ++ Colon ∷ []))
+colon_sound : (ws : List Waiting) (e : Formula) (all : List Token) → Unwound 0 ws e all
+    → IfStage (colon_stage ws e) (λ s. IsAt s (all ++ Colon ∷ []))
 colon_sound [] e all u = tt
 colon_sound (bracket ∷ ws) e all u = tt
 colon_sound (negation ∷ ws) e all u = tt
 colon_sound (left_of o a ∷ ws) e all u = tt
 colon_sound (colon a b ∷ ws) e all u = tt
 colon_sound (question a ∷ ws) e all u =
-    let w = u.waits in
-    (w.0, w.1, u.behind, with_next u.before u.behind all Colon u.parts ∙ sym (regroup_two w.0 w.1 (u.behind ++ Colon ∷ []) Question u.before w.2), w.3, w.4, u.spelled, w.5)
+    let w = u.waits in (
+      w.0,
+      w.1,
+      u.behind,
+      with_next u.before u.behind all Colon u.parts
+          ∙ sym (regroup_two w.0 w.1 (u.behind ++ Colon ∷ []) Question u.before w.2),
+      w.3,
+      w.4,
+      u.spelled,
+      w.5,
+    )
 
-close_sound : (ws : List Waiting) (e : Formula) (all : List Token) → Unwound 0 ws e all → IfStage (close_stage ws e) (λ s. IsAt s (all ++ Close ∷ []))
+close_sound : (ws : List Waiting) (e : Formula) (all : List Token) → Unwound 0 ws e all
+    → IfStage (close_stage ws e) (λ s. IsAt s (all ++ Close ∷ []))
 close_sound [] e all u = tt
 close_sound (negation ∷ ws) e all u = tt
 close_sound (left_of o a ∷ ws) e all u = tt
 close_sound (question a ∷ ws) e all u = tt
 close_sound (colon a b ∷ ws) e all u = tt
 close_sound (bracket ∷ ws) e all u =
-    let w = u.waits in
-    (w.0, Open ∷ (u.behind ++ Close ∷ []), with_next u.before u.behind all Close u.parts ∙ sym (regroup_one w.0 (u.behind ++ Close ∷ []) Open u.before w.1), w.2, spells_brackets u.behind e u.spelled)
+    let w = u.waits in (
+      w.0,
+      Open ∷ (u.behind ++ Close ∷ []),
+      with_next u.before u.behind all Close u.parts
+          ∙ sym (regroup_one w.0 (u.behind ++ Close ∷ []) Open u.before w.1),
+      w.2,
+      spells_brackets u.behind e u.spelled,
+    )
 
-operator_sound : (o : Operator) (ws : List Waiting) (e : Formula) (all : List Token) → Unwound (binding o) ws e all → Waits (left_of o e ∷ ws) (all ++ Joint o ∷ [])
+operator_sound : (o : Operator) (ws : List Waiting) (e : Formula) (all : List Token) → Unwound (binding o) ws e all
+    → Waits (left_of o e ∷ ws) (all ++ Joint o ∷ [])
 operator_sound o ws e all u = (u.before, u.behind, with_next u.before u.behind all (Joint o) u.parts, u.waits, u.spelled, u.within)
 
 question_sound : (ws : List Waiting) (e : Formula) (all : List Token) → Unwound 1 ws e all → Waits (question e ∷ ws) (all ++ Question ∷ [])
-question_sound ws e all u = (u.before, u.behind, with_next u.before u.behind all Question u.parts, u.waits, u.spelled, needed_none ws u.within)
+question_sound ws e all u =
+    (u.before, u.behind, with_next u.before u.behind all Question u.parts, u.waits, u.spelled, needed_none ws u.within)
 
-begin_sound : (ws : List Waiting) (before : List Token) (t : Token) → Waits ws before → IfStage (step (expects ws) t) (λ s. IsAt s (before ++ t ∷ []))
+begin_sound : (ws : List Waiting) (before : List Token) (t : Token) → Waits ws before
+    → IfStage (step (expects ws) t) (λ s. IsAt s (before ++ t ∷ []))
 begin_sound ws before (Number k) w = (before, Number k ∷ [], refl, w, spells_number k)
 begin_sound ws before N w = (before, N ∷ [], refl, w, spells_n)
 begin_sound ws before Not w = (before, refl, w)
@@ -176,9 +209,11 @@ begin_sound ws before Colon w = tt
 begin_sound ws before Close w = tt
 begin_sound ws before Junk w = tt
 
-follow_sound : (ws : List Waiting) (e : Formula) (before : List Token) (t : Token) → IsAt (has ws e) before → IfStage (step (has ws e) t) (λ s. IsAt s (before ++ t ∷ []))
+follow_sound : (ws : List Waiting) (e : Formula) (before : List Token) (t : Token) → IsAt (has ws e) before
+    → IfStage (step (has ws e) t) (λ s. IsAt s (before ++ t ∷ []))
 follow_sound ws e before (Joint o) at =
-    operator_sound o (unwind (binding o) ws e).0 (unwind (binding o) ws e).1 before (left_before (binding o) ws e before at.0 at.1 (binding_high o) at.2 at.3 at.4)
+    operator_sound o (unwind (binding o) ws e).0 (unwind (binding o) ws e).1 before
+    (left_before (binding o) ws e before at.0 at.1 (binding_high o) at.2 at.3 at.4)
 follow_sound ws e before Question at =
     question_sound (unwind 1 ws e).0 (unwind 1 ws e).1 before (left_before 1 ws e before at.0 at.1 (omega arith) at.2 at.3 at.4)
 follow_sound ws e before Colon at =
@@ -216,15 +251,18 @@ ended_sound (Ok a) e is = cc
 ended_sound (Err kind) e is = absurd cc
 
 -- behind a token, as behind the tokens with it
-goes_on : (ts before : List Token) (t : Token) (e : Formula) → ((next : Stage) → IsAt next (before ++ t ∷ []) → run next ts ≡ Ok e → Spells 0 ((before ++ t ∷ []) ++ ts) e)
-    → (r : Result Stage FaultKind) → IfStage r (λ next. IsAt next (before ++ t ∷ [])) → proceed (t ∷ ts) r (λ next. run next ts) ≡ Ok e → Spells 0 (before ++ t ∷ ts) e
+goes_on : (ts before : List Token) (t : Token) (e : Formula)
+    → ((next : Stage) → IsAt next (before ++ t ∷ []) → run next ts ≡ Ok e → Spells 0 ((before ++ t ∷ []) ++ ts) e)
+    → (r : Result Stage FaultKind) → IfStage r (λ next. IsAt next (before ++ t ∷ [])) → proceed (t ∷ ts) r (λ next. run next ts) ≡ Ok e
+    → Spells 0 (before ++ t ∷ ts) e
 goes_on ts before t e behind (Ok next) held is =
     let P : List Token → Type 0 = λ all. Spells 0 all e in
     subst P (append_assoc before (t ∷ []) ts) (behind next held is)
 goes_on ts before t e behind (Err kind) held is = absurd cc
 
 -- what is read is spelled by the tokens
-pub run_sound : (ts : List Token) (s : Stage) (before : List Token) (e : Formula) → IsAt s before → run s ts ≡ Ok e → Spells 0 (before ++ ts) e
+pub run_sound : (ts : List Token) (s : Stage) (before : List Token) (e : Formula) → IsAt s before → run s ts ≡ Ok e
+    → Spells 0 (before ++ ts) e
 unfolding run
 run_sound [] s before e at is =
     let P : List Token → Type 0 = λ all. Spells 0 all e in

@@ -68,7 +68,8 @@ end_at [] t = refl
 end_at (u ∷ []) t = refl
 end_at (u ∷ v ∷ before) t = end_at (v ∷ before) t
 
-colon_agrees : (ws : List Waiting) (e : Formula) (all : List Token) → end_in_operand all ≡ false → IfStage (colon_stage ws e) (λ s. Agrees s all)
+colon_agrees : (ws : List Waiting) (e : Formula) (all : List Token) → end_in_operand all ≡ false
+    → IfStage (colon_stage ws e) (λ s. Agrees s all)
 colon_agrees [] e all is = tt
 colon_agrees (bracket ∷ ws) e all is = tt
 colon_agrees (negation ∷ ws) e all is = tt
@@ -76,7 +77,8 @@ colon_agrees (left_of o a ∷ ws) e all is = tt
 colon_agrees (question a ∷ ws) e all is = is
 colon_agrees (colon a b ∷ ws) e all is = tt
 
-close_agrees : (ws : List Waiting) (e : Formula) (all : List Token) → end_in_operand all ≡ true → IfStage (close_stage ws e) (λ s. Agrees s all)
+close_agrees : (ws : List Waiting) (e : Formula) (all : List Token) → end_in_operand all ≡ true
+    → IfStage (close_stage ws e) (λ s. Agrees s all)
 close_agrees [] e all is = tt
 close_agrees (bracket ∷ ws) e all is = is
 close_agrees (negation ∷ ws) e all is = tt
@@ -119,13 +121,22 @@ record Failing (s : Stage) (before ts : List Token) (kind : FaultKind) (more : L
   fails : FailsAt last kind more
   agrees : Agrees last (before ++ mid)
 
-fails_here : (s : Stage) (before ts : List Token) (kind : FaultKind) (more : List Token) → Agrees s before → ts ≡ more → FailsAt s kind ts → Failing s before ts kind more
+fails_here : (s : Stage) (before ts : List Token) (kind : FaultKind) (more : List Token) → Agrees s before → ts ≡ more
+    → FailsAt s kind ts → Failing s before ts kind more
 fails_here s before ts kind more agrees is fails =
     let P : List Token → Type 0 = λ all. FailsAt s kind all in
     let Q : List Token → Type 0 = λ all. Agrees s all in
-    record { mid = []; last = s; parts = is; leads = λ behind. refl; fails = subst P is fails; agrees = subst Q (sym (append-nil before)) agrees }
+    record {
+      mid = [];
+      last = s;
+      parts = is;
+      leads = λ behind. refl;
+      fails = subst P is fails;
+      agrees = subst Q (sym (append-nil before)) agrees;
+    }
 
-at_the_end : (s : Stage) (before : List Token) (kind : FaultKind) (more : List Token) → Agrees s before → (r : Result Formula FaultKind) → finish s ≡ r
+at_the_end : (s : Stage) (before : List Token) (kind : FaultKind) (more : List Token) → Agrees s before → (r : Result Formula FaultKind)
+    → finish s ≡ r
     → ended r ≡ Err (kind, more) → Failing s before [] kind more
 at_the_end s before kind more agrees (Ok e) eq is = absurd cc
 at_the_end s before kind more agrees (Err k) eq is =
@@ -162,11 +173,13 @@ behind_token s before ts t kind more agrees behind (Err k) eq held is =
     let alike : k ≡ kind = ap (λ (it : FaultKind × List Token). it.0) pair in
     fails_here s before (t ∷ ts) kind more agrees same (eq ∙ ap Err alike)
 
-failing : (ts : List Token) (s : Stage) (before : List Token) (kind : FaultKind) (more : List Token) → Agrees s before → run s ts ≡ Err (kind, more) → Failing s before ts kind more
+failing : (ts : List Token) (s : Stage) (before : List Token) (kind : FaultKind) (more : List Token) → Agrees s before
+    → run s ts ≡ Err (kind, more) → Failing s before ts kind more
 unfolding run
 failing [] s before kind more agrees is = at_the_end s before kind more agrees (finish s) refl is
 failing (t ∷ ts) s before kind more agrees is =
-    behind_token s before ts t kind more agrees (λ next held eq. failing ts next (before ++ t ∷ []) kind more held eq) (step s t) refl (step_agrees s before t) is
+    behind_token s before ts t kind more agrees (λ next held eq. failing ts next (before ++ t ∷ []) kind more held eq)
+    (step s t) refl (step_agrees s before t) is
 
 -- ---- The kind
 
@@ -225,7 +238,8 @@ kind_of (has ws e) before (t ∷ more) kind agrees fails =
 
 -- ---- The first fault
 
-none_goes_on : (before more : List Token) (kind : FaultKind) (last : Stage) → ((behind : List Token) → run (expects []) (before ++ behind) ≡ run last behind)
+none_goes_on : (before more : List Token) (kind : FaultKind) (last : Stage)
+    → ((behind : List Token) → run (expects []) (before ++ behind) ≡ run last behind)
     → FailsAt last kind more → NoneGoesOn before more
 unfolding run
 none_goes_on before [] kind last leads fails = λ e s.
@@ -261,7 +275,11 @@ is_first all kind more is =
     record {
       before = f.mid;
       parts = f.parts;
-      begins = record { behind = e.behind; formula = e.formula; spelled = run_sound (f.mid ++ e.behind) (expects []) [] e.formula refl (f.leads e.behind ∙ e.runs) };
+      begins = record {
+        behind = e.behind;
+        formula = e.formula;
+        spelled = run_sound (f.mid ++ e.behind) (expects []) [] e.formula refl (f.leads e.behind ∙ e.runs);
+      };
       stops = none_goes_on f.mid more kind f.last f.leads f.fails;
       kind_is = kind_of f.last f.mid more kind f.agrees f.fails;
     }

@@ -15,7 +15,8 @@ use Rattle.gettext_plural.specs.Inner.FormulaViews.{IsPopped, pending_view, pend
 abbrev pub stage_ok : Stage → Result Stage FaultKind
 stage_ok s = Ok s
 
-pendings_onto-append : (ps : List Pending) (p : Pending) (ws : List Waiting) → pendings_onto (ps ++ p ∷ []) ws ≡ pending_view p ∷ pendings_onto ps ws
+pendings_onto-append : (ps : List Pending) (p : Pending) (ws : List Waiting)
+    → pendings_onto (ps ++ p ∷ []) ws ≡ pending_view p ∷ pendings_onto ps ws
 pendings_onto-append [] p ws = refl
 pendings_onto-append (q ∷ ps) p ws = pendings_onto-append ps p (pending_view q ∷ ws)
 
@@ -24,82 +25,106 @@ pub pushed : (old new : List Pending) (p : Pending) → new ≡ old ++ p ∷ [] 
 pushed old new p is = ap pendings_view is ∙ pendings_onto-append old p []
 
 -- what an operator does
-pub joint_step : (o : Operator) (ws : List Waiting) (e : Formula) (mid new : List Pending) (a : Expression) → unwind (binding o) ws e ≡ (pendings_view mid, formula_view a)
+pub joint_step : (o : Operator) (ws : List Waiting) (e : Formula) (mid new : List Pending) (a : Expression)
+    → unwind (binding o) ws e ≡ (pendings_view mid, formula_view a)
     → new ≡ mid ++ pending.Left o a ∷ [] → stage_ok (jointed o (unwind (binding o) ws e)) ≡ stage_ok (expects (pendings_view new))
-joint_step o ws e mid new a u is = ap (λ it. stage_ok (jointed o it)) u ∙ sym (ap (λ vs. stage_ok (expects vs)) (pushed mid new (pending.Left o a) is))
+joint_step o ws e mid new a u is =
+    ap (λ it. stage_ok (jointed o it)) u ∙ sym (ap (λ vs. stage_ok (expects vs)) (pushed mid new (pending.Left o a) is))
 
 -- what `?` does
-pub question_step : (ws : List Waiting) (e : Formula) (mid new : List Pending) (a : Expression) → unwind 1 ws e ≡ (pendings_view mid, formula_view a)
+pub question_step : (ws : List Waiting) (e : Formula) (mid new : List Pending) (a : Expression)
+    → unwind 1 ws e ≡ (pendings_view mid, formula_view a)
     → new ≡ mid ++ pending.Question a ∷ [] → stage_ok (questioned (unwind 1 ws e)) ≡ stage_ok (expects (pendings_view new))
-question_step ws e mid new a u is = ap (λ it. stage_ok (questioned it)) u ∙ sym (ap (λ vs. stage_ok (expects vs)) (pushed mid new (pending.Question a) is))
+question_step ws e mid new a u is =
+    ap (λ it. stage_ok (questioned it)) u ∙ sym (ap (λ vs. stage_ok (expects vs)) (pushed mid new (pending.Question a) is))
 
 -- what `:` does: where nothing waits, where no `?` is innermost, and where one is
-pub colon_alone : (ws : List Waiting) (e : Formula) (mid : List Pending) (b : Expression) → unwind 0 ws e ≡ (pendings_view mid, formula_view b) → mid ≡ []
+pub colon_alone : (ws : List Waiting) (e : Formula) (mid : List Pending) (b : Expression)
+    → unwind 0 ws e ≡ (pendings_view mid, formula_view b) → mid ≡ []
     → coloned (unwind 0 ws e) ≡ Err ExpectedOperator
 colon_alone ws e mid b u is = ap coloned u ∙ ap (λ ps. colon_stage (pendings_view ps) (formula_view b)) is
 
-colon_taken : (ws : List Waiting) (e : Formula) (mid rest : List Pending) (last : Pending) (b : Expression) (o : Option Formula) → unwind 0 ws e ≡ (pendings_view mid, formula_view b)
-    → mid ≡ rest ++ last ∷ [] → condition_in (pending_view last) ≡ o → coloned (unwind 0 ws e) ≡ colon_with o (pendings_view rest) (formula_view b)
+colon_taken : (ws : List Waiting) (e : Formula) (mid rest : List Pending) (last : Pending) (b : Expression) (o : Option Formula)
+    → unwind 0 ws e ≡ (pendings_view mid, formula_view b)
+    → mid ≡ rest ++ last ∷ [] → condition_in (pending_view last) ≡ o
+    → coloned (unwind 0 ws e) ≡ colon_with o (pendings_view rest) (formula_view b)
 colon_taken ws e mid rest last b o u is found =
-    ap coloned u ∙ ap (λ vs. colon_stage vs (formula_view b)) (pushed rest mid last is) ∙ ap (λ it. colon_with it (pendings_view rest) (formula_view b)) found
+    ap coloned u ∙ ap (λ vs. colon_stage vs (formula_view b)) (pushed rest mid last is)
+    ∙ ap (λ it. colon_with it (pendings_view rest) (formula_view b)) found
 
-pub colon_stops : (ws : List Waiting) (e : Formula) (mid rest : List Pending) (last : Pending) (b : Expression) → unwind 0 ws e ≡ (pendings_view mid, formula_view b)
+pub colon_stops : (ws : List Waiting) (e : Formula) (mid rest : List Pending) (last : Pending) (b : Expression)
+    → unwind 0 ws e ≡ (pendings_view mid, formula_view b)
     → mid ≡ rest ++ last ∷ [] → condition_in (pending_view last) ≡ None → coloned (unwind 0 ws e) ≡ Err ExpectedOperator
 colon_stops ws e mid rest last b u is found = colon_taken ws e mid rest last b None u is found
 
-pub colon_step : (ws : List Waiting) (e : Formula) (mid rest new : List Pending) (last : Pending) (a b : Expression) → unwind 0 ws e ≡ (pendings_view mid, formula_view b)
+pub colon_step : (ws : List Waiting) (e : Formula) (mid rest new : List Pending) (last : Pending) (a b : Expression)
+    → unwind 0 ws e ≡ (pendings_view mid, formula_view b)
     → mid ≡ rest ++ last ∷ [] → condition_in (pending_view last) ≡ Some (formula_view a) → new ≡ rest ++ pending.Colon a b ∷ []
     → coloned (unwind 0 ws e) ≡ Ok (expects (pendings_view new))
 colon_step ws e mid rest new last a b u is found put =
-    colon_taken ws e mid rest last b (Some (formula_view a)) u is found ∙ sym (ap (λ vs. stage_ok (expects vs)) (pushed rest new (pending.Colon a b) put))
+    colon_taken ws e mid rest last b (Some (formula_view a)) u is found
+    ∙ sym (ap (λ vs. stage_ok (expects vs)) (pushed rest new (pending.Colon a b) put))
 
 -- what `)` does, likewise
-pub close_alone : (ws : List Waiting) (e : Formula) (mid : List Pending) (a : Expression) → unwind 0 ws e ≡ (pendings_view mid, formula_view a) → mid ≡ []
+pub close_alone : (ws : List Waiting) (e : Formula) (mid : List Pending) (a : Expression)
+    → unwind 0 ws e ≡ (pendings_view mid, formula_view a) → mid ≡ []
     → closed (unwind 0 ws e) ≡ Err ExpectedOperator
 close_alone ws e mid a u is = ap closed u ∙ ap (λ ps. close_stage (pendings_view ps) (formula_view a)) is
 
-close_taken : (ws : List Waiting) (e : Formula) (mid rest : List Pending) (last : Pending) (a : Expression) (b : Bool) → unwind 0 ws e ≡ (pendings_view mid, formula_view a)
+close_taken : (ws : List Waiting) (e : Formula) (mid rest : List Pending) (last : Pending) (a : Expression) (b : Bool)
+    → unwind 0 ws e ≡ (pendings_view mid, formula_view a)
     → mid ≡ rest ++ last ∷ [] → is_bracket (pending_view last) ≡ b
     → closed (unwind 0 ws e) ≡ cond b (Ok (has (pendings_view rest) (formula_view a))) (Err ExpectedOperator)
 close_taken ws e mid rest last a b u is found =
     ap closed u ∙ ap (λ vs. close_stage vs (formula_view a)) (pushed rest mid last is)
     ∙ ap (λ t. cond t (Ok (has (pendings_view rest) (formula_view a))) (Err ExpectedOperator)) found
 
-pub close_stops : (ws : List Waiting) (e : Formula) (mid rest : List Pending) (last : Pending) (a : Expression) → unwind 0 ws e ≡ (pendings_view mid, formula_view a)
+pub close_stops : (ws : List Waiting) (e : Formula) (mid rest : List Pending) (last : Pending) (a : Expression)
+    → unwind 0 ws e ≡ (pendings_view mid, formula_view a)
     → mid ≡ rest ++ last ∷ [] → is_bracket (pending_view last) ≡ false → closed (unwind 0 ws e) ≡ Err ExpectedOperator
 close_stops ws e mid rest last a u is found = close_taken ws e mid rest last a false u is found
 
-pub close_step : (ws : List Waiting) (e : Formula) (mid rest : List Pending) (last : Pending) (a : Expression) → unwind 0 ws e ≡ (pendings_view mid, formula_view a)
-    → mid ≡ rest ++ last ∷ [] → is_bracket (pending_view last) ≡ true → closed (unwind 0 ws e) ≡ Ok (has (pendings_view rest) (formula_view a))
+pub close_step : (ws : List Waiting) (e : Formula) (mid rest : List Pending) (last : Pending) (a : Expression)
+    → unwind 0 ws e ≡ (pendings_view mid, formula_view a)
+    → mid ≡ rest ++ last ∷ [] → is_bracket (pending_view last) ≡ true
+    → closed (unwind 0 ws e) ≡ Ok (has (pendings_view rest) (formula_view a))
 close_step ws e mid rest last a u is found = close_taken ws e mid rest last a true u is found
 
 -- what the end does: where nothing waits, and where something does
-pub ends_whole : (ws : List Waiting) (e : Formula) (mid : List Pending) (a : Expression) → unwind 0 ws e ≡ (pendings_view mid, formula_view a) → mid ≡ []
+pub ends_whole : (ws : List Waiting) (e : Formula) (mid : List Pending) (a : Expression)
+    → unwind 0 ws e ≡ (pendings_view mid, formula_view a) → mid ≡ []
     → finished (unwind 0 ws e) ≡ Ok (formula_view a)
 ends_whole ws e mid a u is = ap finished u ∙ ap (λ ps. whole (pendings_view ps) (formula_view a)) is
 
-pub ends_unfinished : (ws : List Waiting) (e : Formula) (mid rest : List Pending) (last : Pending) (a : Expression) → unwind 0 ws e ≡ (pendings_view mid, formula_view a)
+pub ends_unfinished : (ws : List Waiting) (e : Formula) (mid rest : List Pending) (last : Pending) (a : Expression)
+    → unwind 0 ws e ≡ (pendings_view mid, formula_view a)
     → mid ≡ rest ++ last ∷ [] → finished (unwind 0 ws e) ≡ Err Unfinished
 ends_unfinished ws e mid rest last a u is = ap finished u ∙ ap (λ vs. whole vs (formula_view a)) (pushed rest mid last is)
 
 -- nothing waits
 pub none_ends : (m : ℕ) (ps : List Pending) (e : Formula) → ps ≡ [] → unwind m (pendings_view ps) e ≡ (pendings_view ps, e)
-none_ends m ps e is = ap (λ (qs : List Pending). unwind m (pendings_view qs) e) is ∙ sym (ap (λ (qs : List Pending). let it : List Waiting × Formula = (pendings_view qs, e) in it) is)
+none_ends m ps e is = ap (λ (qs : List Pending). unwind m (pendings_view qs) e) is
+    ∙ sym (ap (λ (qs : List Pending). let it : List Waiting × Formula = (pendings_view qs, e) in it) is)
 
 -- the innermost ends, or stays
-pub innermost_ends : (m : ℕ) (ws vs : List Waiting) (w : Waiting) (e : Formula) → ws ≡ w ∷ vs → closes m w ≡ true → unwind m ws e ≡ unwind m vs (filled w e)
+pub innermost_ends : (m : ℕ) (ws vs : List Waiting) (w : Waiting) (e : Formula) → ws ≡ w ∷ vs → closes m w ≡ true
+    → unwind m ws e ≡ unwind m vs (filled w e)
 innermost_ends m ws vs w e is passes = ap (λ us. unwind m us e) is ∙ ap (λ b. cond b (unwind m vs (filled w e)) (w ∷ vs, e)) passes
 
-pub innermost_stays : (m : ℕ) (ws vs : List Waiting) (w : Waiting) (e : Formula) → ws ≡ w ∷ vs → closes m w ≡ false → unwind m ws e ≡ (ws, e)
+pub innermost_stays : (m : ℕ) (ws vs : List Waiting) (w : Waiting) (e : Formula) → ws ≡ w ∷ vs → closes m w ≡ false
+    → unwind m ws e ≡ (ws, e)
 innermost_stays m ws vs w e is fails =
-    ap (λ us. unwind m us e) is ∙ ap (λ b. cond b (unwind m vs (filled w e)) (w ∷ vs, e)) fails ∙ sym (ap (λ (us : List Waiting). let it : List Waiting × Formula = (us, e) in it) is)
+    ap (λ us. unwind m us e) is ∙ ap (λ b. cond b (unwind m vs (filled w e)) (w ∷ vs, e)) fails
+    ∙ sym (ap (λ (us : List Waiting). let it : List Waiting × Formula = (us, e) in it) is)
 
 -- ---- The parts of the loop that ends what ends
 
-pub stays_so : (m : ℕ) (old new : List Waiting) (e : Formula) → new ≡ old → ((x : Formula) → unwind m old x ≡ (old, x)) → unwind m old e ≡ (new, e)
+pub stays_so : (m : ℕ) (old new : List Waiting) (e : Formula) → new ≡ old → ((x : Formula) → unwind m old x ≡ (old, x))
+    → unwind m old e ≡ (new, e)
 stays_so m old new e same stops = stops e ∙ sym (ap (λ (us : List Waiting). let it : List Waiting × Formula = (us, e) in it) same)
 
-pub ends_so : (m : ℕ) (old new : List Waiting) (w : Waiting) (e f : Formula) → old ≡ w ∷ new → closes m w ≡ true → f ≡ filled w e → unwind m old e ≡ unwind m new f
+pub ends_so : (m : ℕ) (old new : List Waiting) (w : Waiting) (e f : Formula) → old ≡ w ∷ new → closes m w ≡ true → f ≡ filled w e
+    → unwind m old e ≡ unwind m new f
 ends_so m old new w e f is passes put = innermost_ends m old new w e is passes ∙ sym (ap (unwind m new) put)
 
 pub no_elements : (n : ℕ) (ps : List Pending) → n ≡ length ps → n ≡ 0 → ps ≡ []
@@ -111,10 +136,14 @@ none_popped m old new is none =
     let same : new ≡ old = sym (append-nil new) ∙ sym is in
     (ap pendings_view same, λ e. none_ends m old e none)
 
-pub one_popped : (m : ℕ) (old new : List Pending) (p : Pending) → old ≡ new ++ p ∷ [] → closes m (pending_view p) ≡ true → IsPopped m (pendings_view old) (pendings_view new) (Some p)
+pub one_popped : (m : ℕ) (old new : List Pending) (p : Pending) → old ≡ new ++ p ∷ [] → closes m (pending_view p) ≡ true
+    → IsPopped m (pendings_view old) (pendings_view new) (Some p)
 one_popped m old new p is passes = (pushed new old p is, passes)
 
-pub put_back : (m : ℕ) (old mid new : List Pending) (p : Pending) → old ≡ mid ++ p ∷ [] → new ≡ mid ++ p ∷ [] → closes m (pending_view p) ≡ false
+pub put_back : (m : ℕ) (old mid new : List Pending) (p : Pending) → old ≡ mid ++ p ∷ [] → new ≡ mid ++ p ∷ []
+    → closes m (pending_view p) ≡ false
     → IsPopped m (pendings_view old) (pendings_view new) None
-put_back m old mid new p is put fails =
-    (ap pendings_view (put ∙ sym is), λ e. innermost_stays m (pendings_view old) (pendings_view mid) (pending_view p) e (pushed mid old p is) fails)
+put_back m old mid new p is put fails = (
+  ap pendings_view (put ∙ sym is),
+  λ e. innermost_stays m (pendings_view old) (pendings_view mid) (pending_view p) e (pushed mid old p is) fails,
+)

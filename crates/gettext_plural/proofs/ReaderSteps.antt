@@ -15,14 +15,16 @@ use Rattle.gettext_plural.proofs.TokenCuts.{front_ends, tokens_exist}
 pub none_taken : (text : List ℕ) → HasTaken text (expects []) text
 none_taken text = record { taken = []; parts = refl; goes_on = λ ts cut. record { all = ts; cut = cut; same = refl } }
 
-pub blank_taken : (text : List ℕ) (s : Stage) (b : ℕ) (rest : List ℕ) → is_end (b ∷ rest) ≡ false → is_blank b ≡ true → HasTaken text s (b ∷ rest) → HasTaken text s rest
+pub blank_taken : (text : List ℕ) (s : Stage) (b : ℕ) (rest : List ℕ) → is_end (b ∷ rest) ≡ false → is_blank b ≡ true
+    → HasTaken text s (b ∷ rest) → HasTaken text s rest
 blank_taken text s b rest not_last white h = record {
   taken = h.taken ++ b ∷ [];
   parts = h.parts ∙ sym (append_assoc h.taken (b ∷ []) rest);
   goes_on = λ ts cut. h.goes_on ts (at_blank b rest ts not_last white cut);
 }
 
-pub token_taken : (text : List ℕ) (s next : Stage) (b : ℕ) (rest after : List ℕ) (t : Token) → is_end (b ∷ rest) ≡ false → is_blank b ≡ false → t ≡ (front b rest).0
+pub token_taken : (text : List ℕ) (s next : Stage) (b : ℕ) (rest after : List ℕ) (t : Token) → is_end (b ∷ rest) ≡ false
+    → is_blank b ≡ false → t ≡ (front b rest).0
     → after ≡ (front b rest).1 → step s t ≡ Ok next → HasTaken text s (b ∷ rest) → HasTaken text next after
 unfolding run
 token_taken text s next b rest after t not_last black first behind does h =
@@ -43,7 +45,8 @@ token_taken text s next b rest after t not_last black first behind does h =
     }
 
 -- a token at which the reader stops
-pub token_stops : (text : List ℕ) (s : Stage) (b : ℕ) (rest : List ℕ) (t : Token) (kind : FaultKind) → is_end (b ∷ rest) ≡ false → is_blank b ≡ false
+pub token_stops : (text : List ℕ) (s : Stage) (b : ℕ) (rest : List ℕ) (t : Token) (kind : FaultKind) → is_end (b ∷ rest) ≡ false
+    → is_blank b ≡ false
     → t ≡ (front b rest).0 → step s t ≡ Err kind → HasTaken text s (b ∷ rest) → Stops text kind (length (b ∷ rest))
 unfolding run
 token_stops text s b rest t kind not_last black first does h =
@@ -63,7 +66,8 @@ token_stops text s b rest t kind not_last black first does h =
       stops = k.same ∙ ap (λ r. proceed ((front b rest).0 ∷ ts.0) r (λ n. run n ts.0)) (subst Q first does);
     }
 
-pub end_stops : (text : List ℕ) (s : Stage) (rest : List ℕ) (kind : FaultKind) → is_end rest ≡ true → finish s ≡ Err kind → HasTaken text s rest → Stops text kind (length rest)
+pub end_stops : (text : List ℕ) (s : Stage) (rest : List ℕ) (kind : FaultKind) → is_end rest ≡ true → finish s ≡ Err kind
+    → HasTaken text s rest → Stops text kind (length rest)
 unfolding run
 end_stops text s rest kind is_last does h =
     let k = h.goes_on [] (at_end rest is_last) in
@@ -79,14 +83,16 @@ end_stops text s rest kind is_last does h =
       stops = k.same ∙ ap ended does;
     }
 
-pub end_reads : (text : List ℕ) (s : Stage) (rest : List ℕ) (e : Formula) → is_end rest ≡ true → finish s ≡ Ok e → HasTaken text s rest → Reads text e
+pub end_reads : (text : List ℕ) (s : Stage) (rest : List ℕ) (e : Formula) → is_end rest ≡ true → finish s ≡ Ok e → HasTaken text s rest
+    → Reads text e
 unfolding run
 end_reads text s rest e is_last does h =
     let k = h.goes_on [] (at_end rest is_last) in
     (k.all, k.cut, k.same ∙ ap ended does)
 
 -- an error of a token is a fault where the text stops, or out of memory
-pub error_stops : (text : List ℕ) (s : Stage) (b : ℕ) (rest : List ℕ) (t : Token) (n : ℕ) (e : ReadError) → is_end (b ∷ rest) ≡ false → is_blank b ≡ false
+pub error_stops : (text : List ℕ) (s : Stage) (b : ℕ) (rest : List ℕ) (t : Token) (n : ℕ) (e : ReadError) → is_end (b ∷ rest) ≡ false
+    → is_blank b ≡ false
     → t ≡ (front b rest).0 → n ≡ length (b ∷ rest) → IsFaultOr (step s t) n e → HasTaken text s (b ∷ rest) → IsStopped text e
 error_stops text s b rest t n read.Memory not_last black first size does h = tt
 error_stops text s b rest t n (read.Fault f) not_last black first size does h =
@@ -94,7 +100,8 @@ error_stops text s b rest t n (read.Fault f) not_last black first size does h =
     subst P (sym (does.0 ∙ size)) (token_stops text s b rest t f.kind not_last black first does.1 h)
 
 -- what the end returns is what is read
-pub finish_reads : (text : List ℕ) (s : Stage) (rest : List ℕ) (n : ℕ) (r : Result Expression ReadError) → is_end rest ≡ true → n ≡ length rest → IsFinish s n r
+pub finish_reads : (text : List ℕ) (s : Stage) (rest : List ℕ) (n : ℕ) (r : Result Expression ReadError) → is_end rest ≡ true
+    → n ≡ length rest → IsFinish s n r
     → HasTaken text s rest → IsReading text r
 finish_reads text s rest n (Ok e) is_last size does h = end_reads text s rest (formula_view e) is_last does h
 finish_reads text s rest n (Err read.Memory) is_last size does h = tt

@@ -33,7 +33,8 @@ mark_ends (paired c long short) (b ∷ s) = either_front (nat_eq b c) (b ∷ s) 
 
 pub front_ends : (b : ℕ) (s : List ℕ) → IsBehind s (front b s).1
 front_ends b s =
-    either_front (is_digit b) s (number_token (number_with (b - 48) s), behind_digits s) (mark_front (mark_of b marks) s) (digits_end s) (mark_ends (mark_of b marks) s)
+    either_front (is_digit b) s (number_token (number_with (b - 48) s), behind_digits s) (mark_front (mark_of b marks) s)
+    (digits_end s) (mark_ends (mark_of b marks) s)
 
 -- ---- There are tokens
 
@@ -48,7 +49,8 @@ tokens_within (suc n) (b ∷ s) le =
     ⊎_elim
     (λ is_last. ([], at_end (b ∷ s) is_last))
     (λ not_last.
-    ⊎_elim (λ white. (rest.0, at_blank b s rest.0 not_last white rest.1)) (λ black. ((front b s).0 ∷ more.0, at_token b s more.0 not_last black more.1)) (told (is_blank b)))
+    ⊎_elim (λ white. (rest.0, at_blank b s rest.0 not_last white rest.1))
+    (λ black. ((front b s).0 ∷ more.0, at_token b s more.0 not_last black more.1)) (told (is_blank b)))
     (told (is_end (b ∷ s)))
 
 pub tokens_exist : (s : List ℕ) → (ts : List Token) × AreTokensOf s ts
@@ -61,7 +63,8 @@ no_tokens s ts is_last (at_end r e) = refl
 no_tokens s ts is_last (at_blank b r us e white more) = absurd cc
 no_tokens s ts is_last (at_token b r us e black more) = absurd cc
 
-behind_blank : (b : ℕ) (s x : List ℕ) (ts : List Token) → x ≡ b ∷ s → is_end (b ∷ s) ≡ false → is_blank b ≡ true → AreTokensOf x ts → AreTokensOf s ts
+behind_blank : (b : ℕ) (s x : List ℕ) (ts : List Token) → x ≡ b ∷ s → is_end (b ∷ s) ≡ false → is_blank b ≡ true → AreTokensOf x ts
+    → AreTokensOf s ts
 behind_blank b s x ts is not_last white (at_end r e) = let same = ap is_end is in absurd cc
 behind_blank b s x ts is not_last white (at_blank a r us e w more) =
     let same : r ≡ s = cc in
@@ -77,7 +80,8 @@ record FirstOf (b : ℕ) (s : List ℕ) (ts : List Token) : Type 0 where
   is : ts ≡ (front b s).0 ∷ rest
   there : AreTokensOf (front b s).1 rest
 
-first_token : (b : ℕ) (s x : List ℕ) (ts : List Token) → x ≡ b ∷ s → is_end (b ∷ s) ≡ false → is_blank b ≡ false → AreTokensOf x ts → FirstOf b s ts
+first_token : (b : ℕ) (s x : List ℕ) (ts : List Token) → x ≡ b ∷ s → is_end (b ∷ s) ≡ false → is_blank b ≡ false → AreTokensOf x ts
+    → FirstOf b s ts
 first_token b s x ts is not_last black (at_end r e) = let same = ap is_end is in absurd cc
 first_token b s x ts is not_last black (at_blank a r us e white more) =
     let same : a ≡ b = cc in

@@ -39,7 +39,8 @@ one_expression text a b h k =
     let equal : Ok a ≡ Ok b = alike ∙ second in
     cc
 
-first_fault : (text : List ℕ) (all more : List Token) (kind : FaultKind) (taken rest : List ℕ) → AreTokensOf text all → text ≡ taken ++ rest → AreTokensOf rest more
+first_fault : (text : List ℕ) (all more : List Token) (kind : FaultKind) (taken rest : List ℕ) → AreTokensOf text all
+    → text ≡ taken ++ rest → AreTokensOf rest more
     → IsFirst all kind more → HasExpressionFault text kind (length rest)
 first_fault text all more kind taken rest cut parts there f =
     let P : List Token → Type 0 = λ ts. AreTokensOf text ts in
@@ -70,7 +71,8 @@ none_there before [] e none s =
 none_there before (t ∷ more) e none s = none more e s
 
 -- an expression has no fault
-no_expression_fault : (text : List ℕ) (e : Formula) (kind : FaultKind) (left : ℕ) → IsExpression text e → HasExpressionFault text kind left → ⊥
+no_expression_fault : (text : List ℕ) (e : Formula) (kind : FaultKind) (left : ℕ) → IsExpression text e
+    → HasExpressionFault text kind left → ⊥
 no_expression_fault text e kind left h f =
     let same : h.0 ≡ f.before ++ f.more = one_cut text h.0 (f.before ++ f.more) h.1 f.cut in
     let P : List Token → Type 0 = λ ts. Spells 0 ts e in
@@ -116,8 +118,10 @@ one_thing text a b h k =
     let rests : h.rest ≡ k.rest = same.1 in
     let P : List ℕ → Type 0 = λ s. IsExpression s a.formula in
     let formulas : a.formula ≡ b.formula = one_expression k.rest a.formula b.formula (subst P rests h.spelled) k.spelled in
-    let first : a ≡ record { count = b.count; formula = a.formula } = ap (λ n. let f : Forms = record { count = n; formula = a.formula } in f) counts in
-    let second : record { count = b.count; formula = a.formula } ≡ b = ap (λ e. let f : Forms = record { count = b.count; formula = e } in f) formulas in
+    let first : a ≡ record { count = b.count; formula = a.formula } =
+    ap (λ n. let f : Forms = record { count = n; formula = a.formula } in f) counts in
+    let second : record { count = b.count; formula = a.formula } ≡ b =
+    ap (λ e. let f : Forms = record { count = b.count; formula = e } in f) formulas in
     first ∙ second
 
 fault_apart : (text : List ℕ) (forms : Forms) (kind : FaultKind) (left : ℕ) → IsPluralForms text forms → HasFaultBefore text kind left → ⊥
@@ -147,17 +151,25 @@ exactly text r h = record { only = h; read = read_only text r h }
 -- a text that isn't too long, and is read
 pub read_exactly : (text : List ℕ) (forms : Forms) → length text ≤ SIZE_LIMIT → HasRead text forms → ParsesExactly text (Ok forms)
 read_exactly text forms short h =
-    exactly text (Ok forms) (record { short = short; rest = h.rest; begins = h.begins; spelled = is_expression h.rest forms.formula h.reads })
+    exactly text (Ok forms) (record {
+      short = short;
+      rest = h.rest;
+      begins = h.begins;
+      spelled = is_expression h.rest forms.formula h.reads;
+    })
 
 fault_before : (text : List ℕ) (f : Fault) → IsParsedError text (read.Fault f) → HasFaultBefore text f.kind f.left
 fault_before text f (inl stops) = inl stops
-fault_before text f (inr b) = inr (record { count = b.count; rest = b.rest; begins = b.begins; fault = is_fault b.rest f.kind f.left b.stops })
+fault_before text f (inr b) =
+    inr (record { count = b.count; rest = b.rest; begins = b.begins; fault = is_fault b.rest f.kind f.left b.stops })
 
 -- one at which the reader stops
-pub stopped_exactly : (text : List ℕ) (e : ReadError) → length text ≤ SIZE_LIMIT → IsParsedError text e → ParsesExactly text (Err (error_at text e))
+pub stopped_exactly : (text : List ℕ) (e : ReadError) → length text ≤ SIZE_LIMIT → IsParsedError text e
+    → ParsesExactly text (Err (error_at text e))
 stopped_exactly text read.Memory short h = exactly text (Err errors.Memory) tt
 stopped_exactly text (read.Fault f) short h =
-    let within : HasFaultWithin text f.kind (length text - f.left) = record { short = short; left = f.left; stops = fault_before text f h; place_is = refl } in
+    let within : HasFaultWithin text f.kind (length text - f.left) =
+    record { short = short; left = f.left; stops = fault_before text f h; place_is = refl } in
     exactly text (Err (errors.Fault f.kind (length text - f.left))) (inr within, omega arith)
 
 pub too_long : (text : List ℕ) → SIZE_LIMIT < length text → ParsesExactly text (Err (errors.Fault TooLong SIZE_LIMIT))
@@ -166,13 +178,24 @@ too_long text long = exactly text (Err (errors.Fault TooLong SIZE_LIMIT)) (inl (
 -- ---- Each text
 
 header_told : (text : List ℕ) (r : Result (ℕ × List ℕ) Fault) → length text ≤ SIZE_LIMIT → header text ≡ r → SaysOrFails text
-header_told text (Err f) short is = inr (f.kind, length text - f.left, inr (record { short = short; left = f.left; stops = inl is; place_is = refl }))
+header_told text (Err f) short is =
+    inr (f.kind, length text - f.left, inr (record { short = short; left = f.left; stops = inl is; place_is = refl }))
 header_told text (Ok (count, rest)) short is =
     ⊎_elim
     (λ h. inl (record { count = count; formula = h.0 }, record { short = short; rest = rest; begins = is; spelled = h.1 }))
-    (λ f. inr (f.0, length text - f.1, inr (record { short = short; left = f.1; stops = inr (record { count = count; rest = rest; begins = is; fault = f.2 }); place_is = refl })))
+    (λ f. inr (
+      f.0,
+      length text - f.1,
+      inr (record {
+        short = short;
+        left = f.1;
+        stops = inr (record { count = count; rest = rest; begins = is; fault = f.2 });
+        place_is = refl;
+      }),
+    ))
     (told rest)
 
 pub says_or_fails : (text : List ℕ) → SaysOrFails text
 says_or_fails text =
-    ⊎_elim (λ long. inr (TooLong, SIZE_LIMIT, inl (long, refl, refl))) (λ short. header_told text (header text) short refl) (cases_lt SIZE_LIMIT (length text))
+    ⊎_elim (λ long. inr (TooLong, SIZE_LIMIT, inl (long, refl, refl))) (λ short. header_told text (header text) short refl)
+    (cases_lt SIZE_LIMIT (length text))

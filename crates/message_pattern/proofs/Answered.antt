@@ -20,7 +20,8 @@ as_read : {formats : Formats} (text : List ℕ) (parts : List Part) → IsTextOf
 as_read text parts h = read_again [] h
 
 -- what is read is a pattern of the grammar
-pub in_grammar : {formats : Formats} (text rest : List ℕ) (parts : List Part) → ReadsText formats text (Read parts rest) → IsTextOf formats text parts
+pub in_grammar : {formats : Formats} (text rest : List ℕ) (parts : List Part) → ReadsText formats text (Read parts rest)
+    → IsTextOf formats text parts
 in_grammar {formats = formats} text rest parts r =
     let h = reading_in r (InMessage Whole 0 false) text refl in
     let k = subst (λ (l : List Part). IsReadAt formats (InMessage Whole 0 false) text l rest) (sym h.1) h.2 in
@@ -32,7 +33,8 @@ one_list text a b h k =
     let e : Read a [] ≡ Read b [] = one_outcome (as_read text a h) (as_read text b k) in cc
 
 -- a pattern has no fault
-pub no_fault : {formats : Formats} (text : List ℕ) (a : List Part) (kind : FaultKind) (place : ℕ) → IsTextOf formats text a → HasFault formats text kind place → ⊥
+pub no_fault : {formats : Formats} (text : List ℕ) (a : List Part) (kind : FaultKind) (place : ℕ) → IsTextOf formats text a
+    → HasFault formats text kind place → ⊥
 no_fault text a kind place h k =
     let e : Read a [] ≡ Faulty k.0 = one_outcome (as_read text a h) k.1 in cc
 
@@ -61,7 +63,8 @@ fault_only text (Err (errors.Fault kind' place')) h kind place k =
 fault_only text (Err errors.Memory) h kind place k = inr refl
 
 -- an answer is exactly what the text is read as
-pub answers : {formats : Formats} (text : List ℕ) (r : Result (List Part) error.PatternError) → IsWhatIsRead formats text r → ReadsExactly formats text r
+pub answers : {formats : Formats} (text : List ℕ) (r : Result (List Part) error.PatternError) → IsWhatIsRead formats text r
+    → ReadsExactly formats text r
 answers text r h = record { only = h; read = read_only text r h; fault = fault_only text r h }
 
 outcome_is : {formats : Formats} (text : List ℕ) (o : ReadOutcome) → ReadsText formats text o → IsReadOrFaulty formats text

@@ -20,14 +20,16 @@ not_two w v e = rw e
 not_both : (w v u : Bool) → v ≡ false → u ≡ false → ◌≡◌ {A = ℕ} (if w then 1 else if v then 2 else if u then 3 else 0) (if w then 1 else 0)
 not_both w v u e f = rw (e, f)
 
-not_three : (w v u : Bool) → u ≡ false → ◌≡◌ {A = ℕ} (if w then 1 else if v then 2 else if u then 3 else 0) (if w then 1 else if v then 2 else 0)
+not_three : (w v u : Bool) → u ≡ false
+    → ◌≡◌ {A = ℕ} (if w then 1 else if v then 2 else if u then 3 else 0) (if w then 1 else if v then 2 else 0)
 not_three w v u f = rw f
 
 -- white space in front is that before the brace
 width_before : (b : ℕ) (v r : List ℕ) → white_width (b ∷ (v ++ closing ∷ r)) ≡ white_width (b ∷ v)
 width_before b [] [] = not_two (is_between 9 13 b || b == 32) (b == 0xc2 && false) (and_no (b == 0xc2))
 width_before b [] (c ∷ r) =
-    not_both (is_between 9 13 b || b == 32) (b == 0xc2 && false) ((b == 0xe2 && false) && (is_between 0x8e 0x8f c || is_between 0xa8 0xa9 c))
+    not_both (is_between 9 13 b || b == 32) (b == 0xc2 && false)
+    ((b == 0xe2 && false) && (is_between 0x8e 0x8f c || is_between 0xa8 0xa9 c))
     (and_no (b == 0xc2)) (ap (λ (v : Bool). v && (is_between 0x8e 0x8f c || is_between 0xa8 0xa9 c)) (and_no (b == 0xe2)))
 width_before b (a ∷ []) r =
     not_three (is_between 9 13 b || b == 32) (b == 0xc2 && a == 0x85) ((b == 0xe2 && a == 0x80) && false) (and_no (b == 0xe2 && a == 0x80))
@@ -52,7 +54,8 @@ width_fits : (b : ℕ) (s : List ℕ) → white_width (b ∷ s) ≤ length (b �
 width_fits b [] = one_fits (is_between 9 13 b || b == 32)
 width_fits b (a ∷ []) = two_fit (is_between 9 13 b || b == 32) (b == 0xc2 && a == 0x85)
 width_fits b (a ∷ c ∷ s) =
-    three_fit (is_between 9 13 b || b == 32) (b == 0xc2 && a == 0x85) ((b == 0xe2 && a == 0x80) && (is_between 0x8e 0x8f c || is_between 0xa8 0xa9 c)) s
+    three_fit (is_between 9 13 b || b == 32) (b == 0xc2 && a == 0x85)
+    ((b == 0xe2 && a == 0x80) && (is_between 0x8e 0x8f c || is_between 0xa8 0xa9 c)) s
 
 if_before : (v : Bool) (x y e : List ℕ) → (if v then x ++ e else y ++ e) ≡ (if v then x else y) ++ e
 if_before true x y e = refl
@@ -99,7 +102,8 @@ behind_before k f (b ∷ v) r =
     ∙ if_before (begins k (b ∷ v)) (behind_run k v) (b ∷ v) (closing ∷ r))
 
 -- a longest front is one before the brace
-pub longest_before : (k : Class) → EndsAtBrace k → (s w t r : List ℕ) → IsLongest k s w t → IsLongest k (s ++ closing ∷ r) w (t ++ closing ∷ r)
+pub longest_before : (k : Class) → EndsAtBrace k → (s w t r : List ℕ) → IsLongest k s w t
+    → IsLongest k (s ++ closing ∷ r) w (t ++ closing ∷ r)
 longest_before k f s w t r l =
     let z = s ++ closing ∷ r in
     subst (λ (u : List ℕ). IsLongest k z u (t ++ closing ∷ r)) (front_before k f s r ∙ longest_run k s w t l)

@@ -33,9 +33,11 @@ name_again s name t h =
 abbrev after_type : List ℕ → Bool → Option ArgumentKind → List ℕ → Result (ArgumentKind × List ℕ) Fault
 after_type s a k r = if a then Err (missing ExpectedType s) else kind_before s k r
 
-kind_again : (s : List ℕ) (kind : ArgumentKind) (v w : List ℕ) → IsArgumentType s kind v → after_white v ≡ comma ∷ w → kind_front s ≡ Ok (kind, w)
+kind_again : (s : List ℕ) (kind : ArgumentKind) (v w : List ℕ) → IsArgumentType s kind v → after_white v ≡ comma ∷ w
+    → kind_front s ≡ Ok (kind, w)
 kind_again s kind v w h e =
-    ap (λ (x : List ℕ). after_type s (is_empty_text x) (kind_named x) (after_white (behind_run Letter s))) (longest_run Letter s h.word v h.letters)
+    ap (λ (x : List ℕ). after_type s (is_empty_text x) (kind_named x) (after_white (behind_run Letter s)))
+    (longest_run Letter s h.word v h.letters)
     ∙ (ap (λ (a : Bool). after_type s a (kind_named h.word) (after_white (behind_run Letter s))) (empty_false h.word h.nonempty)
     ∙ (ap (λ (k : Option ArgumentKind). after_type s false k (after_white (behind_run Letter s))) h.named
     ∙ (ap (λ (u : List ℕ). after_type s false (Some kind) (after_white u)) (longest_rest Letter s h.word v h.letters)
@@ -67,7 +69,8 @@ offset_again Ordinal s offset rest h = value_again (after_white s) offset rest h
 pub plain_again : (formats : Formats) (s name t rest : List ℕ) → IsNameOrNumber (after_white s) name t → after_white t ≡ closing ∷ rest
     → head_front formats s ≡ Ok (Plain name, rest)
 plain_again formats s name t rest h e =
-    ap (λ (r : Result (List ℕ × List ℕ) Fault). and_then r (λ n. behind_name formats (after_white s) n.0 n.1)) (name_again (after_white s) name t h)
+    ap (λ (r : Result (List ℕ × List ℕ) Fault). and_then r (λ n. behind_name formats (after_white s) n.0 n.1))
+    (name_again (after_white s) name t h)
     ∙ ap (λ (r : List ℕ). behind_name formats (after_white s) name r) e
 
 -- ---- with a type
@@ -93,13 +96,15 @@ pub choice_again : (formats : Formats) (kind : ArgumentKind) (offset : Option (L
     → IsNameOrNumber (after_white s) name t → after_white t ≡ comma ∷ u → IsArgumentType (after_white u) kind v → after_white v ≡ comma ∷ w
     → IsOffset kind w offset x → head_front formats s ≡ Ok (Choice kind name offset, x)
 choice_again formats kind offset s name t u v w x h e i f o =
-    ap (λ (r : Result (List ℕ × List ℕ) Fault). and_then r (λ n. behind_name formats (after_white s) n.0 n.1)) (name_again (after_white s) name t h)
+    ap (λ (r : Result (List ℕ × List ℕ) Fault). and_then r (λ n. behind_name formats (after_white s) n.0 n.1))
+    (name_again (after_white s) name t h)
     ∙ (ap (λ (r : List ℕ). behind_name formats (after_white s) name r) e
     ∙ (typed_again formats (after_white s) name u kind v i
     ∙ (ap
     (λ (r : Result (ArgumentKind × List ℕ) Fault). and_then r (λ k. and_then (offset_front k.0 k.1) (λ y. Ok (Choice k.0 name y.0, y.1))))
     (kind_again (after_white u) kind v w i f)
-    ∙ ap (λ (r : Result (Option (List ℕ) × List ℕ) Fault). and_then r (λ y. Ok (Choice kind name y.0, y.1))) (offset_again kind w offset x o))))
+    ∙ ap (λ (r : Result (Option (List ℕ) × List ℕ) Fault). and_then r (λ y. Ok (Choice kind name y.0, y.1)))
+    (offset_again kind w offset x o))))
 
 -- ---- with a simple format
 
@@ -110,10 +115,12 @@ plain_of text rest = Ok (Plain text, rest)
 style_again : (argument text rest s : List ℕ) (style : Option (List ℕ)) → argument ≡ text ++ closing ∷ rest → IsStyleBehind s style
     → simple_front argument (s ++ closing ∷ rest) ≡ Ok (Plain text, rest)
 style_again argument text rest s None e h =
-    ap (λ (l : List ℕ). simple_front argument (l ++ closing ∷ rest)) h ∙ ap (λ (l : List ℕ). plain_of l rest) (before_is argument text rest e)
+    ap (λ (l : List ℕ). simple_front argument (l ++ closing ∷ rest)) h
+    ∙ ap (λ (l : List ℕ). plain_of l rest) (before_is argument text rest e)
 style_again argument text rest s (Some style) e h =
     ap (λ (l : List ℕ). simple_front argument (l ++ closing ∷ rest)) h.0
-    ∙ (ap (λ (o : Option (List ℕ)). styled_front argument o) (style_complete rest h.1) ∙ ap (λ (l : List ℕ). plain_of l rest) (before_is argument text rest e))
+    ∙ (ap (λ (o : Option (List ℕ)). styled_front argument o) (style_complete rest h.1)
+    ∙ ap (λ (l : List ℕ). plain_of l rest) (before_is argument text rest e))
 
 typed_simple : (argument name u text word v rest : List ℕ) (style : Option (List ℕ)) → argument ≡ text ++ closing ∷ rest
     → IsSimpleType (after_white u) word v → IsStyleBehind (after_white v) style
@@ -121,15 +128,19 @@ typed_simple : (argument name u text word v rest : List ℕ) (style : Option (Li
 typed_simple argument name u text word v rest style e h k =
     let white = white_before u rest in
     let l = longest_before Letter letters_end (after_white u) word v rest h.letters in
-    ap (λ (s : List ℕ). if is_simple_type (class_front Letter s) then simple_front argument (after_white (behind_run Letter s)) else choice_front name (u ++ closing ∷ rest)) white
+    ap (λ (s : List ℕ). if is_simple_type (class_front Letter s) then simple_front argument (after_white (behind_run Letter s))
+    else choice_front name (u ++ closing ∷ rest)) white
     ∙ (ap
     (λ (w : List ℕ).
-    if is_simple_type w then simple_front argument (after_white (behind_run Letter (after_white u ++ closing ∷ rest))) else choice_front name (u ++ closing ∷ rest))
+    if is_simple_type w then simple_front argument (after_white (behind_run Letter (after_white u ++ closing ∷ rest)))
+    else choice_front name (u ++ closing ∷ rest))
     (longest_run Letter (after_white u ++ closing ∷ rest) word (v ++ closing ∷ rest) l)
     ∙ (ap
-    (λ (b : Bool). if b then simple_front argument (after_white (behind_run Letter (after_white u ++ closing ∷ rest))) else choice_front name (u ++ closing ∷ rest))
+    (λ (b : Bool). if b then simple_front argument (after_white (behind_run Letter (after_white u ++ closing ∷ rest)))
+    else choice_front name (u ++ closing ∷ rest))
     h.simple
-    ∙ (ap (λ (s : List ℕ). simple_front argument (after_white s)) (longest_rest Letter (after_white u ++ closing ∷ rest) word (v ++ closing ∷ rest) l)
+    ∙ (ap (λ (s : List ℕ). simple_front argument (after_white s))
+    (longest_rest Letter (after_white u ++ closing ∷ rest) word (v ++ closing ∷ rest) l)
     ∙ (ap (λ (s : List ℕ). simple_front argument s) (white_before v rest) ∙ style_again argument text rest (after_white v) style e k))))
 
 allowed_again : (s text name word rest : List ℕ) (style : Option (List ℕ)) → after_white s ≡ text ++ closing ∷ rest
@@ -137,12 +148,19 @@ allowed_again : (s text name word rest : List ℕ) (style : Option (List ℕ)) �
 allowed_again s text name word rest style e h =
     let n : IsNameOrNumber (after_white s) name (h.behind_name ++ closing ∷ rest) =
     subst (λ (l : List ℕ). IsNameOrNumber l name (h.behind_name ++ closing ∷ rest)) (sym e)
-    (record { bytes = longest_before Name name_ends text name h.behind_name rest h.named.bytes; nonempty = h.named.nonempty; no_zeros = h.named.no_zeros }) in
-    ap (λ (r : Result (List ℕ × List ℕ) Fault). and_then r (λ x. behind_name Allowed (after_white s) x.0 x.1)) (name_again (after_white s) name (h.behind_name ++ closing ∷ rest) n)
-    ∙ (ap (λ (r : List ℕ). behind_name Allowed (after_white s) name r) (white_before h.behind_name rest ∙ ap (λ (l : List ℕ). l ++ closing ∷ rest) h.comma_there)
+    (record {
+      bytes = longest_before Name name_ends text name h.behind_name rest h.named.bytes;
+      nonempty = h.named.nonempty;
+      no_zeros = h.named.no_zeros;
+    }) in
+    ap (λ (r : Result (List ℕ × List ℕ) Fault). and_then r (λ x. behind_name Allowed (after_white s) x.0 x.1))
+    (name_again (after_white s) name (h.behind_name ++ closing ∷ rest) n)
+    ∙ (ap (λ (r : List ℕ). behind_name Allowed (after_white s) name r)
+    (white_before h.behind_name rest ∙ ap (λ (l : List ℕ). l ++ closing ∷ rest) h.comma_there)
     ∙ typed_simple (after_white s) name h.behind_comma text word h.behind_type rest style e h.typed h.styled)
 
-pub simple_again : {formats : Formats} (s text name word rest : List ℕ) (style : Option (List ℕ)) → formats ≡ Allowed → after_white s ≡ text ++ closing ∷ rest
+pub simple_again : {formats : Formats} (s text name word rest : List ℕ) (style : Option (List ℕ)) → formats ≡ Allowed
+    → after_white s ≡ text ++ closing ∷ rest
     → IsSimpleText text name word style → head_front formats s ≡ Ok (Plain text, rest)
 simple_again {formats = formats} s text name word rest style a e h =
     ap (λ (f : Formats). head_front f s) a ∙ allowed_again s text name word rest style e h
@@ -152,7 +170,8 @@ simple_again {formats = formats} s text name word rest style a e h =
 abbrev after_number : List ℕ → Bool → List ℕ → List ℕ → Result (Selector × List ℕ) Fault
 after_number s a n r = if a then Ok (Exactly n, r) else Err (missing ExpectedValue s)
 
-exact_again : (s number rest : List ℕ) → IsLongest Number s number rest → is_number number ≡ true → exact_front s ≡ Ok (Exactly number, rest)
+exact_again : (s number rest : List ℕ) → IsLongest Number s number rest → is_number number ≡ true
+    → exact_front s ≡ Ok (Exactly number, rest)
 exact_again s number rest l n =
     ap (λ (x : List ℕ). after_number s (is_number x) x (behind_run Number s)) (longest_run Number s number rest l)
     ∙ (ap (λ (r : List ℕ). after_number s (is_number number) number r) (longest_rest Number s number rest l)
@@ -196,7 +215,8 @@ selector_again kind s (Keyword (b ∷ word)) t h = record {
   whole = h.0.whole;
   no_end = not_by b closing (word ++ t) (b == closing) refl (longest_begins Name s b word t h.0) refl;
   reads =
-      ap (λ (v : Bool). if v && is_counting kind then exact_front (word ++ t) else keyword_front (b ∷ (word ++ t))) (not_by b equals (word ++ t) (b == equals) refl (longest_begins Name s b word t h.0) refl)
+      ap (λ (v : Bool). if v && is_counting kind then exact_front (word ++ t) else keyword_front (b ∷ (word ++ t)))
+      (not_by b equals (word ++ t) (b == equals) refl (longest_begins Name s b word t h.0) refl)
       ∙ subst (λ (u : List ℕ). keyword_front u ≡ Ok (Keyword (b ∷ word), t)) h.0.whole (keyword_again s (b ∷ word) t h.0 h.1);
 }
 
@@ -213,5 +233,6 @@ opens_again kind other s t u sel i e =
     ∙ (ap (λ (r : Result (Selector × List ℕ) Fault). and_then r (λ y. branch_opens y.0 (after_white y.1))) b.reads
     ∙ ap (λ (l : List ℕ). branch_opens sel l) e))
 
-pub closes_again : (kind : ArgumentKind) (s rest : List ℕ) → after_white s ≡ closing ∷ rest → branch_front kind true s ≡ Ok (branch.Closes rest)
+pub closes_again : (kind : ArgumentKind) (s rest : List ℕ) → after_white s ≡ closing ∷ rest
+    → branch_front kind true s ≡ Ok (branch.Closes rest)
 closes_again kind s rest e = ap (λ (l : List ℕ). next_branch kind true l) e

@@ -56,8 +56,11 @@ name_sound s x e =
 comma_step : (kind : ArgumentKind) (b : ℕ) (s : List ℕ) (v : Bool) (x : ArgumentKind × List ℕ) → (b == comma) ≡ v
     → (if v then Ok (kind, s) else Err (fault_at ExpectedStyle (b ∷ s))) ≡ Ok x → (kind ≡ x.0) × (b ∷ s ≡ comma ∷ x.1)
 comma_step kind b s true x t e =
-    let p : (kind, s) ≡ x = same_ok e in
-    (ap (λ (y : ArgumentKind × List ℕ). y.0) p, ap (λ (c : ℕ). c ∷ s) (eqb-true b comma t) ∙ ap (λ (y : ArgumentKind × List ℕ). comma ∷ y.1) p)
+    let p : (kind, s) ≡ x = same_ok e in (
+      ap (λ (y : ArgumentKind × List ℕ). y.0) p,
+      ap (λ (c : ℕ). c ∷ s) (eqb-true b comma t)
+          ∙ ap (λ (y : ArgumentKind × List ℕ). comma ∷ y.1) p,
+    )
 comma_step kind b s false x t e = absurd (no_ok e)
 
 style_sound : (kind : ArgumentKind) (s : List ℕ) (x : ArgumentKind × List ℕ) → style_front kind s ≡ Ok x → (kind ≡ x.0) × (s ≡ comma ∷ x.1)
@@ -69,13 +72,23 @@ before_sound : (s : List ℕ) (k : Option ArgumentKind) (r : List ℕ) (x : Argu
 before_sound s None r x e = absurd (no_ok e)
 before_sound s (Some kind) r x e = let h = style_sound kind r x e in (ap Some h.0, h.1)
 
-pub kind_sound : (s : List ℕ) (x : ArgumentKind × List ℕ) → kind_front s ≡ Ok x → (t : List ℕ) × IsArgumentType s x.0 t × (after_white t ≡ comma ∷ x.1)
+pub kind_sound : (s : List ℕ) (x : ArgumentKind × List ℕ) → kind_front s ≡ Ok x
+    → (t : List ℕ) × IsArgumentType s x.0 t × (after_white t ≡ comma ∷ x.1)
 kind_sound s x e =
     let g = guard_ok (is_empty_text (class_front Letter s)) (missing ExpectedType s) _ x e in
-    let h = before_sound s (kind_named (class_front Letter s)) (after_white (behind_run Letter s)) x g.1 in
-    (behind_run Letter s, record { word = class_front Letter s; letters = is_longest Letter s; nonempty = nonempty_of (class_front Letter s) g.0; named = h.0 }, h.1)
+    let h = before_sound s (kind_named (class_front Letter s)) (after_white (behind_run Letter s)) x g.1 in (
+      behind_run Letter s,
+      record {
+        word = class_front Letter s;
+        letters = is_longest Letter s;
+        nonempty = nonempty_of (class_front Letter s) g.0;
+        named = h.0;
+      },
+      h.1,
+    )
 
-offset_step : (s : List ℕ) (o : Option (List ℕ)) (x : Option (List ℕ) × List ℕ) → after_word (codes "offset:") s ≡ o → offset_behind o s ≡ Ok x
+offset_step : (s : List ℕ) (o : Option (List ℕ)) (x : Option (List ℕ) × List ℕ) → after_word (codes "offset:") s ≡ o
+    → offset_behind o s ≡ Ok x
     → IsOffsetValue s x.0 x.1
 offset_step s None x h e = subst (λ (y : Option (List ℕ) × List ℕ). IsOffsetValue s y.0 y.1) (same_ok e) (h, refl)
 offset_step s (Some t) x h e =
@@ -91,7 +104,8 @@ offset_sound Ordinal s x e = offset_step (after_white s) (after_word (codes "off
 -- what the grammar says of the text between the braces of an argument
 abbrev pub IsSimple : Formats → List ℕ → List ℕ → List ℕ → Type 0
 IsSimple formats s text rest =
-    (formats ≡ Allowed) × (s ≡ text ++ closing ∷ rest) × (name : List ℕ) × (word : List ℕ) × (style : Option (List ℕ)) × IsSimpleText text name word style
+    (formats ≡ Allowed) × (s ≡ text ++ closing ∷ rest) × (name : List ℕ) × (word : List ℕ) × (style : Option (List ℕ))
+    × IsSimpleText text name word style
 
 -- what it says of the head of an argument
 abbrev pub HeadIs : Formats → List ℕ → Head → List ℕ → Type 0
@@ -99,7 +113,8 @@ HeadIs formats s (Plain name) rest =
     ((t : List ℕ) × IsNameOrNumber (after_white s) name t × (after_white t ≡ closing ∷ rest)) ⊎ IsSimple formats (after_white s) name rest
 HeadIs formats s (Choice kind name offset) rest =
     (t : List ℕ) × (u : List ℕ) × (v : List ℕ) × (w : List ℕ)
-    × IsNameOrNumber (after_white s) name t × (after_white t ≡ comma ∷ u) × IsArgumentType (after_white u) kind v × (after_white v ≡ comma ∷ w)
+    × IsNameOrNumber (after_white s) name t × (after_white t ≡ comma ∷ u) × IsArgumentType (after_white u) kind v
+    × (after_white v ≡ comma ∷ w)
     × IsOffset kind w offset rest
 
 -- what it says behind the name
@@ -109,7 +124,8 @@ BehindName formats argument name s (Choice kind n offset) rest =
     (u : List ℕ) × (v : List ℕ) × (w : List ℕ)
     × (name ≡ n) × (s ≡ comma ∷ u) × IsArgumentType (after_white u) kind v × (after_white v ≡ comma ∷ w) × IsOffset kind w offset rest
 
-choice_sound : (formats : Formats) (argument name : List ℕ) (c : ℕ) (s : List ℕ) (x : Head × List ℕ) → c ≡ comma → choice_front name s ≡ Ok x
+choice_sound : (formats : Formats) (argument name : List ℕ) (c : ℕ) (s : List ℕ) (x : Head × List ℕ) → c ≡ comma
+    → choice_front name s ≡ Ok x
     → BehindName formats argument name (c ∷ s) x.0 x.1
 choice_sound formats argument name c s x h e =
     let k = bind_ok (kind_front (after_white s)) _ x e in
@@ -122,7 +138,8 @@ simple_is : (argument name s : List ℕ) (x : Head × List ℕ) → IsSimpleHead
 simple_is argument name s (Plain text, rest) h = inr (refl, h.0, h.1, h.2, h.3, h.4)
 simple_is argument name s (Choice kind n offset, rest) h = absurd h
 
-typed_step : (argument name t : List ℕ) (c : ℕ) (s : List ℕ) (v : Bool) (x : Head × List ℕ) → IsNameOrNumber argument name t → after_white t ≡ c ∷ s → c ≡ comma
+typed_step : (argument name t : List ℕ) (c : ℕ) (s : List ℕ) (v : Bool) (x : Head × List ℕ) → IsNameOrNumber argument name t
+    → after_white t ≡ c ∷ s → c ≡ comma
     → is_simple_type (class_front Letter (after_white s)) ≡ v
     → (if v then simple_front argument (after_white (behind_run Letter (after_white s))) else choice_front name s) ≡ Ok x
     → BehindName Allowed argument name (c ∷ s) x.0 x.1
@@ -130,23 +147,29 @@ typed_step argument name t c s true x i e h w k =
     simple_is argument name (c ∷ s) x (simple_sound argument name t s x i (e ∙ ap (λ (b : ℕ). b ∷ s) h) w k)
 typed_step argument name t c s false x i e h w k = choice_sound Allowed argument name c s x h k
 
-typed_sound : (formats : Formats) (argument name t : List ℕ) (c : ℕ) (s : List ℕ) (x : Head × List ℕ) → IsNameOrNumber argument name t → after_white t ≡ c ∷ s → c ≡ comma
+typed_sound : (formats : Formats) (argument name t : List ℕ) (c : ℕ) (s : List ℕ) (x : Head × List ℕ) → IsNameOrNumber argument name t
+    → after_white t ≡ c ∷ s → c ≡ comma
     → typed_front formats argument name s ≡ Ok x → BehindName formats argument name (c ∷ s) x.0 x.1
 typed_sound Refused argument name t c s x i e h k = choice_sound Refused argument name c s x h k
-typed_sound Allowed argument name t c s x i e h k = typed_step argument name t c s (is_simple_type (class_front Letter (after_white s))) x i e h refl k
+typed_sound Allowed argument name t c s x i e h k =
+    typed_step argument name t c s (is_simple_type (class_front Letter (after_white s))) x i e h refl k
 
-behind_comma : (formats : Formats) (argument name t : List ℕ) (b : ℕ) (s : List ℕ) (v : Bool) (x : Head × List ℕ) → IsNameOrNumber argument name t → after_white t ≡ b ∷ s
+behind_comma : (formats : Formats) (argument name t : List ℕ) (b : ℕ) (s : List ℕ) (v : Bool) (x : Head × List ℕ)
+    → IsNameOrNumber argument name t → after_white t ≡ b ∷ s
     → (b == comma) ≡ v → (if v then typed_front formats argument name s else Err (fault_at ExpectedEnd (b ∷ s))) ≡ Ok x
     → BehindName formats argument name (b ∷ s) x.0 x.1
 behind_comma formats argument name t b s true x i w h e = typed_sound formats argument name t b s x i w (eqb-true b comma h) e
 behind_comma formats argument name t b s false x i w h e = absurd (no_ok e)
 
-behind_closing : (formats : Formats) (argument name t : List ℕ) (b : ℕ) (s : List ℕ) (v : Bool) (x : Head × List ℕ) → IsNameOrNumber argument name t → after_white t ≡ b ∷ s
+behind_closing : (formats : Formats) (argument name t : List ℕ) (b : ℕ) (s : List ℕ) (v : Bool) (x : Head × List ℕ)
+    → IsNameOrNumber argument name t → after_white t ≡ b ∷ s
     → (b == closing) ≡ v
-    → (if v then Ok (Plain name, s) else if b == comma then typed_front formats argument name s else Err (fault_at ExpectedEnd (b ∷ s))) ≡ Ok x
+    → (if v then Ok (Plain name, s) else if b == comma then typed_front formats argument name s else Err (fault_at ExpectedEnd (b ∷ s)))
+    ≡ Ok x
     → BehindName formats argument name (b ∷ s) x.0 x.1
 behind_closing formats argument name t b s true x i w h e =
-    subst (λ (y : Head × List ℕ). BehindName formats argument name (b ∷ s) y.0 y.1) (same_ok e) (inl (refl, ap (λ (c : ℕ). c ∷ s) (eqb-true b closing h)))
+    subst (λ (y : Head × List ℕ). BehindName formats argument name (b ∷ s) y.0 y.1) (same_ok e)
+    (inl (refl, ap (λ (c : ℕ). c ∷ s) (eqb-true b closing h)))
 behind_closing formats argument name t b s false x i w h e = behind_comma formats argument name t b s (b == comma) x i w refl e
 
 behind_sound : (formats : Formats) (argument name t s : List ℕ) (x : Head × List ℕ) → IsNameOrNumber argument name t → after_white t ≡ s
@@ -170,13 +193,16 @@ head_sound formats s x e =
 
 -- ---- and before a branch
 
-exact_by : (kind : ArgumentKind) (b : ℕ) (s : List ℕ) (v : Bool) (x : Selector × List ℕ) → b ≡ equals → is_counting kind ≡ true → is_number (class_front Number s) ≡ v
-    → (if v then Ok (Exactly (class_front Number s), behind_run Number s) else Err (missing ExpectedValue s)) ≡ Ok x → IsSelector kind (b ∷ s) x.0 x.1
+exact_by : (kind : ArgumentKind) (b : ℕ) (s : List ℕ) (v : Bool) (x : Selector × List ℕ) → b ≡ equals → is_counting kind ≡ true
+    → is_number (class_front Number s) ≡ v
+    → (if v then Ok (Exactly (class_front Number s), behind_run Number s) else Err (missing ExpectedValue s)) ≡ Ok x
+    → IsSelector kind (b ∷ s) x.0 x.1
 exact_by kind b s true x h c t e =
     subst (λ (y : Selector × List ℕ). IsSelector kind (b ∷ s) y.0 y.1) (same_ok e) (s, ap (λ (n : ℕ). n ∷ s) h, c, is_longest Number s, t)
 exact_by kind b s false x h c t e = absurd (no_ok e)
 
-exact_sound : (kind : ArgumentKind) (b : ℕ) (s : List ℕ) (x : Selector × List ℕ) → b ≡ equals → is_counting kind ≡ true → exact_front s ≡ Ok x
+exact_sound : (kind : ArgumentKind) (b : ℕ) (s : List ℕ) (x : Selector × List ℕ) → b ≡ equals → is_counting kind ≡ true
+    → exact_front s ≡ Ok x
     → IsSelector kind (b ∷ s) x.0 x.1
 exact_sound kind b s x h c e = exact_by kind b s (is_number (class_front Number s)) x h c refl e
 
@@ -225,7 +251,8 @@ next_step : (kind : ArgumentKind) (other : Bool) (b : ℕ) (s : List ℕ) (v : B
 next_step kind other b s true x h e = closes_step kind other b s x (eqb-true b closing h) e
 next_step kind other b s false x h e =
     let k = bind_ok (selector_front kind b s) _ x e in
-    opens_sound kind other (b ∷ s) k.0.1 k.0.0 (after_white k.0.1) x (selector_step kind b s (b == equals && is_counting kind) k.0 refl k.1) refl k.2
+    opens_sound kind other (b ∷ s) k.0.1 k.0.0 (after_white k.0.1) x
+    (selector_step kind b s (b == equals && is_counting kind) k.0 refl k.1) refl k.2
 
 next_sound : (kind : ArgumentKind) (other : Bool) (s : List ℕ) (x : BranchFront) → next_branch kind other s ≡ Ok x → BranchIs kind other s x
 next_sound kind other [] x e = absurd (no_ok e)

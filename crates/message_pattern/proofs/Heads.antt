@@ -16,7 +16,8 @@ pub kind_front_is : (s w r a : List ℕ) (k : Option ArgumentKind) → w ≡ cla
     → r ≡ behind_run Letter s → a ≡ after_white r → k ≡ kind_named w → kind_before s k a ≡ kind_front s
 kind_front_is s w r a k e1 e2 e3 e4 e5 = sym
     (ap
-    (λ (b : Bool). if b then Err (missing ExpectedType s) else kind_before s (kind_named (class_front Letter s)) (after_white (behind_run Letter s)))
+    (λ (b : Bool). if b then Err (missing ExpectedType s)
+    else kind_before s (kind_named (class_front Letter s)) (after_white (behind_run Letter s)))
     (ap is_empty_text (sym e1) ∙ e2)
     ∙ (ap (λ (v : List ℕ). kind_before s (kind_named v) (after_white (behind_run Letter s))) (sym e1)
     ∙ (ap (λ (j : Option ArgumentKind). kind_before s j (after_white (behind_run Letter s))) (sym e5)

@@ -49,7 +49,8 @@ blank_passed (a ∷ []) = refl
 blank_passed (a ∷ b ∷ s) = refl
 
 -- behind white space is none
-again_step : (v : Bool) (b : ℕ) (s : List ℕ) → (white_width (b ∷ s) == 0) ≡ v → skip 0 (skip (white_width (b ∷ s) - 1) s) ≡ skip (white_width (b ∷ s) - 1) s
+again_step : (v : Bool) (b : ℕ) (s : List ℕ) → (white_width (b ∷ s) == 0) ≡ v
+    → skip 0 (skip (white_width (b ∷ s) - 1) s) ≡ skip (white_width (b ∷ s) - 1) s
     → skip 0 (if v then b ∷ s else skip (white_width (b ∷ s) - 1) s) ≡ (if v then b ∷ s else skip (white_width (b ∷ s) - 1) s)
 again_step true b s e h = white_stays b s e
 again_step false b s e h = h
@@ -93,7 +94,8 @@ not_blank : (b : ℕ) (s : List ℕ) → (white_width (b ∷ s) == 0) ≡ true �
 not_blank b [] e = if_one (is_blank b) 0 e
 not_blank b (a ∷ []) e = if_one (is_blank b) (if b == 0xc2 && a == 0x85 then 2 else 0) e
 not_blank b (a ∷ c ∷ s) e =
-    if_one (is_blank b) (if b == 0xc2 && a == 0x85 then 2 else if (b == 0xe2 && a == 0x80) && (is_between 0x8e 0x8f c || is_between 0xa8 0xa9 c) then 3 else 0) e
+    if_one (is_blank b) (if b == 0xc2 && a == 0x85 then 2
+    else if (b == 0xe2 && a == 0x80) && (is_between 0x8e 0x8f c || is_between 0xa8 0xa9 c) then 3 else 0) e
 
 if_two : (w v : Bool) (n : ℕ) → ((if w then 1 else if v then 2 else n) == 0) ≡ true → v ≡ false
 if_two true v n e = absurd (let x : false ≡ true = e in cc)
@@ -103,7 +105,8 @@ if_two false false n e = refl
 not_next_line : (b a : ℕ) (s : List ℕ) → (white_width (b ∷ a ∷ s) == 0) ≡ true → (b == 0xc2 && a == 0x85) ≡ false
 not_next_line b a [] e = if_two (is_blank b) (b == 0xc2 && a == 0x85) 0 e
 not_next_line b a (c ∷ s) e =
-    if_two (is_blank b) (b == 0xc2 && a == 0x85) (if (b == 0xe2 && a == 0x80) && (is_between 0x8e 0x8f c || is_between 0xa8 0xa9 c) then 3 else 0) e
+    if_two (is_blank b) (b == 0xc2 && a == 0x85)
+    (if (b == 0xe2 && a == 0x80) && (is_between 0x8e 0x8f c || is_between 0xa8 0xa9 c) then 3 else 0) e
 
 and_no : (a b : Bool) → b ≡ false → (a && b) ≡ false
 and_no true b e = e
@@ -123,7 +126,8 @@ width_last x (a ∷ r) b n e =
     (and_no (b == 0xc2) (x == 0x85) n.no_next_line)
     (ap (λ (v : Bool). v && (is_between 0x8e 0x8f a || is_between 0xa8 0xa9 a)) (and_no (b == 0xe2) (x == 0x80) n.no_second))
 
-width_stays : (x : ℕ) (r t : List ℕ) (b : ℕ) (v : List ℕ) → EndsName x → (white_width (b ∷ (v ++ t)) == 0) ≡ true → (white_width (b ∷ (v ++ x ∷ r)) == 0) ≡ true
+width_stays : (x : ℕ) (r t : List ℕ) (b : ℕ) (v : List ℕ) → EndsName x → (white_width (b ∷ (v ++ t)) == 0) ≡ true
+    → (white_width (b ∷ (v ++ x ∷ r)) == 0) ≡ true
 width_stays x r t b [] n e = width_last x r b n (not_blank b t e)
 width_stays x r t b (a ∷ []) n e =
     no_white (is_blank b) (b == 0xc2 && a == 0x85) ((b == 0xe2 && a == 0x80) && (is_between 0x8e 0x8f x || is_between 0xa8 0xa9 x))
@@ -135,7 +139,8 @@ both_true true true e = (refl, refl)
 both_true true false e = absurd (let t : false ≡ true = e in cc)
 both_true false b e = absurd (let t : false ≡ true = e in cc)
 
-name_stays : (x : ℕ) (r t : List ℕ) → EndsName x → (b : ℕ) (v : List ℕ) → begins Name (b ∷ (v ++ t)) ≡ true → begins Name (b ∷ (v ++ x ∷ r)) ≡ true
+name_stays : (x : ℕ) (r t : List ℕ) → EndsName x → (b : ℕ) (v : List ℕ) → begins Name (b ∷ (v ++ t)) ≡ true
+    → begins Name (b ∷ (v ++ x ∷ r)) ≡ true
 name_stays x r t n b v e =
     let h = both_true (is_in Name b) (white_width (b ∷ (v ++ t)) == 0) e in
     ap (λ (a : Bool). a && white_width (b ∷ (v ++ x ∷ r)) == 0) h.0 ∙ width_stays x r t b v n h.1
@@ -148,7 +153,8 @@ name_moved x s w t r n l =
 name_first : (x : ℕ) (s w t r : List ℕ) → EndsName x → w ≢ [] → IsLongest Name s w t → after_white (w ++ x ∷ r) ≡ w ++ x ∷ r
 name_first x s [] t r n e l = absurd (e refl)
 name_first x s (b ∷ w) t r n e l =
-    white_stays b (w ++ x ∷ r) (both_true (is_in Name b) (white_width (b ∷ (w ++ x ∷ r)) == 0) (name_stays x r t n b w (longest_begins Name s b w t l))).1
+    white_stays b (w ++ x ∷ r)
+    (both_true (is_in Name b) (white_width (b ∷ (w ++ x ∷ r)) == 0) (name_stays x r t n b w (longest_begins Name s b w t l))).1
 
 pub comma_ends : EndsName comma
 comma_ends = record { no_name = refl; no_next_line = refl; no_second = refl; no_third = refl }
@@ -161,7 +167,8 @@ blank_ends = record { no_name = refl; no_next_line = refl; no_second = refl; no_
 
 -- ---- the head of an argument
 
-pub name_back : (x : ℕ) (s name t r : List ℕ) → EndsName x → IsNameOrNumber s name t → IsNameOrNumber (after_white (name ++ x ∷ r)) name (x ∷ r)
+pub name_back : (x : ℕ) (s name t r : List ℕ) → EndsName x → IsNameOrNumber s name t
+    → IsNameOrNumber (after_white (name ++ x ∷ r)) name (x ∷ r)
 name_back x s name t r n h =
     subst (λ (u : List ℕ). IsNameOrNumber u name (x ∷ r)) (sym (name_first x s name t r n h.nonempty h.bytes))
     (record { bytes = name_moved x s name t r n h.bytes; nonempty = h.nonempty; no_zeros = h.no_zeros })
@@ -178,17 +185,32 @@ pub record IsTypeThere (kind : ArgumentKind) (s : List ℕ) : Type 0 where
 pub type_back : (kind : ArgumentKind) (s : List ℕ) → IsTypeThere kind s
 type_back Plural s = record {
   rest = comma ∷ s;
-  there = record { word = codes "plural"; letters = is_longest Letter (codes "plural," ++ s); nonempty = nonempty 112 (codes "lural"); named = refl };
+  there = record {
+    word = codes "plural";
+    letters = is_longest Letter (codes "plural," ++ s);
+    nonempty = nonempty 112 (codes "lural");
+    named = refl;
+  };
   comma_there = comma_stays s;
 }
 type_back Ordinal s = record {
   rest = comma ∷ s;
-  there = record { word = codes "selectordinal"; letters = is_longest Letter (codes "selectordinal," ++ s); nonempty = nonempty 115 (codes "electordinal"); named = refl };
+  there = record {
+    word = codes "selectordinal";
+    letters = is_longest Letter (codes "selectordinal," ++ s);
+    nonempty = nonempty 115 (codes "electordinal");
+    named = refl;
+  };
   comma_there = comma_stays s;
 }
 type_back Select s = record {
   rest = comma ∷ s;
-  there = record { word = codes "select"; letters = is_longest Letter (codes "select," ++ s); nonempty = nonempty 115 (codes "elect"); named = refl };
+  there = record {
+    word = codes "select";
+    letters = is_longest Letter (codes "select," ++ s);
+    nonempty = nonempty 115 (codes "elect");
+    named = refl;
+  };
   comma_there = comma_stays s;
 }
 
@@ -209,9 +231,11 @@ digit_no b n false e h k = e
 digit_width : (b : ℕ) (s : List ℕ) → is_digit b ≡ true → (white_width (b ∷ s) == 0) ≡ true
 digit_width b [] e = ap (λ (v : Bool). (if v then 1 else 0) == 0) (digit_no_blank b e)
 digit_width b (a ∷ []) e =
-    no_white_two (is_blank b) (b == 0xc2 && a == 0x85) (digit_no_blank b e) (ap (λ (v : Bool). v && a == 0x85) (digit_no b 0xc2 (b == 0xc2) refl e refl))
+    no_white_two (is_blank b) (b == 0xc2 && a == 0x85) (digit_no_blank b e)
+    (ap (λ (v : Bool). v && a == 0x85) (digit_no b 0xc2 (b == 0xc2) refl e refl))
 digit_width b (a ∷ c ∷ s) e =
-    no_white (is_blank b) (b == 0xc2 && a == 0x85) ((b == 0xe2 && a == 0x80) && (is_between 0x8e 0x8f c || is_between 0xa8 0xa9 c)) (digit_no_blank b e)
+    no_white (is_blank b) (b == 0xc2 && a == 0x85) ((b == 0xe2 && a == 0x80) && (is_between 0x8e 0x8f c || is_between 0xa8 0xa9 c))
+    (digit_no_blank b e)
     (ap (λ (v : Bool). v && a == 0x85) (digit_no b 0xc2 (b == 0xc2) refl e refl))
     (ap (λ (v : Bool). (v && a == 0x80) && (is_between 0x8e 0x8f c || is_between 0xa8 0xa9 c)) (digit_no b 0xe2 (b == 0xe2) refl e refl))
 
@@ -227,7 +251,8 @@ value_back : (s : List ℕ) (digits t r : List ℕ) → NoOffset r → IsOffsetV
 value_back s digits t r n h = (
   digits ++ r,
   refl,
-  subst (λ (u : List ℕ). IsLongest Digit u digits r) (sym (digits_first (after_white h.0) digits t r h.3 h.2)) (digits_moved (after_white h.0) digits t r n.no_digit h.2),
+  subst (λ (u : List ℕ). IsLongest Digit u digits r) (sym (digits_first (after_white h.0) digits t r h.3 h.2))
+      (digits_moved (after_white h.0) digits t r n.no_digit h.2),
   h.3,
 )
 
@@ -238,7 +263,8 @@ IsOffsetBack kind offset r = (x : List ℕ) × IsOffset kind (offset_text offset
 none_back : (r : List ℕ) → NoOffset r → IsOffsetValue (after_white r) None (after_white r)
 none_back r n = (n.no_offset, refl)
 
-pub offset_back : (kind : ArgumentKind) (s : List ℕ) (offset : Option (List ℕ)) (t r : List ℕ) → NoOffset r → IsOffset kind s offset t → IsOffsetBack kind offset r
+pub offset_back : (kind : ArgumentKind) (s : List ℕ) (offset : Option (List ℕ)) (t r : List ℕ) → NoOffset r → IsOffset kind s offset t
+    → IsOffsetBack kind offset r
 offset_back Select s None t r n h = (r, (refl, refl), inl refl)
 offset_back Select s (Some digits) t r n h = absurd (let e : Some digits ≡ None = h.0 in cc)
 offset_back Plural s None t r n h = (after_white r, none_back r n, inr refl)
@@ -270,7 +296,8 @@ mark_later true m e f = f
 mark_later false m e f = absurd (let x : false ≡ true = e in cc)
 
 -- a word with such a byte, and no blank, doesn't stand where a name and a blank stand
-no_word : (word w t r : List ℕ) → AllBegin Name (w ++ t) w → has_mark word ≡ true → lacks_blank word ≡ true → after_word word (w ++ 32 ∷ r) ≡ None
+no_word : (word w t r : List ℕ) → AllBegin Name (w ++ t) w → has_mark word ≡ true → lacks_blank word ≡ true
+    → after_word word (w ++ 32 ∷ r) ≡ None
 no_word [] w t r a h k = absurd (let x : false ≡ true = h in cc)
 no_word (x ∷ word) [] t r a h k =
     ap (λ (v : Bool). if v then after_word word r else None) (not_true (x == 32) (both_true (not (x == 32)) (lacks_blank word) k).0)
@@ -278,7 +305,8 @@ no_word (x ∷ word) (b ∷ w) t r a h k =
     word_by (x == b) (after_word word (w ++ 32 ∷ r))
     (λ e. no_word word w t r (later Name b w (w ++ t) a)
     (mark_later (is_in Name x) (has_mark word)
-    (ap (λ (n : ℕ). is_in Name n) (eqb-true x b e) ∙ (both_true (is_in Name b) (white_width (b ∷ (w ++ t)) == 0) (first Name b w (w ++ t) a)).0) h)
+    (ap (λ (n : ℕ). is_in Name n) (eqb-true x b e)
+    ∙ (both_true (is_in Name b) (white_width (b ∷ (w ++ t)) == 0) (first Name b w (w ++ t) a)).0) h)
     (both_true (not (x == 32)) (lacks_blank word) k).1)
 
 -- the text before a branch, behind its blank

@@ -22,27 +22,38 @@ pub ended : {formats : Formats} (c : Context) (d : ℕ) (at : ReadStep) (old new
     → ((o : ReadOutcome) → ReadsTo formats (message_step c d End) (parts_view new) o → ReadsTo formats at (parts_view old) o)
     → GivesReadOutcome formats at old new r
 ended {formats = formats} c d at old new (Ok rest) h f =
-    subst (λ (s : List ℕ). ReadsTo formats at (parts_view old) (Read (parts_view new) s)) (sym h.0) (f (Read (parts_view new) []) (text_ends c d (parts_view new) h.1))
+    subst (λ (s : List ℕ). ReadsTo formats at (parts_view old) (Read (parts_view new) s)) (sym h.0)
+    (f (Read (parts_view new) []) (text_ends c d (parts_view new) h.1))
 ended {formats = formats} c d at old new (Err e) h f =
-    subst (λ (x : ReadError). GivesReadOutcome formats at old new (Err x)) (sym h.0) (f (Faulty unclosed) (branch_unclosed c d (parts_view new) h.1))
+    subst (λ (x : ReadError). GivesReadOutcome formats at old new (Err x)) (sym h.0)
+    (f (Faulty unclosed) (branch_unclosed c d (parts_view new) h.1))
 
 -- an error is passed on
-pub passes_on : {formats : Formats} (at inner : ReadStep) (old new before after : List parts.Part) (e : ReadError) → GivesReadOutcome formats inner before after (Err e)
+pub passes_on : {formats : Formats} (at inner : ReadStep) (old new before after : List parts.Part) (e : ReadError)
+    → GivesReadOutcome formats inner before after (Err e)
     → ((fault : Fault) → ReadsTo formats inner (parts_view before) (Faulty fault) → ReadsTo formats at (parts_view old) (Faulty fault))
     → GivesReadOutcome formats at old new (Err e)
 passes_on at inner old new before after (read.Fault fault) h f = f fault h
 passes_on at inner old new before after read.Memory h f = tt
 
 -- an outcome is passed on
-pub carries : {formats : Formats} (at inner : ReadStep) (old before new : List parts.Part) (r : Result (Bor (List ℕ)) ReadError) → GivesReadOutcome formats inner before new r
-    → ((o : ReadOutcome) → ReadsTo formats inner (parts_view before) o → ReadsTo formats at (parts_view old) o) → GivesReadOutcome formats at old new r
+pub carries : {formats : Formats} (at inner : ReadStep) (old before new : List parts.Part) (r : Result (Bor (List ℕ)) ReadError)
+    → GivesReadOutcome formats inner before new r
+    → ((o : ReadOutcome) → ReadsTo formats inner (parts_view before) o → ReadsTo formats at (parts_view old) o)
+    → GivesReadOutcome formats at old new r
 carries at inner old before new (Ok rest) h f = f (Read (parts_view new) rest.now) h
 carries at inner old before new (Err (read.Fault fault)) h f = f (Faulty fault) h
 carries at inner old before new (Err read.Memory) h f = tt
 
 -- a fault of a reading is one of the text
-pub fault_of : (formats : Formats) (text : List ℕ) (old new : List parts.Part) (e : ReadError) → old ≡ [] → GivesReadOutcome formats (read_step formats (InMessage Whole 0 false) text) old new (Err e)
+pub fault_of : (formats : Formats) (text : List ℕ) (old new : List parts.Part) (e : ReadError) → old ≡ []
+    → GivesReadOutcome formats (read_step formats (InMessage Whole 0 false) text) old new (Err e)
     → IsFaultIn formats text (pattern_error text e)
-fault_of formats text old new (read.Fault fault) e h =
-    (fault, subst (λ (l : List parts.Part). ReadsTo formats (read_step formats (InMessage Whole 0 false) text) (parts_view l) (Faulty fault)) e h, refl, refl)
+fault_of formats text old new (read.Fault fault) e h = (
+  fault,
+  subst (λ (l : List parts.Part). ReadsTo formats (read_step formats (InMessage Whole 0 false) text) (parts_view l)
+      (Faulty fault)) e h,
+  refl,
+  refl,
+)
 fault_of formats text old new read.Memory e h = tt

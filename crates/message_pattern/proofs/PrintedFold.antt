@@ -20,11 +20,13 @@ Folds (InMessage c d q) parts text =
     (outer : List Context) (tail : List Part) (z : List ℕ) → ((k : Bool) → fold c outer (Message k) tail ≡ end_of_quote k ++ z)
     → fold c outer (Message q) (parts ++ tail) ≡ text ++ z
 Folds (InArgument d) parts text =
-    (c : Context) (q : Bool) (outer : List Context) (tail : List Part) → fold c outer (Message q) (parts ++ tail) ≡ end_of_quote q ++ opening ∷ (text ++ fold c outer (Message false) tail)
+    (c : Context) (q : Bool) (outer : List Context) (tail : List Part)
+    → fold c outer (Message q) (parts ++ tail) ≡ end_of_quote q ++ opening ∷ (text ++ fold c outer (Message false) tail)
 Folds (InBranches kind d o) parts text =
     (c : Context) (outer : List Context) (tail : List Part)
     → (fold (context_of kind) (c ∷ outer) Branches (parts ++ tail) ≡ text ++ fold c outer (Message false) tail)
-    × ((k : Bool) → fold (context_of kind) (c ∷ outer) (Message k) (parts ++ tail) ≡ end_of_quote k ++ closing ∷ (text ++ fold c outer (Message false) tail))
+    × ((k : Bool) → fold (context_of kind) (c ∷ outer) (Message k) (parts ++ tail)
+    ≡ end_of_quote k ++ closing ∷ (text ++ fold c outer (Message false) tail))
 
 regrouped : (a b c : List ℕ) → a ++ (b ++ c) ≡ (a ++ b) ++ c
 regrouped a b c = sym (append_assoc a b c)
@@ -42,11 +44,13 @@ none_grouped : (e name t : List ℕ) → (e ++ opening ∷ (name ++ closing ∷ 
 none_grouped e name t = simp append_assoc
 
 head_grouped : (e name kind offset text t : List ℕ)
-    → (e ++ opening ∷ (name ++ comma ∷ (kind ++ offset))) ++ (text ++ t) ≡ e ++ opening ∷ ((name ++ comma ∷ (kind ++ (offset ++ text))) ++ t)
+    → (e ++ opening ∷ (name ++ comma ∷ (kind ++ offset))) ++ (text ++ t)
+    ≡ e ++ opening ∷ ((name ++ comma ∷ (kind ++ (offset ++ text))) ++ t)
 head_grouped e name kind offset text t = simp append_assoc
 
 branch_grouped : (sel message text t : List ℕ)
-    → (32 ∷ (sel ++ 32 ∷ opening ∷ [])) ++ (message ++ closing ∷ (text ++ t)) ≡ (32 ∷ (sel ++ 32 ∷ opening ∷ (message ++ closing ∷ text))) ++ t
+    → (32 ∷ (sel ++ 32 ∷ opening ∷ [])) ++ (message ++ closing ∷ (text ++ t))
+    ≡ (32 ∷ (sel ++ 32 ∷ opening ∷ (message ++ closing ∷ text))) ++ t
 branch_grouped sel message text t = simp append_assoc
 
 branch_behind : (e sel message text t : List ℕ)
@@ -66,10 +70,12 @@ folds (message_hash c d q text more h) = λ outer tail z f.
 folds (message_argument c d q argument text inner more h k) = λ outer tail z f.
     ap (λ (l : List Part). fold c outer (Message q) l) (parts_grouped inner more tail)
     ∙ (folds h c q outer (more ++ tail)
-    ∙ (ap (λ (u : List ℕ). end_of_quote q ++ opening ∷ (argument ++ u)) (folds k outer tail z f) ∙ argument_grouped (end_of_quote q) argument text z))
+    ∙ (ap (λ (u : List ℕ). end_of_quote q ++ opening ∷ (argument ++ u)) (folds k outer tail z f)
+    ∙ argument_grouped (end_of_quote q) argument text z))
 folds (none_arg d name) = λ c q outer tail. none_grouped (end_of_quote q) name (fold c outer (Message false) tail)
 folds (complex_arg d kind name offset text more h) = λ c q outer tail.
-    ap (λ (u : List ℕ). (end_of_quote q ++ opening ∷ (name ++ comma ∷ (kind_text kind ++ offset_text offset))) ++ u) (folds h c outer tail).0
+    ap (λ (u : List ℕ). (end_of_quote q ++ opening ∷ (name ++ comma ∷ (kind_text kind ++ offset_text offset))) ++ u)
+    (folds h c outer tail).0
     ∙ head_grouped (end_of_quote q) name (kind_text kind) (offset_text offset) text (fold c outer (Message false) tail)
 folds (style_branch d kind other sel message text inner more h k) = λ c outer tail.
     let t = fold c outer (Message false) tail in
@@ -95,7 +101,8 @@ read_alike : {formats : Formats} (parts : List Part) (s t : List ℕ) → s ≡ 
 read_alike {formats = formats} parts s t e h = subst (λ (u : List ℕ). IsReadAlike formats u parts) (sym e) h
 
 -- the whole text is exactly what the parts are printed as
-pub prints_exactly : {formats : Formats} (parts : List Part) (text : List ℕ) → text ≡ whole_text parts → PrintsBackExactly formats parts text
+pub prints_exactly : {formats : Formats} (parts : List Part) (text : List ℕ) → text ≡ whole_text parts
+    → PrintsBackExactly formats parts text
 prints_exactly parts text e = record {
   only = λ t h. e ∙ printed_whole parts t h;
   printed = λ source h.
@@ -106,7 +113,8 @@ prints_exactly parts text e = record {
       read_alike parts text b.0 (e ∙ printed_whole parts b.0 b.1) b.2;
 }
 
-pub ok_exactly : (formats : Formats) {A E : Type 0} (view : A → List ℕ) (parts : List Part) (r : Result A E) → IfOk r (λ x. view x ≡ whole_text parts)
+pub ok_exactly : (formats : Formats) {A E : Type 0} (view : A → List ℕ) (parts : List Part) (r : Result A E)
+    → IfOk r (λ x. view x ≡ whole_text parts)
     → IfOk r (λ x. PrintsBackExactly formats parts (view x))
 ok_exactly formats view parts (Ok x) h = prints_exactly parts (view x) h
 ok_exactly formats view parts (Err e) h = h
@@ -117,25 +125,30 @@ letter_grouped : (a b c : List ℕ) → (a ++ []) ++ (b ++ c) ≡ (a ++ b) ++ c
 letter_grouped a b c = ap (λ (u : List ℕ). u ++ (b ++ c)) (append-nil a) ∙ regrouped a b c
 
 letters_printed : (c : Context) (d : ℕ) (q : Bool) (s text : List ℕ) (more : List Part)
-    → IsPrinted (InMessage c d (quoted_behind c q s)) more text → IsPrinted (InMessage c d q) (letters d s ++ more) (text_text c q s ++ text)
+    → IsPrinted (InMessage c d (quoted_behind c q s)) more text
+    → IsPrinted (InMessage c d q) (letters d s ++ more) (text_text c q s ++ text)
 letters_printed c d q [] text more h = h
 letters_printed c d q (b ∷ s) text more h =
     let o = q || is_quotable c b in
-    subst (λ (u : List ℕ). IsPrinted (InMessage c d q) (letters d (b ∷ s) ++ more) u) (letter_grouped (byte_text c q b) (text_text c o s) text)
+    subst (λ (u : List ℕ). IsPrinted (InMessage c d q) (letters d (b ∷ s) ++ more) u)
+    (letter_grouped (byte_text c q b) (text_text c o s) text)
     (message_text c d q (b ∷ []) (text_text c o s ++ text) (letters d s ++ more) (letters_printed c d o s text more h))
 
 -- what is printed is printed so, byte by byte
-spelled_printed : {place : PatternPlace} {parts : List Part} {text : List ℕ} → IsPrinted place parts text → IsPrinted place (spelled parts) text
+spelled_printed : {place : PatternPlace} {parts : List Part} {text : List ℕ} → IsPrinted place parts text
+    → IsPrinted place (spelled parts) text
 spelled_printed (message_ends c d q) = message_ends c d q
 spelled_printed (message_text c d q s text more h) = letters_printed c d q s text (spelled more) (spelled_printed h)
 spelled_printed (message_hash c d q text more h) = message_hash c d q text (spelled more) (spelled_printed h)
 spelled_printed (message_argument c d q argument text inner more h k) =
-    subst (λ (l : List Part). IsPrinted (InMessage c d q) l (end_of_quote q ++ opening ∷ (argument ++ text))) (sym (spelled-append inner more))
+    subst (λ (l : List Part). IsPrinted (InMessage c d q) l (end_of_quote q ++ opening ∷ (argument ++ text)))
+    (sym (spelled-append inner more))
     (message_argument c d q argument text (spelled inner) (spelled more) (spelled_printed h) (spelled_printed k))
 spelled_printed (none_arg d name) = none_arg d name
 spelled_printed (complex_arg d kind name offset text more h) = complex_arg d kind name offset text (spelled more) (spelled_printed h)
 spelled_printed (style_branch d kind other sel message text inner more h k) =
-    subst (λ (l : List Part). IsPrinted (InBranches kind d other) (one d (Branch sel) ++ l) (32 ∷ (selector_text sel ++ 32 ∷ opening ∷ (message ++ closing ∷ text)))) (sym (spelled-append inner more))
+    subst (λ (l : List Part). IsPrinted (InBranches kind d other) (one d (Branch sel) ++ l)
+    (32 ∷ (selector_text sel ++ 32 ∷ opening ∷ (message ++ closing ∷ text)))) (sym (spelled-append inner more))
     (style_branch d kind other sel message text (spelled inner) (spelled more) (spelled_printed h) (spelled_printed k))
 spelled_printed (style_ends d kind) = style_ends d kind
 

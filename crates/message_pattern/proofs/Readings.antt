@@ -11,14 +11,18 @@ Follows formats (Ends parts rest) before outcome = Read (before ++ parts) rest �
 Follows formats (Fails fault) before outcome = Faulty fault ≡ outcome
 Follows formats (Goes parts place rest) before outcome = ReadsTo formats (read_step formats place rest) (before ++ parts) outcome
 Follows formats (Calls parts place after rest) before outcome =
-    ((inner : List Part) × (end : List ℕ) × ReadsTo formats (read_step formats place rest) (before ++ parts) (Read inner end) × ReadsTo formats (read_step formats after end) inner outcome)
+    ((inner : List Part) × (end : List ℕ) × ReadsTo formats (read_step formats place rest) (before ++ parts) (Read inner end)
+    × ReadsTo formats (read_step formats after end) inner outcome)
     ⊎ ((fault : Fault) × ReadsTo formats (read_step formats place rest) (before ++ parts) (Faulty fault) × (Faulty fault ≡ outcome))
 
 -- each reading goes on so
-pub follows : {formats : Formats} {at : ReadStep} {before : List Part} {outcome : ReadOutcome} → ReadsTo formats at before outcome → Follows formats at before outcome
-follows {formats = formats} (ends at before parts rest e) = subst (λ (s : ReadStep). Follows formats s before (Read (before ++ parts) rest)) (sym e) refl
+pub follows : {formats : Formats} {at : ReadStep} {before : List Part} {outcome : ReadOutcome} → ReadsTo formats at before outcome
+    → Follows formats at before outcome
+follows {formats = formats} (ends at before parts rest e) =
+    subst (λ (s : ReadStep). Follows formats s before (Read (before ++ parts) rest)) (sym e) refl
 follows {formats = formats} (fails at before fault e) = subst (λ (s : ReadStep). Follows formats s before (Faulty fault)) (sym e) refl
-follows {formats = formats} (goes at before parts place rest outcome e h) = subst (λ (s : ReadStep). Follows formats s before outcome) (sym e) h
+follows {formats = formats} (goes at before parts place rest outcome e h) =
+    subst (λ (s : ReadStep). Follows formats s before outcome) (sym e) h
 follows {formats = formats} (calls at before parts inner place after rest end outcome e h k) =
     subst (λ (s : ReadStep). Follows formats s before outcome) (sym e) (inl (inner, end, h, k))
 follows {formats = formats} (breaks at before parts place after rest fault e h) =
@@ -30,10 +34,14 @@ GoesOn formats after (Read inner end) outcome = ReadsTo formats (read_step forma
 GoesOn formats after (Faulty fault) outcome = Faulty fault ≡ outcome
 
 -- two readings come to the same
-pub one_outcome : {formats : Formats} {at : ReadStep} {before : List Part} {a b : ReadOutcome} → ReadsTo formats at before a → ReadsTo formats at before b → a ≡ b
-one_outcome {formats = formats} {b = b} (ends at before parts rest e) other = subst (λ (s : ReadStep). Follows formats s before b) e (follows other)
-one_outcome {formats = formats} {b = b} (fails at before fault e) other = subst (λ (s : ReadStep). Follows formats s before b) e (follows other)
-one_outcome {formats = formats} {b = b} (goes at before parts place rest outcome e h) other = one_outcome h (subst (λ (s : ReadStep). Follows formats s before b) e (follows other))
+pub one_outcome : {formats : Formats} {at : ReadStep} {before : List Part} {a b : ReadOutcome} → ReadsTo formats at before a
+    → ReadsTo formats at before b → a ≡ b
+one_outcome {formats = formats} {b = b} (ends at before parts rest e) other =
+    subst (λ (s : ReadStep). Follows formats s before b) e (follows other)
+one_outcome {formats = formats} {b = b} (fails at before fault e) other =
+    subst (λ (s : ReadStep). Follows formats s before b) e (follows other)
+one_outcome {formats = formats} {b = b} (goes at before parts place rest outcome e h) other =
+    one_outcome h (subst (λ (s : ReadStep). Follows formats s before b) e (follows other))
 one_outcome {formats = formats} {b = b} (calls at before parts inner place after rest end outcome e h k) other =
     elim (subst (λ (s : ReadStep). Follows formats s before b) e (follows other)) [
       | inl x ↦ one_outcome k (subst (λ (o : ReadOutcome). GoesOn formats after o b) (sym (one_outcome h x.2)) x.3)

@@ -9,24 +9,31 @@ use Rattle.message_pattern.specs.PatternBytes.{begins, class_front, behind_run, 
 pub class_front-whole : (class : Class) (s : List ℕ) → class_front class s ++ behind_run class s ≡ s
 class_front-whole class [] = refl
 class_front-whole class (b ∷ s) =
-    elim (begins class (b ∷ s)) as (λ (v : Bool). (if v then b ∷ class_front class s else []) ++ (if v then behind_run class s else b ∷ s) ≡ b ∷ s) [
+    elim (begins class (b ∷ s)) as (λ (v : Bool). (if v then b ∷ class_front class s else []) ++
+    (if v then behind_run class s else b ∷ s) ≡ b ∷ s) [
       | true ↦ ap (λ (t : List ℕ). b ∷ t) (class_front-whole class s)
       | false ↦ refl
     ]
 
 -- where what follows the run is as long as the rest, a text is cut into both
-run_length : (class : Class) (s rest : List ℕ) (n : ℕ) → rest ≡ behind_run class s → n + length rest ≡ length s → n ≡ length (class_front class s)
-run_length class s rest n e h = omega (arith, length-append (class_front class s) (behind_run class s), ap length (class_front-whole class s), ap length e)
+run_length : (class : Class) (s rest : List ℕ) (n : ℕ) → rest ≡ behind_run class s → n + length rest ≡ length s
+    → n ≡ length (class_front class s)
+run_length class s rest n e h =
+    omega (arith, length-append (class_front class s) (behind_run class s), ap length (class_front-whole class s), ap length e)
 
-pub cut_front : (class : Class) (s rest : List ℕ) (n : ℕ) → rest ≡ behind_run class s → n + length rest ≡ length s → take n s ≡ class_front class s
+pub cut_front : (class : Class) (s rest : List ℕ) (n : ℕ) → rest ≡ behind_run class s → n + length rest ≡ length s
+    → take n s ≡ class_front class s
 cut_front class s rest n e h =
     ap (λ (k : ℕ). take k s) (run_length class s rest n e h)
-    ∙ (ap (λ (t : List ℕ). take (length (class_front class s)) t) (sym (class_front-whole class s)) ∙ take-append_seam (class_front class s) (behind_run class s))
+    ∙ (ap (λ (t : List ℕ). take (length (class_front class s)) t) (sym (class_front-whole class s))
+    ∙ take-append_seam (class_front class s) (behind_run class s))
 
-pub cut_rest : (class : Class) (s rest : List ℕ) (n : ℕ) → rest ≡ behind_run class s → n + length rest ≡ length s → drop n s ≡ behind_run class s
+pub cut_rest : (class : Class) (s rest : List ℕ) (n : ℕ) → rest ≡ behind_run class s → n + length rest ≡ length s
+    → drop n s ≡ behind_run class s
 cut_rest class s rest n e h =
     ap (λ (k : ℕ). drop k s) (run_length class s rest n e h)
-    ∙ (ap (λ (t : List ℕ). drop (length (class_front class s)) t) (sym (class_front-whole class s)) ∙ drop-append_seam (class_front class s) (behind_run class s))
+    ∙ (ap (λ (t : List ℕ). drop (length (class_front class s)) t) (sym (class_front-whole class s))
+    ∙ drop-append_seam (class_front class s) (behind_run class s))
 
 -- a word isn't found where the text ends
 pub no_rest : (word : List ℕ) (i : ℕ) (rest : List ℕ) → i < length word → length rest < 1 → after_word (drop i word) rest ≡ None

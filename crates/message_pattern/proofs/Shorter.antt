@@ -76,23 +76,28 @@ quoted_by false b s t = let h : length (behind_run Unquoted s) ≤ length s = be
 apostrophe_shorter : (c : Context) (b : ℕ) (s : List ℕ) → IsShorter (apostrophe_front c s) (b ∷ s)
 apostrophe_shorter c b [] = less b []
 apostrophe_shorter c b (n ∷ s) =
-    choose (n == apostrophe) (takes_text (apostrophe ∷ []) false s) (if is_quotable c n then Takes None true (n ∷ s) else takes_text (apostrophe ∷ []) false (n ∷ s)) (b ∷ n ∷ s) (less_two b n s)
-    (choose (is_quotable c n) (Takes None true (n ∷ s)) (takes_text (apostrophe ∷ []) false (n ∷ s)) (b ∷ n ∷ s) (less b (n ∷ s)) (less b (n ∷ s)))
+    choose (n == apostrophe) (takes_text (apostrophe ∷ []) false s)
+    (if is_quotable c n then Takes None true (n ∷ s) else takes_text (apostrophe ∷ []) false (n ∷ s)) (b ∷ n ∷ s) (less_two b n s)
+    (choose (is_quotable c n) (Takes None true (n ∷ s)) (takes_text (apostrophe ∷ []) false (n ∷ s)) (b ∷ n ∷ s)
+    (less b (n ∷ s)) (less b (n ∷ s)))
 
 plain_by : (a o e h : Bool) (c : Context) (b : ℕ) (s t : List ℕ)
     → IsShorter
-    (if a then apostrophe_front c s else if o then Opens s else if e && is_nested c then Closes s else if h && is_counted c then Takes (Some Hash) false s
+    (if a then apostrophe_front c s else if o then Opens s else if e && is_nested c then Closes s else if h && is_counted c
+    then Takes (Some Hash) false s
     else if e || h then takes_text (b ∷ []) false s
     else takes_text t false (if not (a || o || e || h) then behind_run class.Plain s else b ∷ s))
     (b ∷ s)
 plain_by true o e h c b s t = apostrophe_shorter c b s
 plain_by false true e h c b s t = less b s
 plain_by false false true h c b s t =
-    choose (is_nested c) (Closes s) (if h && is_counted c then Takes (Some Hash) false s else takes_text (b ∷ []) false s) (b ∷ s) (less b s)
+    choose (is_nested c) (Closes s) (if h && is_counted c then Takes (Some Hash) false s else takes_text (b ∷ []) false s)
+    (b ∷ s) (less b s)
     (choose (h && is_counted c) (Takes (Some Hash) false s) (takes_text (b ∷ []) false s) (b ∷ s) (less b s) (less b s))
 plain_by false false false true c b s t =
     choose (is_counted c) (Takes (Some Hash) false s) (takes_text (b ∷ []) false s) (b ∷ s) (less b s) (less b s)
-plain_by false false false false c b s t = let k : length (behind_run class.Plain s) ≤ length s = behind_le class.Plain s in omega (arith, k)
+plain_by false false false false c b s t = let k : length (behind_run class.Plain s) ≤ length s =
+    behind_le class.Plain s in omega (arith, k)
 
 pub front_shorter : (c : Context) (q : Bool) (s : List ℕ) → IsShorter (front c q s) s
 front_shorter c true [] = tt
@@ -107,9 +112,11 @@ longest_le k s t r l = omega (arith, ap length l.whole, length-append t r)
 
 value_le : (s : List ℕ) (offset : Option (List ℕ)) (rest : List ℕ) → IsOffsetValue s offset rest → length rest ≤ length s
 value_le s None rest h = omega (arith, ap length h.1)
-value_le s (Some digits) rest h = omega (arith, word_le (codes "offset:") s h.0 h.1, white_le h.0, longest_le Digit (after_white h.0) digits rest h.2)
+value_le s (Some digits) rest h =
+    omega (arith, word_le (codes "offset:") s h.0 h.1, white_le h.0, longest_le Digit (after_white h.0) digits rest h.2)
 
-offset_le : (kind : ArgumentKind) (s : List ℕ) (offset : Option (List ℕ)) (rest : List ℕ) → IsOffset kind s offset rest → length rest ≤ length s
+offset_le : (kind : ArgumentKind) (s : List ℕ) (offset : Option (List ℕ)) (rest : List ℕ) → IsOffset kind s offset rest
+    → length rest ≤ length s
 offset_le Select s offset rest h = omega (arith, ap length h.1)
 offset_le Plural s offset rest h = omega (arith, value_le (after_white s) offset rest h, white_le s)
 offset_le Ordinal s offset rest h = omega (arith, value_le (after_white s) offset rest h, white_le s)
@@ -122,7 +129,18 @@ head_le formats s (Plain text) rest (inr i) = omega (arith, white_le s, ap lengt
 head_le formats s (Plain name) rest (inl i) =
     omega (arith, white_le s, white_le i.0, longest_le Name (after_white s) name i.0 i.1.bytes, ap length i.2)
 head_le formats s (Choice kind name offset) rest i =
-    omega (arith, white_le s, longest_le Name (after_white s) name i.0 i.4.bytes, white_le i.0, ap length i.5, white_le i.1, letters_le i.1 i.2 kind i.6, white_le i.2, ap length i.7, offset_le kind i.3 offset rest i.8)
+    omega (
+      arith,
+      white_le s,
+      longest_le Name (after_white s) name i.0 i.4.bytes,
+      white_le i.0,
+      ap length i.5,
+      white_le i.1,
+      letters_le i.1 i.2 kind i.6,
+      white_le i.2,
+      ap length i.7,
+      offset_le kind i.3 offset rest i.8,
+    )
 
 selector_le : (kind : ArgumentKind) (s : List ℕ) (sel : Selector) (t : List ℕ) → IsSelector kind s sel t → length t ≤ length s
 selector_le kind s (Exactly number) t h = omega (arith, ap length h.1, longest_le Number h.0 number t h.3)

@@ -68,15 +68,19 @@ alone : (p name t u rest : List ℕ) (style : Option (List ℕ)) → IsNameOrNum
     → ((x : List ℕ) → after_white (behind_run Letter (after_white u)) ≡ x ++ closing ∷ rest → IsStyleBehind x style)
     → IsSimpleText p name (class_front Letter (after_white u)) style
 alone p name t u rest style i e w f =
-    let e1 : behind_run Name p ++ closing ∷ rest ≡ t = sym (behind_before Name name_ends p rest) ∙ longest_rest Name (p ++ closing ∷ rest) name t i.bytes in
-    let c = comma_before (after_white (behind_run Name p)) u rest (sym (sym (white_before (behind_run Name p) rest) ∙ (ap (λ (l : List ℕ). after_white l) e1 ∙ e))) in
+    let e1 : behind_run Name p ++ closing ∷ rest ≡ t =
+    sym (behind_before Name name_ends p rest) ∙ longest_rest Name (p ++ closing ∷ rest) name t i.bytes in
+    let c = comma_before (after_white (behind_run Name p)) u rest
+    (sym (sym (white_before (behind_run Name p) rest) ∙ (ap (λ (l : List ℕ). after_white l) e1 ∙ e))) in
     let white : after_white u ≡ after_white c.0 ++ closing ∷ rest = ap (λ (l : List ℕ). after_white l) c.2 ∙ white_before c.0 rest in
     let word : class_front Letter (after_white u) ≡ class_front Letter (after_white c.0) =
     ap (λ (l : List ℕ). class_front Letter l) white ∙ front_before Letter letters_end (after_white c.0) rest in
     let behind : after_white (behind_run Letter (after_white u)) ≡ after_white (behind_run Letter (after_white c.0)) ++ closing ∷ rest =
     ap (λ (l : List ℕ). after_white (behind_run Letter l)) white
-    ∙ (ap (λ (l : List ℕ). after_white l) (behind_before Letter letters_end (after_white c.0) rest) ∙ white_before (behind_run Letter (after_white c.0)) rest) in
-    let front : class_front Name p ≡ name = sym (front_before Name name_ends p rest) ∙ longest_run Name (p ++ closing ∷ rest) name t i.bytes in
+    ∙ (ap (λ (l : List ℕ). after_white l) (behind_before Letter letters_end (after_white c.0) rest)
+    ∙ white_before (behind_run Letter (after_white c.0)) rest) in
+    let front : class_front Name p ≡ name =
+    sym (front_before Name name_ends p rest) ∙ longest_run Name (p ++ closing ∷ rest) name t i.bytes in
     record {
       behind_name = behind_run Name p;
       behind_comma = c.0;
@@ -88,7 +92,8 @@ alone p name t u rest style i e w f =
       };
       comma_there = c.1;
       typed = record {
-        letters = subst (λ (l : List ℕ). IsLongest Letter (after_white c.0) l (behind_run Letter (after_white c.0))) (sym word) (is_longest Letter (after_white c.0));
+        letters = subst (λ (l : List ℕ). IsLongest Letter (after_white c.0) l (behind_run Letter (after_white c.0)))
+            (sym word) (is_longest Letter (after_white c.0));
         simple = w;
       };
       styled = f (after_white (behind_run Letter (after_white c.0))) behind;
@@ -115,14 +120,16 @@ read_alone argument name t u rest style i e w k f =
     )
 
 -- what follows the type ends the argument
-type_ends : (argument name t u : List ℕ) → IsNameOrNumber argument name t → after_white t ≡ comma ∷ u → Ends argument (after_white (behind_run Letter (after_white u)))
+type_ends : (argument name t u : List ℕ) → IsNameOrNumber argument name t → after_white t ≡ comma ∷ u
+    → Ends argument (after_white (behind_run Letter (after_white u)))
 type_ends argument name t u i e =
     let l = behind_run Letter (after_white u) in
     chain argument t (after_white l) (longest_ends Name argument name t i.bytes)
     (chain t (comma ∷ u) (after_white l) (subst (λ (x : List ℕ). Ends t x) e (white_ends t))
     (add_byte comma u (after_white l)
     (chain u (after_white u) (after_white l) (white_ends u)
-    (chain (after_white u) l (after_white l) (longest_ends Letter (after_white u) (class_front Letter (after_white u)) l (is_longest Letter (after_white u))) (white_ends l)))))
+    (chain (after_white u) l (after_white l)
+    (longest_ends Letter (after_white u) (class_front Letter (after_white u)) l (is_longest Letter (after_white u))) (white_ends l)))))
 
 no_ok : {A : Type 0} {d : Fault} {x : A} → Err d ≡ Ok x → ⊥
 no_ok e = cc
@@ -136,7 +143,8 @@ same_ok e = cc
 same_tail : (a b : ℕ) (s t : List ℕ) → a ∷ s ≡ b ∷ t → s ≡ t
 same_tail a b s t e = cc
 
-styled_step : (argument name t u v : List ℕ) (o : Option (List ℕ)) (x : Head × List ℕ) → IsNameOrNumber argument name t → after_white t ≡ comma ∷ u
+styled_step : (argument name t u v : List ℕ) (o : Option (List ℕ)) (x : Head × List ℕ) → IsNameOrNumber argument name t
+    → after_white t ≡ comma ∷ u
     → is_simple_type (class_front Letter (after_white u)) ≡ true → after_white (behind_run Letter (after_white u)) ≡ comma ∷ v
     → behind_style 0 false v ≡ o → styled_front argument o ≡ Ok x → IsSimpleHead argument x.0 x.1
 styled_step argument name t u v None x i e w a b k = absurd (no_ok k)
@@ -144,20 +152,27 @@ styled_step argument name t u v (Some rest) x i e w a b k =
     let s = style_sound v rest b in
     subst (λ (y : Head × List ℕ). IsSimpleHead argument y.0 y.1) (same_ok k)
     (read_alone argument name t u rest (Some s.0) i e w
-    (chain argument (comma ∷ v) (closing ∷ rest) (subst (λ (l : List ℕ). Ends argument l) a (type_ends argument name t u i e)) (add_byte comma v (closing ∷ rest) (s.0, s.2)))
+    (chain argument (comma ∷ v) (closing ∷ rest) (subst (λ (l : List ℕ). Ends argument l) a (type_ends argument name t u i e))
+    (add_byte comma v (closing ∷ rest) (s.0, s.2)))
     (λ y f. (append_cancel_right y (comma ∷ s.0) (closing ∷ rest) (sym f ∙ (a ∙ ap (λ (l : List ℕ). comma ∷ l) s.2)), s.1)))
 
-comma_step : (argument name t u : List ℕ) (b : ℕ) (v : List ℕ) (c : Bool) (x : Head × List ℕ) → IsNameOrNumber argument name t → after_white t ≡ comma ∷ u
-    → is_simple_type (class_front Letter (after_white u)) ≡ true → after_white (behind_run Letter (after_white u)) ≡ b ∷ v → (b == comma) ≡ c
-    → (if c then styled_front argument (behind_style 0 false v) else Err (fault_at ExpectedEnd (b ∷ v))) ≡ Ok x → IsSimpleHead argument x.0 x.1
+comma_step : (argument name t u : List ℕ) (b : ℕ) (v : List ℕ) (c : Bool) (x : Head × List ℕ) → IsNameOrNumber argument name t
+    → after_white t ≡ comma ∷ u
+    → is_simple_type (class_front Letter (after_white u)) ≡ true → after_white (behind_run Letter (after_white u)) ≡ b ∷ v
+    → (b == comma) ≡ c
+    → (if c then styled_front argument (behind_style 0 false v) else Err (fault_at ExpectedEnd (b ∷ v))) ≡ Ok x
+    → IsSimpleHead argument x.0 x.1
 comma_step argument name t u b v true x i e w a h k =
     styled_step argument name t u v (behind_style 0 false v) x i e w (a ∙ ap (λ (n : ℕ). n ∷ v) (eqb-true b comma h)) refl k
 comma_step argument name t u b v false x i e w a h k = absurd (no_ok k)
 
-closing_step : (argument name t u : List ℕ) (b : ℕ) (v : List ℕ) (c : Bool) (x : Head × List ℕ) → IsNameOrNumber argument name t → after_white t ≡ comma ∷ u
-    → is_simple_type (class_front Letter (after_white u)) ≡ true → after_white (behind_run Letter (after_white u)) ≡ b ∷ v → (b == closing) ≡ c
+closing_step : (argument name t u : List ℕ) (b : ℕ) (v : List ℕ) (c : Bool) (x : Head × List ℕ) → IsNameOrNumber argument name t
+    → after_white t ≡ comma ∷ u
+    → is_simple_type (class_front Letter (after_white u)) ≡ true → after_white (behind_run Letter (after_white u)) ≡ b ∷ v
+    → (b == closing) ≡ c
     → (if c then Ok (Plain (text_before argument v), v)
-    else if b == comma then styled_front argument (behind_style 0 false v) else Err (fault_at ExpectedEnd (b ∷ v))) ≡ Ok x → IsSimpleHead argument x.0 x.1
+    else if b == comma then styled_front argument (behind_style 0 false v) else Err (fault_at ExpectedEnd (b ∷ v))) ≡ Ok x
+    → IsSimpleHead argument x.0 x.1
 closing_step argument name t u b v true x i e w a h k =
     let f : after_white (behind_run Letter (after_white u)) ≡ closing ∷ v = a ∙ ap (λ (n : ℕ). n ∷ v) (eqb-true b closing h) in
     subst (λ (y : Head × List ℕ). IsSimpleHead argument y.0 y.1) (same_ok k)
@@ -166,14 +181,16 @@ closing_step argument name t u b v true x i e w a h k =
 closing_step argument name t u b v false x i e w a h k = comma_step argument name t u b v (b == comma) x i e w a refl k
 
 front_step : (argument name t u s : List ℕ) (x : Head × List ℕ) → IsNameOrNumber argument name t → after_white t ≡ comma ∷ u
-    → is_simple_type (class_front Letter (after_white u)) ≡ true → after_white (behind_run Letter (after_white u)) ≡ s → simple_front argument s ≡ Ok x
+    → is_simple_type (class_front Letter (after_white u)) ≡ true → after_white (behind_run Letter (after_white u)) ≡ s
+    → simple_front argument s ≡ Ok x
     → IsSimpleHead argument x.0 x.1
 front_step argument name t u [] x i e w a k = absurd (no_ok k)
 front_step argument name t u (b ∷ v) x i e w a k = closing_step argument name t u b v (b == closing) x i e w a refl k
 
 -- what is read is in the grammar
 pub simple_sound : (argument name t u : List ℕ) (x : Head × List ℕ) → IsNameOrNumber argument name t → after_white t ≡ comma ∷ u
-    → is_simple_type (class_front Letter (after_white u)) ≡ true → simple_front argument (after_white (behind_run Letter (after_white u))) ≡ Ok x
+    → is_simple_type (class_front Letter (after_white u)) ≡ true
+    → simple_front argument (after_white (behind_run Letter (after_white u))) ≡ Ok x
     → IsSimpleHead argument x.0 x.1
 simple_sound argument name t u x i e w k = front_step argument name t u (after_white (behind_run Letter (after_white u))) x i e w refl k
 

@@ -110,11 +110,13 @@ no_marks : (b : ℕ) → (b == apostrophe) ≡ false → (b == opening) ≡ fals
 no_marks b e f g = rw (e, f, g)
 
 plain_next : (n : ℕ) (b : ℕ) (s rest : List ℕ) → ((m : ℕ) (q : Bool) → behind_style m q s ≡ Some rest → ClosesBehind m q s rest)
-    → (v o c : Bool) → (b == apostrophe) ≡ v → (b == opening) ≡ o → (b == closing) ≡ c → after_step s (stepped n v o c) ≡ Some rest → Closes n (b ∷ s) rest
+    → (v o c : Bool) → (b == apostrophe) ≡ v → (b == opening) ≡ o → (b == closing) ≡ c → after_step s (stepped n v o c) ≡ Some rest
+    → Closes n (b ∷ s) rest
 plain_next n b s rest again true o c e f g h =
     let k : ClosesBehind n true s rest = again n true h in
     longer n (apostrophe ∷ (k.0 ++ apostrophe ∷ [])) (b ∷ s) k.1 rest (quote_front k.0 k.2)
-    (ap (λ (x : ℕ). x ∷ s) (eqb-true b apostrophe e) ∙ ap (λ (l : List ℕ). apostrophe ∷ l) (k.3 ∙ sym (append_assoc k.0 (apostrophe ∷ []) k.1))) k.4
+    (ap (λ (x : ℕ). x ∷ s) (eqb-true b apostrophe e)
+    ∙ ap (λ (l : List ℕ). apostrophe ∷ l) (k.3 ∙ sym (append_assoc k.0 (apostrophe ∷ []) k.1))) k.4
 plain_next n b s rest again false true c e f g h =
     let k : Closes (suc n) s rest = subst (λ (m : ℕ). Closes m s rest) (one_more n) (again (n + 1) false h) in
     longer n (opening ∷ (k.0 ++ closing ∷ [])) (b ∷ s) k.1 rest (brace_front k.0 k.2)
@@ -123,7 +125,8 @@ plain_next n b s rest again false false false e f g h =
     longer n (b ∷ []) (b ∷ s) s rest (λ t k. byte b t (no_marks b e f g) k) refl (again n false h)
 plain_next n b s rest again false false true e f g h = closed n b s rest (λ m k. again m false k) (eqb-true b closing g) h
 
-quoted_next : (n : ℕ) (b : ℕ) (s rest : List ℕ) (v : Bool) → (b == apostrophe) ≡ v → ClosesBehind n (not v) s rest → ClosesBehind n true (b ∷ s) rest
+quoted_next : (n : ℕ) (b : ℕ) (s rest : List ℕ) (v : Bool) → (b == apostrophe) ≡ v → ClosesBehind n (not v) s rest
+    → ClosesBehind n true (b ∷ s) rest
 quoted_next n b s rest true e h = ([], s, refl, ap (λ (x : ℕ). x ∷ s) (eqb-true b apostrophe e), h)
 quoted_next n b s rest false e h =
     (b ∷ h.0, h.1, ap (λ (v : Bool). not v && has_no_apostrophe h.0) e ∙ h.2, ap (λ (l : List ℕ). b ∷ l) h.3, h.4)

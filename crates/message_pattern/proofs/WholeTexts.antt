@@ -27,7 +27,8 @@ no_brace false s g h = h
 apostrophe_stays : (s : List ℕ) → NoClose (apostrophe_front Whole s)
 apostrophe_stays [] = tt
 apostrophe_stays (b ∷ s) =
-    either (b == apostrophe) (takes_text (apostrophe ∷ []) false s) (if is_quotable Whole b then Takes None true (b ∷ s) else takes_text (apostrophe ∷ []) false (b ∷ s)) tt
+    either (b == apostrophe) (takes_text (apostrophe ∷ []) false s)
+    (if is_quotable Whole b then Takes None true (b ∷ s) else takes_text (apostrophe ∷ []) false (b ∷ s)) tt
     (either (is_quotable Whole b) (Takes None true (b ∷ s)) (takes_text (apostrophe ∷ []) false (b ∷ s)) tt tt)
 
 quote_stays : (s : List ℕ) → NoClose (quoted_apostrophe s)
@@ -38,7 +39,8 @@ front_stays : (q : Bool) (s : List ℕ) → NoClose (front Whole q s)
 front_stays true [] = tt
 front_stays false [] = tt
 front_stays true (b ∷ s) =
-    either (b == apostrophe) (quoted_apostrophe s) (takes_text (class_front class.Unquoted (b ∷ s)) true (behind_run class.Unquoted (b ∷ s))) (quote_stays s) tt
+    either (b == apostrophe) (quoted_apostrophe s)
+    (takes_text (class_front class.Unquoted (b ∷ s)) true (behind_run class.Unquoted (b ∷ s))) (quote_stays s) tt
 front_stays false (b ∷ s) =
     let last : Front = takes_text (class_front class.Plain (b ∷ s)) false (behind_run class.Plain (b ∷ s)) in
     let alone : Front = if b == closing || b == hash then takes_text (b ∷ []) false s else last in
@@ -47,7 +49,8 @@ front_stays false (b ∷ s) =
     either (b == apostrophe) (apostrophe_front Whole s) (if b == opening then Opens s else closes) (apostrophe_stays s)
     (either (b == opening) (Opens s) closes tt
     (no_brace (b == closing) s number
-    (either (b == hash && false) (Takes (Some Hash) false s) alone tt (either (b == closing || b == hash) (takes_text (b ∷ []) false s) last tt tt))))
+    (either (b == hash && false) (Takes (Some Hash) false s) alone tt
+    (either (b == closing || b == hash) (takes_text (b ∷ []) false s) last tt tt))))
 
 -- outside branches nothing follows a message
 abbrev pub EndsWhole : PatternPlace → List ℕ → Type 0
@@ -55,7 +58,8 @@ EndsWhole (InMessage c d q) rest = c ≡ Whole → rest ≡ []
 EndsWhole (InArgument d) rest = Unit {0}
 EndsWhole (InBranches kind d other) rest = Unit {0}
 
-pub to_its_end : {formats : Formats} {place : PatternPlace} {s rest : List ℕ} {parts : List Part} → IsReadAt formats place s parts rest → EndsWhole place rest
+pub to_its_end : {formats : Formats} {place : PatternPlace} {s rest : List ℕ} {parts : List Part} → IsReadAt formats place s parts rest
+    → EndsWhole place rest
 to_its_end (message_ends c d q s e w) = λ h. refl
 to_its_end (message_closes c d q s rest e) = λ h.
     absurd (subst NoClose (subst (λ (x : Context). front x q s ≡ Closes rest) h e) (front_stays q s))

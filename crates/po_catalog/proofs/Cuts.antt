@@ -56,13 +56,15 @@ cut_nowhere byte s k le =
 pub first_line : (s : List ℕ) → lines_of s ≡ (cut_at 10 s).0 ∷ lines_left (cut_at 10 s).1
 first_line [] = refl
 first_line (b ∷ s) =
-    elim (b == 10) as (λ (t : Bool). (if t then [] ∷ lines_of s else first_begun_with b (lines_of s)) ≡ (if t then at_once s else begun_with b (cut_at 10 s)).0 ∷ lines_left (if t then at_once s else begun_with b (cut_at 10 s)).1) [
+    elim (b == 10) as (λ (t : Bool). (if t then [] ∷ lines_of s else first_begun_with b (lines_of s))
+    ≡ (if t then at_once s else begun_with b (cut_at 10 s)).0 ∷ lines_left (if t then at_once s else begun_with b (cut_at 10 s)).1) [
       | true ↦ refl
       | false ↦ ap (first_begun_with b) (first_line s)
     ]
 
 -- the first line is taken, and the next one has the next number
-pub next_view : (now : List (ℕ × List ℕ)) (n : ℕ) (left : Option (Bor (List ℕ))) (rest : Bor (List ℕ)) (cut : Bor (List ℕ) × Option (Bor (List ℕ)))
+pub next_view : (now : List (ℕ × List ℕ)) (n : ℕ) (left : Option (Bor (List ℕ))) (rest : Bor (List ℕ))
+    (cut : Bor (List ℕ) × Option (Bor (List ℕ)))
     → now ≡ numbered n (lines_left (left_view left)) → left ≡ Some rest → cut_view cut ≡ cut_at 10 rest.now
     → now ≡ (n, cut.0.now) ∷ numbered (n + 1) (lines_left (left_view cut.1))
 next_view now n left rest cut view is e =

@@ -38,7 +38,8 @@ hexadecimal_within : (k : ℕ) (s : List ℕ) → length (hexadecimal k s).1 ≤
 hexadecimal_within k [] = omega arith
 hexadecimal_within k (b ∷ s) =
     let more : length (hexadecimal (k * 16 + digit_value b) s).1 ≤ length s = hexadecimal_within (k * 16 + digit_value b) s in
-    elim (nat_lt (digit_value b) 16) as (λ (v : Bool). length (if v then hexadecimal (k * 16 + digit_value b) s else (k, b ∷ s)).1 ≤ length (b ∷ s)) [
+    elim (nat_lt (digit_value b) 16) as (λ (v : Bool). length
+    (if v then hexadecimal (k * 16 + digit_value b) s else (k, b ∷ s)).1 ≤ length (b ∷ s)) [
       | true ↦ omega (arith, more)
       | false ↦ omega arith
     ]
@@ -48,7 +49,8 @@ octal_within zero k s = omega arith
 octal_within (suc more) k [] = omega arith
 octal_within (suc more) k (b ∷ s) =
     let rest : length (octal more (k * 8 + digit_value b) s).1 ≤ length s = octal_within more (k * 8 + digit_value b) s in
-    elim (nat_lt (digit_value b) 8) as (λ (v : Bool). length (if v then octal more (k * 8 + digit_value b) s else (k, b ∷ s)).1 ≤ length (b ∷ s)) [
+    elim (nat_lt (digit_value b) 8) as (λ (v : Bool). length (if v then octal more (k * 8 + digit_value b) s else (k, b ∷ s)).1 ≤ length
+    (b ∷ s)) [
       | true ↦ omega (arith, rest)
       | false ↦ omega arith
     ]
@@ -61,25 +63,29 @@ hexadecimal_code_within : (s : List ℕ) → CodeWithin (hexadecimal_code s) (le
 hexadecimal_code_within [] = tt
 hexadecimal_code_within (b ∷ s) =
     let more : length (hexadecimal (digit_value b) s).1 ≤ length s = hexadecimal_within (digit_value b) s in
-    elim (nat_lt (digit_value b) 16) as (λ (v : Bool). CodeWithin (if v then of_ascii (hexadecimal (digit_value b) s) else None) (length (b ∷ s))) [
+    elim (nat_lt (digit_value b) 16) as (λ (v : Bool). CodeWithin (if v then of_ascii (hexadecimal (digit_value b) s) else None)
+    (length (b ∷ s))) [
       | true ↦ of_ascii_within (hexadecimal (digit_value b) s) (length (b ∷ s)) (omega (arith, more))
       | false ↦ tt
     ]
 
 code_front_within : (b : ℕ) (s : List ℕ) → CodeWithin (code_front b s) (length s)
 code_front_within b s =
-    elim (b == 120) as (λ (v : Bool). CodeWithin (if v then hexadecimal_code s else (if nat_lt (digit_value b) 8 then of_ascii (octal 2 (digit_value b) s) else None)) (length s)) [
+    elim (b == 120) as (λ (v : Bool). CodeWithin
+    (if v then hexadecimal_code s else (if nat_lt (digit_value b) 8 then of_ascii (octal 2 (digit_value b) s) else None)) (length s)) [
       | true ↦ hexadecimal_code_within s
-      | false ↦ elim (nat_lt (digit_value b) 8) as (λ (v : Bool). CodeWithin (if v then of_ascii (octal 2 (digit_value b) s) else None) (length s)) [
-        | true ↦ of_ascii_within (octal 2 (digit_value b) s) (length s) (octal_within 2 (digit_value b) s)
-        | false ↦ tt
-      ]
+      | false ↦ elim (nat_lt (digit_value b) 8) as (λ (v : Bool). CodeWithin (if v then of_ascii (octal 2 (digit_value b) s) else None)
+          (length s)) [
+            | true ↦ of_ascii_within (octal 2 (digit_value b) s) (length s) (octal_within 2 (digit_value b) s)
+            | false ↦ tt
+          ]
     ]
 
 behind_digit_within : (first : ℕ) (s : List ℕ) → length (behind_digit first s).1 ≤ length s
 behind_digit_within first [] = omega arith
 behind_digit_within first (b ∷ s) =
-    elim (digit_of b) as (λ (o : Option ℕ). length (second_digit first o b s).1 ≤ length (b ∷ s)) [ None ↦ omega arith | Some second ↦ omega arith ]
+    elim (digit_of b) as (λ (o : Option ℕ). length (second_digit first o b s).1 ≤ length (b ∷ s))
+    [ None ↦ omega arith | Some second ↦ omega arith ]
 
 index_within : (s : List ℕ) → CodeWithin (index_front s) (length s)
 index_within [] = tt
@@ -115,7 +121,8 @@ said_within (b ∷ s) n le =
     let less : length s ≤ n = omega (arith, le) in
     elim (b == 34) as (λ (v : Bool). SaidWithin (if v then Ok (End s) else (if b == 92 then escape_front s else Ok (Byte b s))) n) [
       | true ↦ less
-      | false ↦ elim (b == 92) as (λ (v : Bool). SaidWithin (if v then escape_front s else Ok (Byte b s)) n) [ true ↦ escape_within s n less | false ↦ less ]
+      | false ↦ elim (b == 92) as (λ (v : Bool). SaidWithin (if v then escape_front s else Ok (Byte b s)) n)
+          [ true ↦ escape_within s n less | false ↦ less ]
     ]
 
 -- it is closed, or breaks
@@ -128,7 +135,8 @@ said_first : (s after : List ℕ) (b n : ℕ) → said_front s ≡ Ok (Byte b af
 said_first s after b n e (inl w) = inl (b ∷ w.0, w.1, quoted.goes s after w.0 w.1 b e w.2, omega (arith, w.3))
 said_first s after b n e (inr w) = inr (b ∷ w.0, w.1, quoted.later s after w.0 b w.1 e w.2)
 
-text_at : (s : List ℕ) (n : ℕ) (front : Result Said Cause) → said_front s ≡ front → SaidWithin front n → ((t : List ℕ) → length t ≤ n → TextEnd n t) → TextEnd (suc n) s
+text_at : (s : List ℕ) (n : ℕ) (front : Result Said Cause) → said_front s ≡ front → SaidWithin front n
+    → ((t : List ℕ) → length t ≤ n → TextEnd n t) → TextEnd (suc n) s
 text_at s n (Ok (End rest)) e h shorter = inl ([], rest, quoted.ends s rest e, omega (arith, h))
 text_at s n (Ok (Byte b after)) e h shorter = said_first s after b n e (shorter after h)
 text_at s n (Err cause) e h shorter = inr ([], cause, quoted.at_once s cause e)
@@ -155,12 +163,14 @@ front_weaker (Unknown cause) m n le h = tt
 closed_within : (index : ℕ) (s : List ℕ) → FrontWithin (closed_index index s) (length s)
 closed_within index [] = tt
 closed_within index (b ∷ s) =
-    elim (b == 93) as (λ (v : Bool). FrontWithin (if v then Word (Form (Some index)) s else Unknown BadIndex) (length (b ∷ s))) [ true ↦ omega arith | false ↦ tt ]
+    elim (b == 93) as (λ (v : Bool). FrontWithin (if v then Word (Form (Some index)) s else Unknown BadIndex) (length (b ∷ s)))
+    [ true ↦ omega arith | false ↦ tt ]
 
 form_with_index_within : (i : Option (ℕ × List ℕ)) (n : ℕ) → CodeWithin i n → FrontWithin (form_with_index i) n
 form_with_index_within None n h = tt
 form_with_index_within (Some (index, s)) n h =
-    front_weaker (closed_index index (behind_run is_white s)) (length (behind_run is_white s)) n (omega (arith, h, behind_run_within is_white s))
+    front_weaker (closed_index index (behind_run is_white s)) (length (behind_run is_white s)) n
+    (omega (arith, h, behind_run_within is_white s))
     (closed_within index (behind_run is_white s))
 
 form_at_within : (t rest : List ℕ) → length t ≤ length rest → FrontWithin (form_at t rest) (length rest)
@@ -169,36 +179,75 @@ form_at_within (b ∷ s) rest le =
     let inner = behind_run is_white s in
     elim (b == 91) as (λ (v : Bool). FrontWithin (if v then form_with_index (index_front inner) else Word (Form None) rest) (length rest)) [
       | true ↦ form_with_index_within (index_front inner) (length rest)
-          (code_weaker (index_front inner) (length inner) (length rest) (omega (arith, le, behind_run_within is_white s)) (index_within inner))
+          (code_weaker (index_front inner) (length inner) (length rest) (omega (arith, le, behind_run_within is_white s))
+          (index_within inner))
       | false ↦ omega arith
     ]
 
-domain_within : (word rest : List ℕ) → FrontWithin (if bytes_eq word (codes "domain") then Word Domain rest else Unknown UnknownWord) (length rest)
+domain_within : (word rest : List ℕ)
+    → FrontWithin (if bytes_eq word (codes "domain") then Word Domain rest else Unknown UnknownWord) (length rest)
 domain_within word rest =
-    elim (bytes_eq word (codes "domain")) as (λ (v : Bool). FrontWithin (if v then Word Domain rest else Unknown UnknownWord) (length rest)) [ true ↦ omega arith | false ↦ tt ]
+    elim (bytes_eq word (codes "domain")) as (λ (v : Bool). FrontWithin (if v then Word Domain rest else Unknown UnknownWord)
+    (length rest)) [ true ↦ omega arith | false ↦ tt ]
 
-context_within : (word rest : List ℕ) → FrontWithin (if bytes_eq word (codes "msgctxt") then Word Context rest else (if bytes_eq word (codes "domain") then Word Domain rest else Unknown UnknownWord)) (length rest)
+context_within : (word rest : List ℕ)
+    → FrontWithin (if bytes_eq word (codes "msgctxt") then Word Context rest
+    else (if bytes_eq word (codes "domain") then Word Domain rest else Unknown UnknownWord)) (length rest)
 context_within word rest =
-    elim (bytes_eq word (codes "msgctxt")) as (λ (v : Bool). FrontWithin (if v then Word Context rest else (if bytes_eq word (codes "domain") then Word Domain rest else Unknown UnknownWord)) (length rest)) [ true ↦ omega arith | false ↦ domain_within word rest ]
+    elim (bytes_eq word (codes "msgctxt")) as (λ (v : Bool). FrontWithin
+    (if v then Word Context rest else (if bytes_eq word (codes "domain") then Word Domain rest else Unknown UnknownWord))
+    (length rest)) [ true ↦ omega arith | false ↦ domain_within word rest ]
 
-plural_within : (word rest : List ℕ) → FrontWithin (if bytes_eq word (codes "msgid_plural") then Word PluralId rest else (if bytes_eq word (codes "msgctxt") then Word Context rest else (if bytes_eq word (codes "domain") then Word Domain rest else Unknown UnknownWord))) (length rest)
+plural_within : (word rest : List ℕ)
+    → FrontWithin (if bytes_eq word (codes "msgid_plural") then Word PluralId rest
+    else (if bytes_eq word (codes "msgctxt") then Word Context rest
+    else (if bytes_eq word (codes "domain") then Word Domain rest else Unknown UnknownWord))) (length rest)
 plural_within word rest =
-    elim (bytes_eq word (codes "msgid_plural")) as (λ (v : Bool). FrontWithin (if v then Word PluralId rest else (if bytes_eq word (codes "msgctxt") then Word Context rest else (if bytes_eq word (codes "domain") then Word Domain rest else Unknown UnknownWord))) (length rest)) [ true ↦ omega arith | false ↦ context_within word rest ]
+    elim (bytes_eq word (codes "msgid_plural")) as (λ (v : Bool). FrontWithin
+    (if v then Word PluralId rest
+    else (if bytes_eq word (codes "msgctxt") then Word Context rest
+    else (if bytes_eq word (codes "domain") then Word Domain rest else Unknown UnknownWord))) (length rest))
+    [ true ↦ omega arith | false ↦ context_within word rest ]
 
-form_within : (word rest : List ℕ) → FrontWithin (if bytes_eq word (codes "msgstr") then form_front rest else (if bytes_eq word (codes "msgid_plural") then Word PluralId rest else (if bytes_eq word (codes "msgctxt") then Word Context rest else (if bytes_eq word (codes "domain") then Word Domain rest else Unknown UnknownWord)))) (length rest)
+form_within : (word rest : List ℕ)
+    → FrontWithin (if bytes_eq word (codes "msgstr") then form_front rest
+    else (if bytes_eq word (codes "msgid_plural") then Word PluralId rest
+    else (if bytes_eq word (codes "msgctxt") then Word Context rest
+    else (if bytes_eq word (codes "domain") then Word Domain rest else Unknown UnknownWord)))) (length rest)
 form_within word rest =
-    elim (bytes_eq word (codes "msgstr")) as (λ (v : Bool). FrontWithin (if v then form_front rest else (if bytes_eq word (codes "msgid_plural") then Word PluralId rest else (if bytes_eq word (codes "msgctxt") then Word Context rest else (if bytes_eq word (codes "domain") then Word Domain rest else Unknown UnknownWord)))) (length rest)) [ true ↦ form_at_within (behind_run is_white rest) rest (behind_run_within is_white rest) | false ↦ plural_within word rest ]
+    elim (bytes_eq word (codes "msgstr")) as (λ (v : Bool). FrontWithin
+    (if v then form_front rest
+    else (if bytes_eq word (codes "msgid_plural") then Word PluralId rest
+    else (if bytes_eq word (codes "msgctxt") then Word Context rest
+    else (if bytes_eq word (codes "domain") then Word Domain rest else Unknown UnknownWord)))) (length rest)) [
+      | true ↦ form_at_within (behind_run is_white rest) rest
+          (behind_run_within is_white rest)
+      | false ↦ plural_within word rest
+    ]
 
-keyword_within : (word rest : List ℕ) → FrontWithin (if bytes_eq word (codes "msgid") then Word Id rest else (if bytes_eq word (codes "msgstr") then form_front rest else (if bytes_eq word (codes "msgid_plural") then Word PluralId rest else (if bytes_eq word (codes "msgctxt") then Word Context rest else (if bytes_eq word (codes "domain") then Word Domain rest else Unknown UnknownWord))))) (length rest)
+keyword_within : (word rest : List ℕ)
+    → FrontWithin (if bytes_eq word (codes "msgid") then Word Id rest
+    else (if bytes_eq word (codes "msgstr") then form_front rest
+    else (if bytes_eq word (codes "msgid_plural") then Word PluralId rest
+    else (if bytes_eq word (codes "msgctxt") then Word Context rest
+    else (if bytes_eq word (codes "domain") then Word Domain rest else Unknown UnknownWord))))) (length rest)
 keyword_within word rest =
-    elim (bytes_eq word (codes "msgid")) as (λ (v : Bool). FrontWithin (if v then Word Id rest else (if bytes_eq word (codes "msgstr") then form_front rest else (if bytes_eq word (codes "msgid_plural") then Word PluralId rest else (if bytes_eq word (codes "msgctxt") then Word Context rest else (if bytes_eq word (codes "domain") then Word Domain rest else Unknown UnknownWord))))) (length rest)) [ true ↦ omega arith | false ↦ form_within word rest ]
+    elim (bytes_eq word (codes "msgid")) as (λ (v : Bool). FrontWithin
+    (if v then Word Id rest else
+    (if bytes_eq word (codes "msgstr") then form_front rest
+    else (if bytes_eq word (codes "msgid_plural") then Word PluralId rest
+    else (if bytes_eq word (codes "msgctxt") then Word Context rest
+    else (if bytes_eq word (codes "domain") then Word Domain rest else Unknown UnknownWord))))) (length rest))
+    [ true ↦ omega arith | false ↦ form_within word rest ]
 
 -- a word has a byte, or is none
 word_within : (b : ℕ) (s : List ℕ) → FrontWithin (word_front (b ∷ s)) (length s)
 unfolding word_front
 word_within b s =
-    elim (is_of_word b) as (λ (v : Bool). FrontWithin (keyword_front (if v then b ∷ run_front is_of_word s else []) (if v then behind_run is_of_word s else b ∷ s)) (length s)) [
-      | true ↦ front_weaker (keyword_front (b ∷ run_front is_of_word s) (behind_run is_of_word s)) (length (behind_run is_of_word s)) (length s) (behind_run_within is_of_word s)
+    elim (is_of_word b) as (λ (v : Bool). FrontWithin
+    (keyword_front (if v then b ∷ run_front is_of_word s else []) (if v then behind_run is_of_word s else b ∷ s)) (length s)) [
+      | true ↦ front_weaker (keyword_front (b ∷ run_front is_of_word s) (behind_run is_of_word s)) (length (behind_run is_of_word s))
+          (length s) (behind_run_within is_of_word s)
           (keyword_within (b ∷ run_front is_of_word s) (behind_run is_of_word s))
       | false ↦ tt
     ]
@@ -231,28 +280,34 @@ FieldsEnd l o d s = (end : PoDraft × Option Cause) × ReadsFields l o d s end
 abbrev Shorter : ℕ → ℕ → Bool → Type 0
 Shorter n l o = (d : PoDraft) (s : List ℕ) → length s ≤ n → FieldsEnd l o d s
 
-behind_keyword : (n l : ℕ) (o : Bool) (d next : PoDraft) (s rest : List ℕ) (k : Keyword) (fault : Option Cause) → front_of s ≡ Word k rest → length rest ≤ n
+behind_keyword : (n l : ℕ) (o : Bool) (d next : PoDraft) (s rest : List ℕ) (k : Keyword) (fault : Option Cause)
+    → front_of s ≡ Word k rest → length rest ≤ n
     → keyword_read l o k d ≡ (next, fault) → Shorter n l o → FieldsEnd l o d s
 behind_keyword n l o d next s rest k None e le is shorter =
     let more : FieldsEnd l o next rest = shorter next rest le in
     (more.0, fits d next s rest k more.0 e is more.1)
 behind_keyword n l o d next s rest k (Some cause) e le is shorter = ((next, Some cause), stray_keyword d next s rest k cause e is)
 
-behind_text : (n l : ℕ) (o : Bool) (d : PoDraft) (s rest : List ℕ) (field : PoField) → front_of s ≡ Mark rest → d.field ≡ Some field → TextEnd n rest
+behind_text : (n l : ℕ) (o : Bool) (d : PoDraft) (s rest : List ℕ) (field : PoField) → front_of s ≡ Mark rest → d.field ≡ Some field
+    → TextEnd n rest
     → Shorter n l o → FieldsEnd l o d s
 behind_text n l o d s rest field e at (inl w) shorter =
     let more : FieldsEnd l o (with_field (longer w.0 field) d) w.1 = shorter (with_field (longer w.0 field) d) w.1 w.3 in
     (more.0, goes_on d s rest w.0 w.1 field more.0 e at w.2 more.1)
-behind_text n l o d s rest field e at (inr w) shorter = ((with_field (longer w.0 field) d, Some w.1), breaks d s rest w.0 field w.1 e at w.2)
+behind_text n l o d s rest field e at (inr w) shorter =
+    ((with_field (longer w.0 field) d, Some w.1), breaks d s rest w.0 field w.1 e at w.2)
 
-behind_text_mark : (n l : ℕ) (o : Bool) (d : PoDraft) (s rest : List ℕ) (field : Option PoField) → front_of s ≡ Mark rest → length rest ≤ n → d.field ≡ field
+behind_text_mark : (n l : ℕ) (o : Bool) (d : PoDraft) (s rest : List ℕ) (field : Option PoField) → front_of s ≡ Mark rest
+    → length rest ≤ n → d.field ≡ field
     → Shorter n l o → FieldsEnd l o d s
 behind_text_mark n l o d s rest None e le at shorter = ((with_field passed_over d, Some StrayText), stray_text d s rest e at)
 behind_text_mark n l o d s rest (Some field) e le at shorter = behind_text n l o d s rest field e at (text_end n rest le) shorter
 
-at_front : (n l : ℕ) (o : Bool) (d : PoDraft) (s : List ℕ) (f : PoFront) → front_of s ≡ f → FrontWithin f n → Shorter n l o → FieldsEnd l o d s
+at_front : (n l : ℕ) (o : Bool) (d : PoDraft) (s : List ℕ) (f : PoFront) → front_of s ≡ f → FrontWithin f n → Shorter n l o
+    → FieldsEnd l o d s
 at_front n l o d s Nothing e h shorter = ((d, None), ends d s e)
-at_front n l o d s (Word k rest) e h shorter = behind_keyword n l o d (keyword_read l o k d).0 s rest k (keyword_read l o k d).1 e h refl shorter
+at_front n l o d s (Word k rest) e h shorter =
+    behind_keyword n l o d (keyword_read l o k d).0 s rest k (keyword_read l o k d).1 e h refl shorter
 at_front n l o d s (Mark rest) e h shorter = behind_text_mark n l o d s rest d.field e h refl shorter
 at_front n l o d s (Unknown cause) e h shorter = ((unknown_read d, Some cause), unknown d s cause e)
 
@@ -280,5 +335,6 @@ lines_end d ((n, line) ∷ lines) =
 
 pub every_file : EveryFileIsACatalog
 every_file = λ file.
-    let read : (end : PoDraft) × ReadsLines empty_draft (numbered 1 (lines_of (behind_mark file))) end = lines_end empty_draft (numbered 1 (lines_of (behind_mark file))) in
+    let read : (end : PoDraft) × ReadsLines empty_draft (numbered 1 (lines_of (behind_mark file))) end =
+    lines_end empty_draft (numbered 1 (lines_of (behind_mark file))) in
     (catalog_at (all_ended read.0), record { end = read.0; read = read.1; whole = refl })

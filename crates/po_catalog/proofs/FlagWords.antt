@@ -26,8 +26,10 @@ further_flags : (s : List ℕ) → filter is_any (further (behind_run is_of_flag
 further_flags [] = refl
 further_flags (b ∷ s) =
     elim (is_between_flags b) as (λ (v : Bool). is_between_flags b ≡ v
-    → filter is_any (further (if not v then behind_run is_of_flag s else b ∷ s)) ≡ flags_of (if not v then behind_run is_of_flag s else b ∷ s)) [
-      | true ↦ λ e. sym (ap (λ (v : Bool). filter is_any (cond v ([] ∷ slice_split is_between_flags s) (onto_first b (slice_split is_between_flags s)))) e)
+    → filter is_any (further (if not v then behind_run is_of_flag s else b ∷ s))
+    ≡ flags_of (if not v then behind_run is_of_flag s else b ∷ s)) [
+      | true ↦ λ e. sym (ap (λ (v : Bool). filter is_any
+          (cond v ([] ∷ slice_split is_between_flags s) (onto_first b (slice_split is_between_flags s)))) e)
       | false ↦ λ e. further_flags s
     ] refl
 
@@ -35,8 +37,10 @@ further_flags (b ∷ s) =
 between_flags : (s : List ℕ) → flags_of s ≡ flags_of (behind_run is_between_flags s)
 between_flags [] = refl
 between_flags (b ∷ s) =
-    elim (is_between_flags b) as (λ (v : Bool). is_between_flags b ≡ v → flags_of (b ∷ s) ≡ flags_of (if v then behind_run is_between_flags s else b ∷ s)) [
-      | true ↦ λ e. ap (λ (v : Bool). filter is_any (cond v ([] ∷ slice_split is_between_flags s) (onto_first b (slice_split is_between_flags s)))) e ∙ between_flags s
+    elim (is_between_flags b) as (λ (v : Bool). is_between_flags b ≡ v
+    → flags_of (b ∷ s) ≡ flags_of (if v then behind_run is_between_flags s else b ∷ s)) [
+      | true ↦ λ e. ap (λ (v : Bool). filter is_any
+          (cond v ([] ∷ slice_split is_between_flags s) (onto_first b (slice_split is_between_flags s)))) e ∙ between_flags s
       | false ↦ λ e. refl
     ] refl
 
@@ -44,11 +48,13 @@ between_flags (b ∷ s) =
 no_flag : (s : List ℕ) → length (first_flag s) ≡ 0 → behind_run is_between_flags s ≡ []
 no_flag [] = λ h. refl
 no_flag (b ∷ s) =
-    elim (is_between_flags b) as (λ (v : Bool). is_between_flags b ≡ v → length (run_front is_of_flag (if v then behind_run is_between_flags s else b ∷ s)) ≡ 0
+    elim (is_between_flags b) as (λ (v : Bool). is_between_flags b ≡ v
+    → length (run_front is_of_flag (if v then behind_run is_between_flags s else b ∷ s)) ≡ 0
     → (if v then behind_run is_between_flags s else b ∷ s) ≡ []) [
       | true ↦ λ e h. no_flag s h
       | false ↦ λ e h.
-          let one : length (run_front is_of_flag (b ∷ s)) ≡ suc (length (run_front is_of_flag s)) = ap (λ (v : Bool). length (if not v then b ∷ run_front is_of_flag s else [])) e in
+          let one : length (run_front is_of_flag (b ∷ s)) ≡ suc (length (run_front is_of_flag s)) =
+          ap (λ (v : Bool). length (if not v then b ∷ run_front is_of_flag s else [])) e in
           absurd (omega (arith, one, h))
     ] refl
 
@@ -75,7 +81,8 @@ Contains-head flag name flags e = (zero, omega arith, e)
 pub Contains-tail : (flag name : List ℕ) (flags : List (List ℕ)) → Contains flags name → Contains (flag ∷ flags) name
 Contains-tail flag name flags h = (suc h.0, omega (arith, h.1), h.2)
 
-at_tail : (flag name : List ℕ) (flags : List (List ℕ)) (k : ℕ) → (flag ≡ name → ⊥) → k < length (flag ∷ flags) → slice_index_or (flag ∷ flags) k name ≡ name → Contains flags name
+at_tail : (flag name : List ℕ) (flags : List (List ℕ)) (k : ℕ) → (flag ≡ name → ⊥) → k < length (flag ∷ flags)
+    → slice_index_or (flag ∷ flags) k name ≡ name → Contains flags name
 at_tail flag name flags zero ne lt e = absurd (ne e)
 at_tail flag name flags (suc k) ne lt e = (k, omega (arith, lt), e)
 
@@ -87,7 +94,8 @@ Contains-nil name h = omega (arith, h.1)
 
 -- ---- the search for a flag
 
-pub none_left : (whole rest name flag : List ℕ) → (Contains (flags_of whole) name → Contains (flags_of rest) name) → flag ≡ first_flag rest → length flag ≡ 0
+pub none_left : (whole rest name flag : List ℕ) → (Contains (flags_of whole) name → Contains (flags_of rest) name)
+    → flag ≡ first_flag rest → length flag ≡ 0
     → Contains (flags_of whole) name → ⊥
 none_left whole rest name flag left e none h =
     Contains-nil name (subst (λ (flags : List (List ℕ)). Contains flags name) (flags-nil rest (ap length (sym e) ∙ none)) (left h))
@@ -95,9 +103,11 @@ none_left whole rest name flag left e none h =
 pub found_here : (rest name flag : List ℕ) → flag ≡ first_flag rest → 0 < length flag → flag ≡ name → Contains (flags_of rest) name
 found_here rest name flag e some is =
     let any : 0 < length (first_flag rest) = omega (arith, some, ap length e) in
-    subst (λ (flags : List (List ℕ)). Contains flags name) (sym (flags-cons rest any)) (Contains-head (first_flag rest) name (flags_of (behind_flag rest)) (sym e ∙ is))
+    subst (λ (flags : List (List ℕ)). Contains flags name) (sym (flags-cons rest any))
+    (Contains-head (first_flag rest) name (flags_of (behind_flag rest)) (sym e ∙ is))
 
-pub found_later : (rest name flag after : List ℕ) → flag ≡ first_flag rest → after ≡ behind_flag rest → 0 < length flag → Contains (flags_of after) name → Contains (flags_of rest) name
+pub found_later : (rest name flag after : List ℕ) → flag ≡ first_flag rest → after ≡ behind_flag rest → 0 < length flag
+    → Contains (flags_of after) name → Contains (flags_of rest) name
 found_later rest name flag after e f some h =
     let any : 0 < length (first_flag rest) = omega (arith, some, ap length e) in
     subst (λ (flags : List (List ℕ)). Contains flags name) (sym (flags-cons rest any))
@@ -108,16 +118,19 @@ pub left_later : (rest name flag after : List ℕ) → flag ≡ first_flag rest 
 left_later rest name flag after e f some ne h =
     let any : 0 < length (first_flag rest) = omega (arith, some, ap length e) in
     subst (λ (s : List ℕ). Contains (flags_of s) name) (sym f)
-    (Contains-later (first_flag rest) name (flags_of (behind_flag rest)) (λ is. ne (e ∙ is)) (subst (λ (flags : List (List ℕ)). Contains flags name) (flags-cons rest any) h))
+    (Contains-later (first_flag rest) name (flags_of (behind_flag rest)) (λ is. ne (e ∙ is))
+    (subst (λ (flags : List (List ℕ)). Contains flags name) (flags-cons rest any) h))
 
 -- ---- the flags of a comment are added one after the other
 
-pub no_more_flags : (now whole rest flag : List ℕ) → now ++ flat_map with_comma (flags_of rest) ≡ whole → flag ≡ first_flag rest → length flag ≡ 0 → now ≡ whole
+pub no_more_flags : (now whole rest flag : List ℕ) → now ++ flat_map with_comma (flags_of rest) ≡ whole → flag ≡ first_flag rest
+    → length flag ≡ 0 → now ≡ whole
 no_more_flags now whole rest flag h e none =
     sym (append-nil now)
     ∙ (ap (λ (flags : List (List ℕ)). now ++ flat_map with_comma flags) (sym (flags-nil rest (ap length (sym e) ∙ none))) ∙ h)
 
-pub more_flags : (now mid next whole rest flag after : List ℕ) → now ++ flat_map with_comma (flags_of rest) ≡ whole → flag ≡ first_flag rest → after ≡ behind_flag rest
+pub more_flags : (now mid next whole rest flag after : List ℕ) → now ++ flat_map with_comma (flags_of rest) ≡ whole
+    → flag ≡ first_flag rest → after ≡ behind_flag rest
     → 0 < length flag → mid ≡ now ++ flag → next ≡ mid ++ 44 ∷ [] → next ++ flat_map with_comma (flags_of after) ≡ whole
 more_flags now mid next whole rest flag after h e f some is comma =
     let any : 0 < length (first_flag rest) = omega (arith, some, ap length e) in

@@ -19,21 +19,25 @@ field_step name rest cut e =
     ap (first_value name) (first_line rest)
     ∙ ap (λ (x : List ℕ × Option (List ℕ)). option_or (value_in name x.0) (first_value name (lines_left x.1))) (sym e)
 
-pub field_here : (name rest whole value : List ℕ) (cut : Bor (List ℕ) × Option (Bor (List ℕ))) → field_in name rest ≡ field_in name whole → cut_view cut ≡ cut_at 10 rest
+pub field_here : (name rest whole value : List ℕ) (cut : Bor (List ℕ) × Option (Bor (List ℕ)))
+    → field_in name rest ≡ field_in name whole → cut_view cut ≡ cut_at 10 rest
     → Some value ≡ value_in name cut.0.now → Some value ≡ field_in name whole
 field_here name rest whole value cut h e is =
     ap (λ (o : Option (List ℕ)). option_or o (first_value name (lines_left (left_view cut.1)))) is ∙ (sym (field_step name rest cut e) ∙ h)
 
-pub field_later : (name rest whole : List ℕ) (cut : Bor (List ℕ) × Option (Bor (List ℕ))) → field_in name rest ≡ field_in name whole → cut_view cut ≡ cut_at 10 rest
+pub field_later : (name rest whole : List ℕ) (cut : Bor (List ℕ) × Option (Bor (List ℕ))) → field_in name rest ≡ field_in name whole
+    → cut_view cut ≡ cut_at 10 rest
     → None ≡ value_in name cut.0.now → first_value name (lines_left (left_view cut.1)) ≡ field_in name whole
 field_later name rest whole cut h e none =
-    ap (λ (o : Option (List ℕ)). option_or o (first_value name (lines_left (left_view cut.1)))) none ∙ (sym (field_step name rest cut e) ∙ h)
+    ap (λ (o : Option (List ℕ)). option_or o (first_value name (lines_left (left_view cut.1)))) none
+    ∙ (sym (field_step name rest cut e) ∙ h)
 
 -- no line follows, or further ones
 pub field_nowhere : (name whole : List ℕ) (after result : Option (Bor (List ℕ))) → result ≡ None → after ≡ None
     → first_value name (lines_left (left_view after)) ≡ field_in name whole → option_copied result ≡ field_in name whole
 field_nowhere name whole after result none e h =
-    ap (λ (o : Option (Bor (List ℕ))). option_copied o) none ∙ (sym (ap (λ (o : Option (Bor (List ℕ))). first_value name (lines_left (left_view o))) e) ∙ h)
+    ap (λ (o : Option (Bor (List ℕ))). option_copied o) none
+    ∙ (sym (ap (λ (o : Option (Bor (List ℕ))). first_value name (lines_left (left_view o))) e) ∙ h)
 
 pub field_goes : (name whole : List ℕ) (after : Option (Bor (List ℕ))) (rest : Bor (List ℕ)) → after ≡ Some rest
     → first_value name (lines_left (left_view after)) ≡ field_in name whole → field_in name rest.now ≡ field_in name whole
@@ -44,17 +48,21 @@ field_goes name whole after rest e h = sym (ap (λ (o : Option (Bor (List ℕ)))
 abbrev pub header_from : List Entry → ℕ → Option PoMessage
 header_from entries k = find is_header (map message_view (drop k entries))
 
-cut_off : (entries : List Entry) (k : ℕ) (entry : Entry) → k < length entries → entry ≡ get_or entries k entry → drop k entries ≡ entry ∷ drop (k + 1) entries
+cut_off : (entries : List Entry) (k : ℕ) (entry : Entry) → k < length entries → entry ≡ get_or entries k entry
+    → drop k entries ≡ entry ∷ drop (k + 1) entries
 cut_off entries k entry lt is =
-    drop-cons entries k entry lt ∙ (ap (λ (x : Entry). x ∷ drop (suc k) entries) (sym is) ∙ ap (λ (n : ℕ). entry ∷ drop n entries) (sym (add-one k)))
+    drop-cons entries k entry lt
+    ∙ (ap (λ (x : Entry). x ∷ drop (suc k) entries) (sym is) ∙ ap (λ (n : ℕ). entry ∷ drop n entries) (sym (add-one k)))
 
-pub header_here : (entries : List Entry) (k : ℕ) (entry : Entry) → k < length entries → entry ≡ get_or entries k entry → true ≡ is_header (message_view entry)
+pub header_here : (entries : List Entry) (k : ℕ) (entry : Entry) → k < length entries → entry ≡ get_or entries k entry
+    → true ≡ is_header (message_view entry)
     → header_from entries k ≡ Some (message_view entry)
 header_here entries k entry lt is found =
     ap (λ (xs : List Entry). find is_header (map message_view xs)) (cut_off entries k entry lt is)
     ∙ ap (λ (v : Bool). cond v (Some (message_view entry)) (header_from entries (k + 1))) (sym found)
 
-pub header_later : (entries : List Entry) (k : ℕ) (entry : Entry) → k < length entries → entry ≡ get_or entries k entry → false ≡ is_header (message_view entry)
+pub header_later : (entries : List Entry) (k : ℕ) (entry : Entry) → k < length entries → entry ≡ get_or entries k entry
+    → false ≡ is_header (message_view entry)
     → header_from entries k ≡ header_from entries (k + 1)
 header_later entries k entry lt is other =
     ap (λ (xs : List Entry). find is_header (map message_view xs)) (cut_off entries k entry lt is)

@@ -66,7 +66,8 @@ closed_along : (n : ℕ) (t : List ℕ) (d e : PoDraft) → IsAlike d e → IsCl
 closed_along n t d e same (inl h) = inl (have_along n t d e same h)
 closed_along n t d e same (inr h) = inr (taken_along n t d e same h)
 
-holds_along : (n : ℕ) (t : List ℕ) (field : Option PoField) (d e : PoDraft) → IsAlike d e → HoldsBeside n t field d → HoldsBeside n t field e
+holds_along : (n : ℕ) (t : List ℕ) (field : Option PoField) (d e : PoDraft) → IsAlike d e → HoldsBeside n t field d
+    → HoldsBeside n t field e
 holds_along n t None d e same h = closed_along n t d e same h
 holds_along n t (Some field) d e same (inl h) = inl (have_along n t d e same h)
 holds_along n t (Some field) d e same (inr (inl h)) = inr (inl (taken_along n t d e same h.0, h.1))
@@ -99,7 +100,8 @@ text_checked_alike false l d = told_alike l cause.NoText d
 form_checked_alike : (d : PoDraft) → IsAlike d (form_checked d)
 unfolding form_checked
 form_checked_alike d =
-    elim (has_no_form d.message && not d.message.is_faulty) as (λ (v : Bool). IsAlike d (if v then told d.message.line cause.NoForm d else d)) [
+    elim (has_no_form d.message
+    && not d.message.is_faulty) as (λ (v : Bool). IsAlike d (if v then told d.message.line cause.NoForm d else d)) [
       | true ↦ told_alike d.message.line cause.NoForm d
       | false ↦ itself d
     ]
@@ -116,9 +118,11 @@ other_text place.Form text m h = refl
 id_text : (goes : Place) (text : PoText) (m : PoMessage) → goes ≡ place.Id → (with_text goes text m).id ≡ Some text
 id_text goes text m e = ap (λ (p : Place). (with_text p text m).id) e
 
-field_taken_closed : (n : ℕ) (t : List ℕ) (field : PoField) (d : PoDraft) → HoldsBeside n t (Some field) d → IsClosed n t (field_taken field d)
+field_taken_closed : (n : ℕ) (t : List ℕ) (field : PoField) (d : PoDraft) → HoldsBeside n t (Some field) d
+    → IsClosed n t (field_taken field d)
 unfolding field_taken
-field_taken_closed n t field d (inl h) = inl (have_along n t d (text_checked field.is_given field.text.line d) (text_checked_alike field.is_given field.text.line d) h)
+field_taken_closed n t field d (inl h) =
+    inl (have_along n t d (text_checked field.is_given field.text.line d) (text_checked_alike field.is_given field.text.line d) h)
 field_taken_closed n t field d (inr (inl h)) =
     let e = text_checked field.is_given field.text.line d in
     let same : Taken n t e = taken_along n t d e (text_checked_alike field.is_given field.text.line d) h.0 in
@@ -129,7 +133,8 @@ field_taken_closed n t field d (inr (inr h)) =
     let told_text : PoText → Option PoText = λ x. Some x in
     inr (h.0, id_text field.place field.text e.message h.1 ∙ ap told_text h.2, same.is_begun ∙ h.3)
 
-field_ended_closed : (n : ℕ) (t : List ℕ) (field : Option PoField) (d : PoDraft) → HoldsBeside n t field d → IsClosed n t (field_ended field d)
+field_ended_closed : (n : ℕ) (t : List ℕ) (field : Option PoField) (d : PoDraft) → HoldsBeside n t field d
+    → IsClosed n t (field_ended field d)
 field_ended_closed n t None d h = h
 field_ended_closed n t (Some field) d h = field_taken_closed n t field (record d { field = None }) h
 
@@ -184,19 +189,23 @@ ended_before_closed n t o k d h =
 ended_before_id : (n : ℕ) (t : List ℕ) (o : Bool) (d : PoDraft) → IsClosed n t d → HaveId n t (ended_before o Id d).messages
 unfolding ended_before
 ended_before_id n t o d (inl h) =
-    elim (ends_before Id d.message || differ d.message.is_obsolete o) as (λ (v : Bool). HaveId n t (if v then message_ended d else d).messages) [
+    elim (ends_before Id d.message
+    || differ d.message.is_obsolete o) as (λ (v : Bool). HaveId n t (if v then message_ended d else d).messages) [
       | true ↦ message_ended_has n t d (inl h)
       | false ↦ h
     ]
 ended_before_id n t o d (inr h) =
     let behind = not (is_none d.message.plural_id) || not (has_no_form d.message) in
     let other = differ d.message.is_obsolete o in
-    subst (λ (x : Option PoText). HaveId n t (if (not (is_none x) || behind) || other then message_ended d else d).messages) (sym h.1) (message_ended_has n t d (inr h))
+    subst (λ (x : Option PoText). HaveId n t (if (not (is_none x) || behind) || other then message_ended d else d).messages)
+    (sym h.1) (message_ended_has n t d (inr h))
 
-message_begun_has : (n : ℕ) (t : List ℕ) (l : ℕ) (o : Bool) (d : PoDraft) → HaveId n t d.messages → HaveId n t (message_begun l o d).messages
+message_begun_has : (n : ℕ) (t : List ℕ) (l : ℕ) (o : Bool) (d : PoDraft) → HaveId n t d.messages
+    → HaveId n t (message_begun l o d).messages
 unfolding message_begun
 message_begun_has n t l o d h =
-    elim d.is_begun as (λ (v : Bool). HaveId n t (if v then d else record d { message = record d.message { line = l; is_obsolete = o }; is_begun = true }).messages) [
+    elim d.is_begun as (λ (v : Bool). HaveId n t
+    (if v then d else record d { message = record d.message { line = l; is_obsolete = o }; is_begun = true }).messages) [
       | true ↦ h
       | false ↦ h
     ]
@@ -204,7 +213,8 @@ message_begun_has n t l o d h =
 message_begun_taken : (n : ℕ) (t : List ℕ) (l : ℕ) (o : Bool) (d : PoDraft) → Taken n t d → Taken n t (message_begun l o d)
 unfolding message_begun
 message_begun_taken n t l o d h =
-    elim d.is_begun as (λ (v : Bool). Taken n t (if v then d else record d { message = record d.message { line = l; is_obsolete = o }; is_begun = true })) [
+    elim d.is_begun as (λ (v : Bool). Taken n t
+    (if v then d else record d { message = record d.message { line = l; is_obsolete = o }; is_begun = true })) [
       | true ↦ h
       | false ↦ (h.0, h.1, refl)
     ]
@@ -212,12 +222,14 @@ message_begun_taken n t l o d h =
 pub is_begun_now : (l : ℕ) (o : Bool) (d : PoDraft) → (message_begun l o d).is_begun ≡ true
 unfolding message_begun
 is_begun_now l o d =
-    elim d.is_begun as (λ (v : Bool). d.is_begun ≡ v → (if v then d else record d { message = record d.message { line = l; is_obsolete = o }; is_begun = true }).is_begun ≡ true) [
+    elim d.is_begun as (λ (v : Bool). d.is_begun ≡ v
+    → (if v then d else record d { message = record d.message { line = l; is_obsolete = o }; is_begun = true }).is_begun ≡ true) [
       | true ↦ λ e. e
       | false ↦ λ e. refl
     ] refl
 
-keyword_has : (n : ℕ) (t : List ℕ) (l : ℕ) (o : Bool) (k : Keyword) (d : PoDraft) → HaveId n t d.messages → HaveId n t (keyword_of_message l o k d).messages
+keyword_has : (n : ℕ) (t : List ℕ) (l : ℕ) (o : Bool) (k : Keyword) (d : PoDraft) → HaveId n t d.messages
+    → HaveId n t (keyword_of_message l o k d).messages
 keyword_has n t l o Domain d h = h
 keyword_has n t l o Context d h = message_begun_has n t l o d h
 keyword_has n t l o Id d h = message_begun_has n t l o d h
@@ -231,7 +243,8 @@ keyword_taken n t l o Id d h = message_begun_taken n t l o d h
 keyword_taken n t l o PluralId d h = message_begun_taken n t l o d h
 keyword_taken n t l o (Form index) d h = message_begun_taken n t l o d h
 
-keyword_closed : (n : ℕ) (t : List ℕ) (l : ℕ) (o : Bool) (k : Keyword) (d : PoDraft) → IsClosed n t d → IsClosed n t (keyword_of_message l o k d)
+keyword_closed : (n : ℕ) (t : List ℕ) (l : ℕ) (o : Bool) (k : Keyword) (d : PoDraft) → IsClosed n t d
+    → IsClosed n t (keyword_of_message l o k d)
 keyword_closed n t l o k d (inl h) = inl (keyword_has n t l o k d h)
 keyword_closed n t l o k d (inr h) = inr (keyword_taken n t l o k d h)
 
@@ -250,23 +263,29 @@ GoesElsewhere (Err cause) = Unit {0}
 
 plural_elsewhere : (m : PoMessage) → GoesElsewhere (plural_place m)
 plural_elsewhere m =
-    elim (not (is_none m.id) && (is_none m.plural_id && has_no_form m)) as (λ (v : Bool). GoesElsewhere (if v then Ok place.PluralId else Err cause.StrayPluralId)) [ true ↦ tt | false ↦ tt ]
+    elim (not (is_none m.id) && (is_none m.plural_id && has_no_form m)) as (λ (v : Bool). GoesElsewhere
+    (if v then Ok place.PluralId else Err cause.StrayPluralId)) [ true ↦ tt | false ↦ tt ]
 
 next_elsewhere : (index : Option ℕ) (m : PoMessage) → GoesElsewhere (next_form index m)
 next_elsewhere None m =
-    elim (is_none m.plural_id) as (λ (v : Bool). GoesElsewhere (if not v then Err cause.FormWithoutIndex else (if has_no_form m then Ok place.Form else Err cause.SecondForm))) [
-      | true ↦ elim (has_no_form m) as (λ (v : Bool). GoesElsewhere (if v then Ok place.Form else Err cause.SecondForm)) [ true ↦ tt | false ↦ tt ]
+    elim (is_none m.plural_id) as (λ (v : Bool). GoesElsewhere
+    (if not v then Err cause.FormWithoutIndex else (if has_no_form m then Ok place.Form else Err cause.SecondForm))) [
+      | true ↦ elim (has_no_form m) as (λ (v : Bool). GoesElsewhere (if v then Ok place.Form else Err cause.SecondForm))
+          [ true ↦ tt | false ↦ tt ]
       | false ↦ tt
     ]
 next_elsewhere (Some index) m =
-    elim (is_none m.plural_id) as (λ (v : Bool). GoesElsewhere (if v then Err cause.IndexWithoutPluralId else (if index == length m.forms then Ok place.Form else Err cause.WrongIndex))) [
+    elim (is_none m.plural_id) as (λ (v : Bool). GoesElsewhere
+    (if v then Err cause.IndexWithoutPluralId else (if index == length m.forms then Ok place.Form else Err cause.WrongIndex))) [
       | true ↦ tt
-      | false ↦ elim (index == length m.forms) as (λ (v : Bool). GoesElsewhere (if v then Ok place.Form else Err cause.WrongIndex)) [ true ↦ tt | false ↦ tt ]
+      | false ↦ elim (index == length m.forms) as (λ (v : Bool). GoesElsewhere (if v then Ok place.Form else Err cause.WrongIndex))
+          [ true ↦ tt | false ↦ tt ]
     ]
 
 form_elsewhere : (index : Option ℕ) (m : PoMessage) → GoesElsewhere (form_place index m)
 form_elsewhere index m =
-    elim (is_none m.id) as (λ (v : Bool). GoesElsewhere (if v then Err cause.FormWithoutId else next_form index m)) [ true ↦ tt | false ↦ next_elsewhere index m ]
+    elim (is_none m.id) as (λ (v : Bool). GoesElsewhere (if v then Err cause.FormWithoutId else next_form index m))
+    [ true ↦ tt | false ↦ next_elsewhere index m ]
 
 goes_elsewhere : (k : Keyword) (m : PoMessage) → IsOtherKeyword k → GoesElsewhere (place_of k m)
 goes_elsewhere Domain m h = tt
@@ -280,24 +299,29 @@ unfolding with_field
 begun_has n t (Ok goes) l d h = inl h
 begun_has n t (Err cause) l d h = inl h
 
-begun_holds : (n : ℕ) (t : List ℕ) (r : Result Place Cause) (l : ℕ) (d : PoDraft) → GoesElsewhere r → IsClosed n t d → Holds n t (field_begun r l d).0
+begun_holds : (n : ℕ) (t : List ℕ) (r : Result Place Cause) (l : ℕ) (d : PoDraft) → GoesElsewhere r → IsClosed n t d
+    → Holds n t (field_begun r l d).0
 unfolding with_field
 begun_holds n t r l d other (inl h) = begun_has n t r l d h
 begun_holds n t (Ok goes) l d other (inr h) = inr (inl (h, other))
 begun_holds n t (Err cause) l d other (inr h) = inr (inl (h, tt))
 
-other_read : (n : ℕ) (t : List ℕ) (l : ℕ) (o : Bool) (k : Keyword) (d : PoDraft) → IsOtherKeyword k → Holds n t d → Holds n t (keyword_read l o k d).0
+other_read : (n : ℕ) (t : List ℕ) (l : ℕ) (o : Bool) (k : Keyword) (d : PoDraft) → IsOtherKeyword k → Holds n t d
+    → Holds n t (keyword_read l o k d).0
 unfolding keyword_read placed
 other_read n t l o k d other h =
     let e = ended_before o k (text_ended d) in
-    let closed : IsClosed n t (keyword_of_message l o k e) = keyword_closed n t l o k e (ended_before_closed n t o k (text_ended d) (text_ended_closed n t d h)) in
-    begun_holds n t (place_of k (keyword_of_message l o k e).message) l (keyword_of_message l o k e) (goes_elsewhere k (keyword_of_message l o k e).message other) closed
+    let closed : IsClosed n t (keyword_of_message l o k e) =
+    keyword_closed n t l o k e (ended_before_closed n t o k (text_ended d) (text_ended_closed n t d h)) in
+    begun_holds n t (place_of k (keyword_of_message l o k e).message) l (keyword_of_message l o k e)
+    (goes_elsewhere k (keyword_of_message l o k e).message other) closed
 
 id_read : (n : ℕ) (t : List ℕ) (l : ℕ) (o : Bool) (d : PoDraft) → Holds n t d → Holds n t (keyword_read l o Id d).0
 unfolding keyword_read placed
 id_read n t l o d h =
     let e = ended_before o Id (text_ended d) in
-    begun_has n t (Ok place.Id) l (message_begun l o e) (message_begun_has n t l o e (ended_before_id n t o (text_ended d) (text_ended_closed n t d h)))
+    begun_has n t (Ok place.Id) l (message_begun l o e)
+    (message_begun_has n t l o e (ended_before_id n t o (text_ended d) (text_ended_closed n t d h)))
 
 keyword_holds : (n : ℕ) (t : List ℕ) (l : ℕ) (o : Bool) (k : Keyword) (d : PoDraft) → Holds n t d → Holds n t (keyword_read l o k d).0
 keyword_holds n t l o Domain d h = other_read n t l o Domain d tt h
@@ -319,41 +343,51 @@ stray_holds n t d e h = closed_passed n t d (subst (λ (x : Option PoField). Hol
 if_whole_closed : (n : ℕ) (t : List ℕ) (d : PoDraft) → IsClosed n t d → IsClosed n t (ended_if_whole d)
 unfolding ended_if_whole
 if_whole_closed n t d h =
-    elim (d.is_whole && d.is_apart) as (λ (v : Bool). IsClosed n t (if v then message_ended d else d)) [ true ↦ inl (message_ended_has n t d h) | false ↦ h ]
+    elim (d.is_whole && d.is_apart) as (λ (v : Bool). IsClosed n t (if v then message_ended d else d))
+    [ true ↦ inl (message_ended_has n t d h) | false ↦ h ]
 
 unknown_holds : (n : ℕ) (t : List ℕ) (d : PoDraft) → Holds n t d → Holds n t (unknown_read d)
 unfolding unknown_read
 unknown_holds n t d h = closed_passed n t (ended_if_whole (text_ended d)) (if_whole_closed n t (text_ended d) (text_ended_closed n t d h))
 
-longer_text : (n : ℕ) (t more text : List ℕ) (field : PoField) → field.text ≡ text_of n t more → (longer text field).text ≡ text_of n t (more ++ text)
+longer_text : (n : ℕ) (t more text : List ℕ) (field : PoField) → field.text ≡ text_of n t more
+    → (longer text field).text ≡ text_of n t (more ++ text)
 longer_text n t more text field e =
-    ap (λ (x : PoText). record x { bytes = x.bytes ++ text }) e ∙ ap (λ (bs : List ℕ). record { line = n; bytes = bs }) (append_assoc t more text)
+    ap (λ (x : PoText). record x { bytes = x.bytes ++ text }) e
+    ∙ ap (λ (bs : List ℕ). record { line = n; bytes = bs }) (append_assoc t more text)
 
-longer_holds : (n : ℕ) (t text : List ℕ) (field : PoField) (d : PoDraft) → HoldsBeside n t (Some field) d → Holds n t (with_field (longer text field) d)
+longer_holds : (n : ℕ) (t text : List ℕ) (field : PoField) (d : PoDraft) → HoldsBeside n t (Some field) d
+    → Holds n t (with_field (longer text field) d)
 unfolding with_field
 longer_holds n t text field d (inl h) = inl h
 longer_holds n t text field d (inr (inl h)) = inr (inl h)
 longer_holds n t text field d (inr (inr h)) = inr (inr (h.0 ++ text, h.1, longer_text n t h.0 text field h.2, h.3))
 
-goes_on_holds : (n : ℕ) (t text : List ℕ) (field : PoField) (d : PoDraft) → d.field ≡ Some field → Holds n t d → Holds n t (with_field (longer text field) d)
+goes_on_holds : (n : ℕ) (t text : List ℕ) (field : PoField) (d : PoDraft) → d.field ≡ Some field → Holds n t d
+    → Holds n t (with_field (longer text field) d)
 goes_on_holds n t text field d at h = longer_holds n t text field d (subst (λ (x : Option PoField). HoldsBeside n t x d) at h)
 
-fields_hold : (n : ℕ) (t : List ℕ) (l : ℕ) (o : Bool) {d : PoDraft} {s : List ℕ} {end : PoDraft × Option Cause} → ReadsFields l o d s end → Holds n t d → Holds n t end.0
+fields_hold : (n : ℕ) (t : List ℕ) (l : ℕ) (o : Bool) {d : PoDraft} {s : List ℕ} {end : PoDraft × Option Cause}
+    → ReadsFields l o d s end → Holds n t d → Holds n t end.0
 fields_hold n t l o (ends d s e) h = h
 fields_hold n t l o (unknown d s cause e) h = unknown_holds n t d h
 fields_hold n t l o (fits d next s rest k end e is more) h =
     fields_hold n t l o more (subst (λ (r : PoDraft × Option Cause). Holds n t r.0) is (keyword_holds n t l o k d h))
-fields_hold n t l o (stray_keyword d next s rest k cause e is) h = subst (λ (r : PoDraft × Option Cause). Holds n t r.0) is (keyword_holds n t l o k d h)
-fields_hold n t l o (goes_on d s rest text after field end e at says more) h = fields_hold n t l o more (goes_on_holds n t text field d at h)
+fields_hold n t l o (stray_keyword d next s rest k cause e is) h =
+    subst (λ (r : PoDraft × Option Cause). Holds n t r.0) is (keyword_holds n t l o k d h)
+fields_hold n t l o (goes_on d s rest text after field end e at says more) h =
+    fields_hold n t l o more (goes_on_holds n t text field d at h)
 fields_hold n t l o (breaks d s rest text field cause e at broken) h = goes_on_holds n t text field d at h
 fields_hold n t l o (stray_text d s rest e at) h = stray_holds n t d at h
 
 -- ---- lines
 
-checked_holds : (n : ℕ) (t : List ℕ) (l : ℕ) (s : List ℕ) (fault : Option Cause) (d : PoDraft) → Holds n t d → Holds n t (line_checked l s fault d)
+checked_holds : (n : ℕ) (t : List ℕ) (l : ℕ) (s : List ℕ) (fault : Option Cause) (d : PoDraft) → Holds n t d
+    → Holds n t (line_checked l s fault d)
 checked_holds n t l s (Some found) d h = told_holds n t l found d h
 checked_holds n t l s None d h =
-    elim (is_utf8 s) as (λ (v : Bool). Holds n t (if v then d else told l cause.NotUtf8 d)) [ true ↦ h | false ↦ told_holds n t l cause.NotUtf8 d h ]
+    elim (is_utf8 s) as (λ (v : Bool). Holds n t (if v then d else told l cause.NotUtf8 d))
+    [ true ↦ h | false ↦ told_holds n t l cause.NotUtf8 d h ]
 
 behind_line_holds : (n : ℕ) (t : List ℕ) (d : PoDraft) → Holds n t d → Holds n t (behind_line d)
 unfolding behind_line
@@ -378,17 +412,21 @@ at_comment_holds n t d h =
 comment_holds : (n : ℕ) (t : List ℕ) (l : ℕ) (s : List ℕ) (d : PoDraft) → Holds n t d → Holds n t (comment_checked l s d)
 unfolding comment_checked
 comment_holds n t l s d h =
-    elim (is_utf8 s) as (λ (v : Bool). Holds n t (if v then d else noted l cause.NotUtf8 d)) [ true ↦ h | false ↦ noted_holds n t l cause.NotUtf8 d h ]
+    elim (is_utf8 s) as (λ (v : Bool). Holds n t (if v then d else noted l cause.NotUtf8 d))
+    [ true ↦ h | false ↦ noted_holds n t l cause.NotUtf8 d h ]
 
-line_holds : (n : ℕ) (t : List ℕ) (l : ℕ) (line : List ℕ) (d : PoDraft) {next : PoDraft} → ReadsLine l line d next → Holds n t d → Holds n t next
+line_holds : (n : ℕ) (t : List ℕ) (l : ℕ) (line : List ℕ) (d : PoDraft) {next : PoDraft} → ReadsLine l line d next → Holds n t d
+    → Holds n t next
 line_holds n t l line d (empty e) h = behind_empty_holds n t d h
 line_holds n t l line d (comment s words e) h =
     let flagged = flags_read words (ended_at_comment d) in
-    behind_line_holds n t (comment_checked l s flagged) (comment_holds n t l s flagged (flags_hold n t words (ended_at_comment d) (at_comment_holds n t d h)))
+    behind_line_holds n t (comment_checked l s flagged)
+    (comment_holds n t l s flagged (flags_hold n t words (ended_at_comment d) (at_comment_holds n t d h)))
 line_holds n t l line d (fields o s end e read) h =
     behind_line_holds n t (line_checked l s end.1 end.0) (checked_holds n t l s end.1 end.0 (fields_hold n t l o read h))
 
-lines_hold : (n : ℕ) (t : List ℕ) {d : PoDraft} {lines : List (ℕ × List ℕ)} {end : PoDraft} → ReadsLines d lines end → Holds n t d → Holds n t end
+lines_hold : (n : ℕ) (t : List ℕ) {d : PoDraft} {lines : List (ℕ × List ℕ)} {end : PoDraft} → ReadsLines d lines end → Holds n t d
+    → Holds n t end
 lines_hold n t (no_line d) h = h
 lines_hold n t (next_line d next end l line lines read more) h = lines_hold n t more (line_holds n t l line d read h)
 
@@ -412,29 +450,37 @@ id_said : (n : ℕ) (t : List ℕ) (d : PoDraft) → d.is_begun ≡ true → Hol
 unfolding with_field
 id_said n t d e = inr (inr ([], refl, ap (λ (bs : List ℕ). record { line = n; bytes = bs }) (sym (append-nil t)), e))
 
-id_text_holds : (n : ℕ) (o : Bool) (t quoted after : List ℕ) (d : PoDraft) (end : PoDraft × Option Cause) → d.is_begun ≡ true → Says quoted (Ok (t, after))
+id_text_holds : (n : ℕ) (o : Bool) (t quoted after : List ℕ) (d : PoDraft) (end : PoDraft × Option Cause) → d.is_begun ≡ true
+    → Says quoted (Ok (t, after))
     → TextFollows n o d (Some (field_at place.Id n)) quoted end → Holds n t end.0
 id_text_holds n o t quoted after d end begun said (inl w) =
     fields_hold n t n o w.3
-    (subst (λ (p : List ℕ × List ℕ). Holds n t (with_field (longer p.0 (field_at place.Id n)) d)) (ap said_of (one_saying said w.2)) (id_said n t d begun))
+    (subst (λ (p : List ℕ × List ℕ). Holds n t (with_field (longer p.0 (field_at place.Id n)) d)) (ap said_of (one_saying said w.2))
+    (id_said n t d begun))
 id_text_holds n o t quoted after d end begun said (inr w) = absurd (not_both said w.2)
 
-id_line_fields : (n : ℕ) (line t : List ℕ) (d : PoDraft) (end : PoDraft × Option Cause) (says : SaysId line t) → ReadsFields n says.is_obsolete d says.fields end → Holds n t end.0
+id_line_fields : (n : ℕ) (line t : List ℕ) (d : PoDraft) (end : PoDraft × Option Cause) (says : SaysId line t)
+    → ReadsFields n says.is_obsolete d says.fields end → Holds n t end.0
 id_line_fields n line t d end says read =
     let o = says.is_obsolete in
     let next = (keyword_read n o Id d).0 in
-    let a : KeywordFollows n o says.rest next (keyword_read n o Id d).1 end = subst (λ (f : PoFront). Follows n o d f end) says.keyword (follows n o read) in
+    let a : KeywordFollows n o says.rest next (keyword_read n o Id d).1 end =
+    subst (λ (f : PoFront). Follows n o d f end) says.keyword (follows n o read) in
     let b : ReadsFields n o next says.rest end = subst (λ (c : Option Cause). KeywordFollows n o says.rest next c end) (id_begun n o d) a in
     let c : TextFollows n o next next.field says.quoted end = subst (λ (f : PoFront). Follows n o next f end) says.mark (follows n o b) in
-    id_text_holds n o t says.quoted says.after next end (id_is_begun n o d) says.said (subst (λ (x : Option PoField). TextFollows n o next x says.quoted end) (id_field n o d) c)
+    id_text_holds n o t says.quoted says.after next end (id_is_begun n o d) says.said
+    (subst (λ (x : Option PoField). TextFollows n o next x says.quoted end) (id_field n o d) c)
 
 id_line : (n : ℕ) (line t : List ℕ) (d next : PoDraft) → SaysId line t → ReadsLine n line d next → Holds n t next
 id_line n line t d next says read =
-    let x : LineFollows n d (Fields says.is_obsolete says.fields) next = subst (λ (k : PoLine). LineFollows n d k next) says.kind (line_follows n line d read) in
+    let x : LineFollows n d (Fields says.is_obsolete says.fields) next =
+    subst (λ (k : PoLine). LineFollows n d k next) says.kind (line_follows n line d read) in
     let held : Holds n t x.0.0 = id_line_fields n line t d x.0 says x.1 in
-    subst (λ (e : PoDraft). Holds n t e) (sym x.2) (behind_line_holds n t (line_checked n says.fields x.0.1 x.0.0) (checked_holds n t n says.fields x.0.1 x.0.0 held))
+    subst (λ (e : PoDraft). Holds n t e) (sym x.2)
+    (behind_line_holds n t (line_checked n says.fields x.0.1 x.0.0) (checked_holds n t n says.fields x.0.1 x.0.0 held))
 
-id_among : (n : ℕ) (line t : List ℕ) (before after : List (ℕ × List ℕ)) (d end : PoDraft) → SaysId line t → ReadsLines d (before ++ (n, line) ∷ after) end → Holds n t end
+id_among : (n : ℕ) (line t : List ℕ) (before after : List (ℕ × List ℕ)) (d end : PoDraft) → SaysId line t
+    → ReadsLines d (before ++ (n, line) ∷ after) end → Holds n t end
 id_among n line t [] after d end says read =
     let x : LinesFollow d ((n, line) ∷ after) end = lines_follow read in
     lines_hold n t x.2 (id_line n line t d x.0 says x.1)
@@ -444,5 +490,7 @@ id_among n line t (first ∷ before) after d end says read =
 
 pub ids_are_kept : IdsAreKept
 ids_are_kept = λ file line text number before after catalog is stands says.
-    let read : ReadsLines empty_draft (before ++ (number, line) ∷ after) is.end = subst (λ (ls : List (ℕ × List ℕ)). ReadsLines empty_draft ls is.end) stands is.read in
-    subst (λ (c : PoCatalog). HaveId number text c.messages) is.whole (all_ended_has number text is.end (id_among number line text before after empty_draft is.end says read))
+    let read : ReadsLines empty_draft (before ++ (number, line) ∷ after) is.end =
+    subst (λ (ls : List (ℕ × List ℕ)). ReadsLines empty_draft ls is.end) stands is.read in
+    subst (λ (c : PoCatalog). HaveId number text c.messages) is.whole
+    (all_ended_has number text is.end (id_among number line text before after empty_draft is.end says read))

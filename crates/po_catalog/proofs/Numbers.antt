@@ -20,7 +20,8 @@ cut_front byte (b ∷ s) =
     ]
 
 -- a newline before a text makes its lines later by one
-behind_newline : (b k : ℕ) (s : List ℕ) (line : ℕ × List ℕ) → (b == 10) ≡ true → IsNumberedFrom (k + 1) s line → IsNumberedFrom k (b ∷ s) line
+behind_newline : (b k : ℕ) (s : List ℕ) (line : ℕ × List ℕ) → (b == 10) ≡ true → IsNumberedFrom (k + 1) s line
+    → IsNumberedFrom k (b ∷ s) line
 behind_newline b k s line e h =
     let one : newlines (b ∷ h.0) ≡ newlines h.0 + 1 = ap (λ (t : Bool). if t then newlines h.0 + 1 else newlines h.0) e in
     (b ∷ h.0, h.1, ap (λ (t : List ℕ). b ∷ t) h.2, omega (arith, h.3, one))
@@ -32,16 +33,19 @@ behind_byte b k s line e h =
     (b ∷ h.0, h.1, ap (λ (t : List ℕ). b ∷ t) h.2, omega (arith, h.3, none))
 
 -- the lines of a text that begins with a newline
-at_newline : (b k : ℕ) (s : List ℕ) → (b == 10) ≡ true → All (IsNumberedFrom (k + 1) s) (numbered (k + 1) (lines_of s)) → All (IsNumberedFrom k (b ∷ s)) (numbered k (lines_of (b ∷ s)))
+at_newline : (b k : ℕ) (s : List ℕ) → (b == 10) ≡ true → All (IsNumberedFrom (k + 1) s) (numbered (k + 1) (lines_of s))
+    → All (IsNumberedFrom k (b ∷ s)) (numbered k (lines_of (b ∷ s)))
 at_newline b k s e h =
     let whole : lines_of (b ∷ s) ≡ [] ∷ lines_of s = ap (λ (t : Bool). if t then [] ∷ lines_of s else first_begun_with b (lines_of s)) e in
     let first : IsNumberedFrom k (b ∷ s) (k, []) = ([], b ∷ s, refl, omega arith) in
     All-same (IsNumberedFrom k (b ∷ s)) (numbered k (lines_of (b ∷ s))) ((k, []) ∷ numbered (k + 1) (lines_of s)) (ap (numbered k) whole)
     (All-cons (IsNumberedFrom k (b ∷ s)) (k, []) (numbered (k + 1) (lines_of s)) first
-    (All-weaker (IsNumberedFrom (k + 1) s) (IsNumberedFrom k (b ∷ s)) (λ line. behind_newline b k s line e) (numbered (k + 1) (lines_of s)) h))
+    (All-weaker (IsNumberedFrom (k + 1) s) (IsNumberedFrom k (b ∷ s)) (λ line. behind_newline b k s line e)
+    (numbered (k + 1) (lines_of s)) h))
 
 -- the lines of a text that begins with another byte
-at_byte : (b k : ℕ) (s : List ℕ) → (b == 10) ≡ false → All (IsNumberedFrom k s) (numbered k (lines_of s)) → All (IsNumberedFrom k (b ∷ s)) (numbered k (lines_of (b ∷ s)))
+at_byte : (b k : ℕ) (s : List ℕ) → (b == 10) ≡ false → All (IsNumberedFrom k s) (numbered k (lines_of s))
+    → All (IsNumberedFrom k (b ∷ s)) (numbered k (lines_of (b ∷ s)))
 at_byte b k s e h =
     let line = (cut_at 10 s).0 in
     let later = lines_left (cut_at 10 s).1 in
@@ -51,7 +55,8 @@ at_byte b k s e h =
     let first : IsNumberedFrom k (b ∷ s) (k, b ∷ line) = ([], front.0, ap (λ (t : List ℕ). b ∷ t) front.1, omega arith) in
     let rest : All (IsNumberedFrom k s) (numbered (k + 1) later)
     = All-tail (IsNumberedFrom k s) (k, line) (numbered (k + 1) later)
-    (All-same (IsNumberedFrom k s) ((k, line) ∷ numbered (k + 1) later) (numbered k (lines_of s)) (sym (ap (numbered k) (first_line s))) h) in
+    (All-same (IsNumberedFrom k s) ((k, line) ∷ numbered (k + 1) later) (numbered k (lines_of s))
+    (sym (ap (numbered k) (first_line s))) h) in
     All-same (IsNumberedFrom k (b ∷ s)) (numbered k (lines_of (b ∷ s))) ((k, b ∷ line) ∷ numbered (k + 1) later) (ap (numbered k) whole)
     (All-cons (IsNumberedFrom k (b ∷ s)) (k, b ∷ line) (numbered (k + 1) later) first
     (All-weaker (IsNumberedFrom k s) (IsNumberedFrom k (b ∷ s)) (λ x. behind_byte b k s x e) (numbered (k + 1) later) rest))

@@ -50,11 +50,13 @@ Follows n o d (Unknown cause) end = end ≡ (unknown_read d, Some cause)
 Follows n o d (Word keyword rest) end = KeywordFollows n o rest (keyword_read n o keyword d).0 (keyword_read n o keyword d).1 end
 Follows n o d (Mark rest) end = TextFollows n o d d.field rest end
 
-pub follows : (n : ℕ) (o : Bool) {d : PoDraft} {s : List ℕ} {end : PoDraft × Option Cause} → ReadsFields n o d s end → Follows n o d (front_of s) end
+pub follows : (n : ℕ) (o : Bool) {d : PoDraft} {s : List ℕ} {end : PoDraft × Option Cause} → ReadsFields n o d s end
+    → Follows n o d (front_of s) end
 follows n o (ends d s e) = subst (λ (f : PoFront). Follows n o d f (d, None)) (sym e) refl
 follows n o (unknown d s cause e) = subst (λ (f : PoFront). Follows n o d f (unknown_read d, Some cause)) (sym e) refl
 follows n o (fits d next s rest keyword end e is h) =
-    subst (λ (f : PoFront). Follows n o d f end) (sym e) (subst (λ (r : PoDraft × Option Cause). KeywordFollows n o rest r.0 r.1 end) (sym is) h)
+    subst (λ (f : PoFront). Follows n o d f end) (sym e)
+    (subst (λ (r : PoDraft × Option Cause). KeywordFollows n o rest r.0 r.1 end) (sym is) h)
 follows n o (stray_keyword d next s rest keyword cause e is) =
     subst (λ (f : PoFront). Follows n o d f (next, Some cause)) (sym e)
     (subst (λ (r : PoDraft × Option Cause). KeywordFollows n o rest r.0 r.1 (next, Some cause)) (sym is) refl)
@@ -63,7 +65,8 @@ follows n o (goes_on d s rest text after field end e at says h) =
     (subst (λ (x : Option PoField). TextFollows n o d x rest end) (sym at) (inl (text, after, says, h)))
 follows n o (breaks d s rest text field cause e at h) =
     subst (λ (f : PoFront). Follows n o d f (with_field (longer text field) d, Some cause)) (sym e)
-    (subst (λ (x : Option PoField). TextFollows n o d x rest (with_field (longer text field) d, Some cause)) (sym at) (inr (text, cause, h, refl)))
+    (subst (λ (x : Option PoField). TextFollows n o d x rest (with_field (longer text field) d, Some cause)) (sym at)
+    (inr (text, cause, h, refl)))
 follows n o (stray_text d s rest e at) =
     subst (λ (f : PoFront). Follows n o d f (with_field passed_over d, Some StrayText)) (sym e)
     (subst (λ (x : Option PoField). TextFollows n o d x rest (with_field passed_over d, Some StrayText)) (sym at) refl)
@@ -72,7 +75,8 @@ follows n o (stray_text d s rest e at) =
 pub not_both : {s text after bytes : List ℕ} {cause : Cause} → Says s (Ok (text, after)) → Breaks s bytes cause → ⊥
 not_both says h = subst (λ (r : Result (List ℕ × List ℕ) Cause). IsText r) (one_saying says (broken_says h)) tt
 
-one_end : (n : ℕ) (o : Bool) {d : PoDraft} {s : List ℕ} {a b : PoDraft × Option Cause} → ReadsFields n o d s a → ReadsFields n o d s b → a ≡ b
+one_end : (n : ℕ) (o : Bool) {d : PoDraft} {s : List ℕ} {a b : PoDraft × Option Cause} → ReadsFields n o d s a → ReadsFields n o d s b
+    → a ≡ b
 one_end n o {b = b} (ends d s e) other = sym (subst (λ (f : PoFront). Follows n o d f b) e (follows n o other))
 one_end n o {b = b} (unknown d s cause e) other = sym (subst (λ (f : PoFront). Follows n o d f b) e (follows n o other))
 one_end n o {b = b} (fits d next s rest keyword end e is h) other =
@@ -105,7 +109,8 @@ one_end n o {b = b} (stray_text d s rest e at) other =
 abbrev pub LineFollows : ℕ → PoDraft → PoLine → PoDraft → Type 0
 LineFollows n d Empty next = next ≡ behind_empty d
 LineFollows n d (Comment s words) next = next ≡ behind_line (comment_checked n s (flags_read words (ended_at_comment d)))
-LineFollows n d (Fields o s) next = (end : PoDraft × Option Cause) × ReadsFields n o d s end × (next ≡ behind_line (line_checked n s end.1 end.0))
+LineFollows n d (Fields o s) next =
+    (end : PoDraft × Option Cause) × ReadsFields n o d s end × (next ≡ behind_line (line_checked n s end.1 end.0))
 
 pub line_follows : (n : ℕ) (line : List ℕ) (d : PoDraft) {next : PoDraft} → ReadsLine n line d next → LineFollows n d (line_of line) next
 line_follows n line d (empty e) = subst (λ (k : PoLine). LineFollows n d k (behind_empty d)) (sym e) refl

@@ -19,7 +19,8 @@ abbrev pub field_of : Place → ℕ → List ℕ → Bool → PoField
 field_of place line bytes is_given = record { place = place; text = record { line = line; bytes = bytes }; is_given = is_given }
 
 -- its bytes go on by what is said
-pub field_goes_on : (line : List ℕ) (place : Place) (number : ℕ) (old new : List ℕ) (is_given : Bool) (result : Result (Bor (List ℕ)) ReadError)
+pub field_goes_on : (line : List ℕ) (place : Place) (number : ℕ) (old new : List ℕ) (is_given : Bool)
+    (result : Result (Bor (List ℕ)) ReadError)
     → GoesOn line old new result → GoesOnIn line (field_of place number old is_given) (field_of place number new true) result
 field_goes_on line place number old new is_given (Ok rest) h = (h.0, ap (λ (t : List ℕ). field_of place number t true) h.1, h.2)
 field_goes_on line place number old new is_given (Err (Fault cause)) h = (h.0, ap (λ (t : List ℕ). field_of place number t true) h.1, h.2)
@@ -41,22 +42,27 @@ pub line_ends : (n : ℕ) (o : Bool) (start now : PoDraft) (line rest : List ℕ
     → ReadsFields n o start line (now, None)
 line_ends n o start now line rest h e = h (now, None) (ends now rest (sym e))
 
-pub unknown_here : (n : ℕ) (o : Bool) (start now next : PoDraft) (line rest : List ℕ) (cause : Cause) → IsBefore n o start line now rest → Unknown cause ≡ front_of rest
+pub unknown_here : (n : ℕ) (o : Bool) (start now next : PoDraft) (line rest : List ℕ) (cause : Cause) → IsBefore n o start line now rest
+    → Unknown cause ≡ front_of rest
     → next ≡ unknown_read now → ReadsFields n o start line (next, Some cause)
 unknown_here n o start now next line rest cause h e is = rw is (h (unknown_read now, Some cause) (unknown now rest cause (sym e)))
 
-pub keyword_fits : (n : ℕ) (o : Bool) (start now next : PoDraft) (line rest after : List ℕ) (keyword : Keyword) (fault : Option Cause) → IsBefore n o start line now rest
+pub keyword_fits : (n : ℕ) (o : Bool) (start now next : PoDraft) (line rest after : List ℕ) (keyword : Keyword) (fault : Option Cause)
+    → IsBefore n o start line now rest
     → Word keyword after ≡ front_of rest → (next, fault) ≡ keyword_read n o keyword now → fault ≡ None → IsBefore n o start line next after
 keyword_fits n o start now next line rest after keyword fault h e is none = λ end k.
     h end (fits now next rest after keyword end (sym e) (sym is ∙ ap (λ (f : Option Cause). (next, f)) none) k)
 
-pub keyword_here : (n : ℕ) (o : Bool) (start now next : PoDraft) (line rest after : List ℕ) (keyword : Keyword) (fault : Option Cause) (cause : Cause)
-    → IsBefore n o start line now rest → Word keyword after ≡ front_of rest → (next, fault) ≡ keyword_read n o keyword now → fault ≡ Some cause
+pub keyword_here : (n : ℕ) (o : Bool) (start now next : PoDraft) (line rest after : List ℕ) (keyword : Keyword)
+    (fault : Option Cause) (cause : Cause)
+    → IsBefore n o start line now rest → Word keyword after ≡ front_of rest → (next, fault) ≡ keyword_read n o keyword now
+    → fault ≡ Some cause
     → ReadsFields n o start line (next, Some cause)
 keyword_here n o start now next line rest after keyword fault cause h e is some =
     h (next, Some cause) (stray_keyword now next rest after keyword cause (sym e) (sym is ∙ ap (λ (f : Option Cause). (next, f)) some))
 
-pub text_read : (n : ℕ) (o : Bool) (start now next : PoDraft) (line rest text : List ℕ) (after : Bor (List ℕ)) → IsBefore n o start line now rest
+pub text_read : (n : ℕ) (o : Bool) (start now next : PoDraft) (line rest text : List ℕ) (after : Bor (List ℕ))
+    → IsBefore n o start line now rest
     → Mark text ≡ front_of rest → TextGoesOn text now next (Ok after) → IsBefore n o start line next after.now
 text_read n o start now next line rest text after h e (field, said, at, is, says) = λ end k.
     h end (goes_on now rest text said after.now field end (sym e) at says (rw (← is) k))
@@ -68,12 +74,15 @@ text_breaks n o start now next line rest text cause h e (inl (field, said, at, i
 text_breaks n o start now next line rest text cause h e (inr (none, is, stray)) =
     rw (is, stray) (h (with_field passed_over now, Some StrayText) (stray_text now rest text (sym e) none))
 
-pub text_fails : (n : ℕ) (o : Bool) (start now next : PoDraft) (line rest text : List ℕ) (cause : Cause) (result : Result (Bor (List ℕ)) ReadError) (error : ReadError)
-    → IsBefore n o start line now rest → Mark text ≡ front_of rest → TextGoesOn text now next result → result ≡ Err error → error ≡ Fault cause
+pub text_fails : (n : ℕ) (o : Bool) (start now next : PoDraft) (line rest text : List ℕ) (cause : Cause)
+    (result : Result (Bor (List ℕ)) ReadError) (error : ReadError)
+    → IsBefore n o start line now rest → Mark text ≡ front_of rest → TextGoesOn text now next result → result ≡ Err error
+    → error ≡ Fault cause
     → ReadsFields n o start line (next, Some cause)
 text_fails n o start now next line rest text cause result error h e goes is fault =
     let told : ReadError → Result (Bor (List ℕ)) ReadError = λ x. Err x in
-    text_breaks n o start now next line rest text cause h e (subst (λ (r : Result (Bor (List ℕ)) ReadError). TextGoesOn text now next r) (is ∙ ap told fault) goes)
+    text_breaks n o start now next line rest text cause h e
+    (subst (λ (r : Result (Bor (List ℕ)) ReadError). TextGoesOn text now next r) (is ∙ ap told fault) goes)
 
 -- ---- lines
 
@@ -84,6 +93,7 @@ pub comment_line : (n : ℕ) (line s words : List ℕ) (old mid new : PoDraft) �
     → mid ≡ comment_checked n s (flags_read words (ended_at_comment old)) → new ≡ behind_line mid → ReadsLine n line old new
 comment_line n line s words old mid new e is behind = rw (behind, is) (comment s words (sym e))
 
-pub fields_line : (n : ℕ) (line : List ℕ) (o : Bool) (s : List ℕ) (old mid new : PoDraft) → Fields o s ≡ line_of line → ReadsTold n o s old mid → new ≡ behind_line mid
+pub fields_line : (n : ℕ) (line : List ℕ) (o : Bool) (s : List ℕ) (old mid new : PoDraft) → Fields o s ≡ line_of line
+    → ReadsTold n o s old mid → new ≡ behind_line mid
     → ReadsLine n line old new
 fields_line n line o s old mid new e h behind = rw (behind, ← h.checked) (fields o s h.end (sym e) h.read)

@@ -14,15 +14,21 @@ run_front-whole is_such (b ∷ s) =
     ]
 
 -- where what follows the run is as long as the rest, a text is cut into both
-run_length : (is_such : ℕ → Bool) (s rest : List ℕ) (n : ℕ) → rest ≡ behind_run is_such s → n + length rest ≡ length s → n ≡ length (run_front is_such s)
-run_length is_such s rest n e h = omega (arith, length-append (run_front is_such s) (behind_run is_such s), ap length (run_front-whole is_such s), ap length e)
+run_length : (is_such : ℕ → Bool) (s rest : List ℕ) (n : ℕ) → rest ≡ behind_run is_such s → n + length rest ≡ length s
+    → n ≡ length (run_front is_such s)
+run_length is_such s rest n e h =
+    omega (arith, length-append (run_front is_such s) (behind_run is_such s), ap length (run_front-whole is_such s), ap length e)
 
-pub cut_front : (is_such : ℕ → Bool) (s rest : List ℕ) (n : ℕ) → rest ≡ behind_run is_such s → n + length rest ≡ length s → take n s ≡ run_front is_such s
+pub cut_front : (is_such : ℕ → Bool) (s rest : List ℕ) (n : ℕ) → rest ≡ behind_run is_such s → n + length rest ≡ length s
+    → take n s ≡ run_front is_such s
 cut_front is_such s rest n e h =
     ap (λ (k : ℕ). take k s) (run_length is_such s rest n e h)
-    ∙ (ap (λ (t : List ℕ). take (length (run_front is_such s)) t) (sym (run_front-whole is_such s)) ∙ take-append_seam (run_front is_such s) (behind_run is_such s))
+    ∙ (ap (λ (t : List ℕ). take (length (run_front is_such s)) t) (sym (run_front-whole is_such s))
+    ∙ take-append_seam (run_front is_such s) (behind_run is_such s))
 
-pub cut_rest : (is_such : ℕ → Bool) (s rest : List ℕ) (n : ℕ) → rest ≡ behind_run is_such s → n + length rest ≡ length s → drop n s ≡ behind_run is_such s
+pub cut_rest : (is_such : ℕ → Bool) (s rest : List ℕ) (n : ℕ) → rest ≡ behind_run is_such s → n + length rest ≡ length s
+    → drop n s ≡ behind_run is_such s
 cut_rest is_such s rest n e h =
     ap (λ (k : ℕ). drop k s) (run_length is_such s rest n e h)
-    ∙ (ap (λ (t : List ℕ). drop (length (run_front is_such s)) t) (sym (run_front-whole is_such s)) ∙ drop-append_seam (run_front is_such s) (behind_run is_such s))
+    ∙ (ap (λ (t : List ℕ). drop (length (run_front is_such s)) t) (sym (run_front-whole is_such s))
+    ∙ drop-append_seam (run_front is_such s) (behind_run is_such s))

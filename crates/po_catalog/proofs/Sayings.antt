@@ -23,7 +23,8 @@ Follows (Err cause) outcome = outcome ≡ Err cause
 
 follows : {s : List ℕ} {outcome : Result (List ℕ × List ℕ) Cause} → Says s outcome → Follows (said_front s) outcome
 follows (ends s rest e) = subst (λ (f : Result Said Cause). Follows f (Ok ([], rest))) (sym e) refl
-follows (goes s after text rest b e h) = subst (λ (f : Result Said Cause). Follows f (Ok (b ∷ text, rest))) (sym e) (Ok (text, rest), h, refl)
+follows (goes s after text rest b e h) =
+    subst (λ (f : Result Said Cause). Follows f (Ok (b ∷ text, rest))) (sym e) (Ok (text, rest), h, refl)
 follows (fails s cause e) = subst (λ (f : Result Said Cause). Follows f (Err cause)) (sym e) refl
 follows (fails_later s after b cause e h) = subst (λ (f : Result Said Cause). Follows f (Err cause)) (sym e) (Err cause, h, refl)
 
@@ -94,9 +95,12 @@ said_of (Err cause) = ([], [])
 
 returns_text : (line : List ℕ) (result : Result (Vec ℕ × Bor (List ℕ)) ReadError) (text rest : List ℕ)
     → IsSaid line result → Says line (Ok (text, rest)) → ReturnsText result text rest
-returns_text line (Ok said) text rest h k =
-    (ap (λ (r : Result (List ℕ × List ℕ) Cause). (said_of r).0) (one_saying h k), ap (λ (r : Result (List ℕ × List ℕ) Cause). (said_of r).1) (one_saying h k))
-returns_text line (Err (Fault cause)) text rest h k = absurd (subst (λ (r : Result (List ℕ × List ℕ) Cause). IsText r) (sym (one_saying h k)) tt)
+returns_text line (Ok said) text rest h k = (
+  ap (λ (r : Result (List ℕ × List ℕ) Cause). (said_of r).0) (one_saying h k),
+  ap (λ (r : Result (List ℕ × List ℕ) Cause). (said_of r).1) (one_saying h k),
+)
+returns_text line (Err (Fault cause)) text rest h k =
+    absurd (subst (λ (r : Result (List ℕ × List ℕ) Cause). IsText r) (sym (one_saying h k)) tt)
 returns_text line (Err Memory) text rest h k = refl
 
 abbrev error_of : Result (List ℕ × List ℕ) Cause → ReadError
@@ -117,7 +121,8 @@ exactly line result h = record {
 }
 
 -- a text of its own
-pub ok_said : (line old : List ℕ) (text : Vec ℕ) (rest : Bor (List ℕ)) → old ≡ [] → (said : List ℕ) × (text.items ≡ old ++ said) × Says line (Ok (said, rest.now))
+pub ok_said : (line old : List ℕ) (text : Vec ℕ) (rest : Bor (List ℕ)) → old ≡ []
+    → (said : List ℕ) × (text.items ≡ old ++ said) × Says line (Ok (said, rest.now))
     → ReadsExactly line (Ok (text, rest))
 ok_said line old text rest e h =
     exactly line (Ok (text, rest)) (subst (λ (t : List ℕ). Says line (Ok (t, rest.now))) (sym (h.1 ∙ ap (λ (t : List ℕ). t ++ h.0) e)) h.2)

@@ -9,14 +9,17 @@ loop-digit-preserved c =
     let digits = c.args.digits.now in
     let k = c.loop-digit.digit-index in
     let place = c.loop-digit.place in
-    let is : c.min-place.result ≡ min PLACE_LIMIT (place * 10 + (get_or digits k 0 - 48)) = omega (arith, c.min-place.ensures, c.from-value.ensures, c.saturating_sub.ensures) in
+    let is : c.min-place.result ≡ min PLACE_LIMIT (place * 10 + (get_or digits k 0 - 48)) =
+    omega (arith, c.min-place.ensures, c.from-value.ensures, c.saturating_sub.ensures) in
     record {
-      same = ap (λ (n : ℕ). min (number_from n (drop (k + 1) digits)) PLACE_LIMIT) is ∙ (digit_more PLACE_LIMIT digits k place c.loop-digit-test.true ∙ c.loop-digit.invariant.same);
+      same = ap (λ (n : ℕ). min (number_from n (drop (k + 1) digits)) PLACE_LIMIT) is
+          ∙ (digit_more PLACE_LIMIT digits k place c.loop-digit-test.true ∙ c.loop-digit.invariant.same);
       within = omega (arith, is);
     }
 
 pub returns : goal.returns
 unfolding place_of
 returns c =
-    sym (no_digit_left PLACE_LIMIT c.args.digits.now c.loop-digit.digit-index c.loop-digit.place c.loop-digit-test.false c.loop-digit.invariant.within)
+    sym (no_digit_left PLACE_LIMIT c.args.digits.now c.loop-digit.digit-index c.loop-digit.place c.loop-digit-test.false
+    c.loop-digit.invariant.within)
     ∙ c.loop-digit.invariant.same

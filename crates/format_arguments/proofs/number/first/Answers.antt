@@ -5,16 +5,19 @@ use Rattle.format_arguments.proofs.number.first.Goals as goal
 
 pub loop-argument-preserved : goal.loop-argument-preserved
 loop-argument-preserved c =
-    passed (shows c.args.sign c.args.singular.now) c.args.plural.now c.loop-argument.argument-index _ c.loop-argument-test.true (sym c.shows.ensures ∙ c.if-shows.false)
+    passed (shows c.args.sign c.args.singular.now) c.args.plural.now c.loop-argument.argument-index _ c.loop-argument-test.true
+    (sym c.shows.ensures ∙ c.if-shows.false)
     ∙ c.loop-argument.invariant
 
 pub returns-then-shows : goal.returns-then-shows
 unfolding first
 returns-then-shows c =
     sym (sym c.loop-argument.invariant
-    ∙ found (shows c.args.sign c.args.singular.now) c.args.plural.now c.loop-argument.argument-index _ c.loop-argument-test.true (sym c.shows.ensures ∙ c.if-shows.true))
+    ∙ found (shows c.args.sign c.args.singular.now) c.args.plural.now c.loop-argument.argument-index _ c.loop-argument-test.true
+    (sym c.shows.ensures ∙ c.if-shows.true))
 
 pub returns : goal.returns
 unfolding first
 returns c =
-    sym (sym c.loop-argument.invariant ∙ nowhere (shows c.args.sign c.args.singular.now) c.args.plural.now c.loop-argument.argument-index c.loop-argument-test.false)
+    sym (sym c.loop-argument.invariant
+    ∙ nowhere (shows c.args.sign c.args.singular.now) c.args.plural.now c.loop-argument.argument-index c.loop-argument-test.false)

@@ -10,14 +10,16 @@ returns-in-End c =
     let text = c.args.text.now in
     let s = c.pieces.rest.now in
     tells c.args.format text _
-    (end_read c.args.format text s (arguments_view c.pieces.items.items) c.pieces.next (length text - length s) c.pieces.invariant.done (sym c.in-End.ensures.front))
+    (end_read c.args.format text s (arguments_view c.pieces.items.items) c.pieces.next (length text - length s) c.pieces.invariant.done
+    (sym c.in-End.ensures.front))
 
 pub returns-in-Broken : goal.returns-in-Broken
 returns-in-Broken c =
     let text = c.args.text.now in
     let s = c.pieces.rest.now in
     tells c.args.format text _
-    (fault_read c.args.format text s (arguments_view c.pieces.items.items) c.pieces.next (length text - length s) c.pieces.invariant.done (sym c.in-Broken.ensures.front))
+    (fault_read c.args.format text s (arguments_view c.pieces.items.items) c.pieces.next
+    (length text - length s) c.pieces.invariant.done (sym c.in-Broken.ensures.front))
 
 pub pieces-preserved : goal.pieces-preserved
 pieces-preserved c =
@@ -30,7 +32,8 @@ pieces-preserved c =
     record {
       done =
           subst (λ (n : ℕ). IsReadBefore c.args.format text new n (length text - length rest) rest) (sym told.next)
-          (piece_read c.args.format text s rest old new c.pieces.next (says_view c.in-Takes.says) c.pieces.invariant.shorter c.pieces.invariant.done (sym c.in-Takes.ensures.front) told.told);
+          (piece_read c.args.format text s rest old new c.pieces.next
+          (says_view c.in-Takes.says) c.pieces.invariant.shorter c.pieces.invariant.done (sym c.in-Takes.ensures.front) told.told);
       shorter = omega (arith, c.in-Takes.ensures.shorter, c.pieces.invariant.shorter);
       in_turn = omega (arith, c.in-Takes.ensures.shorter, c.pieces.invariant.in_turn, told.within);
     }

@@ -10,7 +10,8 @@ pub returns-then-is_bracket : goal.returns-then-is_bracket
 returns-then-is_bracket c =
     let before = pendings_view c.args.pending.now.items in
     let operand = formula_view c.args.operand in
-    close_step before operand c.unwind.new.pending.items c.pop.new.self.items c.in-Some.last c.in_ok-inner.inner c.in_ok-inner.ensures c.in-Some.ensures.items
+    close_step before operand c.unwind.new.pending.items c.pop.new.self.items c.in-Some.last c.in_ok-inner.inner
+    c.in_ok-inner.ensures c.in-Some.ensures.items
     (sym c.is_bracket.ensures ∙ c.if-is_bracket.true)
 
 pub returns-else-is_bracket : goal.returns-else-is_bracket
@@ -18,7 +19,8 @@ returns-else-is_bracket c =
     let before = pendings_view c.args.pending.now.items in
     let operand = formula_view c.args.operand in
     let P : ReadError → Type 0 = λ e. IsFaultOr (closed (unwind 0 before operand)) c.args.left e in
-    let stops = close_stops before operand c.unwind.new.pending.items c.pop.new.self.items c.in-Some.last c.in_ok-inner.inner c.in_ok-inner.ensures c.in-Some.ensures.items
+    let stops = close_stops before operand c.unwind.new.pending.items c.pop.new.self.items c.in-Some.last c.in_ok-inner.inner
+    c.in_ok-inner.ensures c.in-Some.ensures.items
     (sym c.is_bracket.ensures ∙ c.if-is_bracket.false)
     in
     subst P (sym c.fault-else-is_bracket.ensures) (refl, stops)

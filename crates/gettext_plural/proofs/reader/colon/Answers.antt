@@ -13,9 +13,12 @@ returns-in_default-condition c =
     let before = pendings_view c.args.pending.now.items in
     let operand = formula_view c.args.operand in
     let P : ReadError → Type 0 = λ e. IsFaultOr (coloned (unwind 0 before operand)) c.args.left e in
-    let M : Option Expression → Type 0 = λ o. MatchOption o (condition_in (pending_view c.in-Some.last) ≡ None) (λ e. condition_in (pending_view c.in-Some.last) ≡ Some (formula_view e)) in
+    let M : Option Expression → Type 0 =
+    λ o. MatchOption o (condition_in (pending_view c.in-Some.last) ≡ None)
+    (λ e. condition_in (pending_view c.in-Some.last) ≡ Some (formula_view e)) in
     let none : condition_in (pending_view c.in-Some.last) ≡ None = subst M c.in_default-condition.is c.condition.ensures in
-    let stops = colon_stops before operand c.unwind.new.pending.items c.pop.new.self.items c.in-Some.last c.in_ok-yes.yes c.in_ok-yes.ensures c.in-Some.ensures.items none in
+    let stops = colon_stops before operand c.unwind.new.pending.items c.pop.new.self.items c.in-Some.last c.in_ok-yes.yes
+    c.in_ok-yes.ensures c.in-Some.ensures.items none in
     subst P (sym c.fault-in_default-condition.ensures) (refl, stops)
 
 pub returns : goal.returns

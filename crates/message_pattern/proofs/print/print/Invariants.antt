@@ -8,7 +8,8 @@ use Rattle.message_pattern.proofs.print.print.Given as goal
 -- behind the text so far, the rest prints what all parts do
 abbrev pub invariant-loop-rest : goal.invariant-loop-rest
 invariant-loop-rest l = record {
-  text : l.text.items ++ fold l.context (reverse l.outer.items) l.spot (parts_view l.rest) ≡ fold Whole [] (Message false) (parts_view l.parts);
+  text : l.text.items ++ fold l.context (reverse l.outer.items) l.spot (parts_view l.rest)
+      ≡ fold Whole [] (Message false) (parts_view l.parts);
 }
 
 abbrev pub decreases-loop-rest : goal.decreases-loop-rest

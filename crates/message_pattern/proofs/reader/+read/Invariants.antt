@@ -15,7 +15,8 @@ decreases-branches l = 2 * length l.text.now
 -- what the rest comes to, the message comes to
 abbrev pub invariant-message-arguments : goal.invariant-message-arguments
 invariant-message-arguments l = record {
-  read : (outcome : ReadOutcome) → ReadsTo l.formats (read_step l.formats (InMessage l.context l.depth false) l.rest) (parts_view l.parts.items) outcome
+  read : (outcome : ReadOutcome)
+      → ReadsTo l.formats (read_step l.formats (InMessage l.context l.depth false) l.rest) (parts_view l.parts.items) outcome
       → ReadsTo l.formats (read_step l.formats (InMessage l.context l.depth false) l.text) (parts_view l.initial.parts.items) outcome;
   shorter : length l.rest ≤ length l.text;
 }
@@ -26,7 +27,8 @@ decreases-message-arguments l = length l.rest
 -- what the rest comes to, the branches come to
 abbrev pub invariant-branches-selectors : goal.invariant-branches-selectors
 invariant-branches-selectors l = record {
-  read : (outcome : ReadOutcome) → ReadsTo l.formats (read_step l.formats (InBranches l.kind l.depth l.has_other) l.rest) (parts_view l.parts.items) outcome
+  read : (outcome : ReadOutcome)
+      → ReadsTo l.formats (read_step l.formats (InBranches l.kind l.depth l.has_other) l.rest) (parts_view l.parts.items) outcome
       → ReadsTo l.formats (read_step l.formats (InBranches l.kind l.depth false) l.text) (parts_view l.initial.parts.items) outcome;
   shorter : length l.rest ≤ length l.text;
 }

@@ -7,7 +7,8 @@ use Rattle.message_pattern.proofs.reader.pieces.Given as goal
 -- what the rest comes to, the message comes to
 abbrev pub invariant-pieces : goal.invariant-pieces
 invariant-pieces l = record {
-  read : (formats : Formats) (outcome : ReadOutcome) → ReadsTo formats (read_step formats (InMessage l.context l.depth l.quoted) l.rest) (parts_view l.parts.items) outcome
+  read : (formats : Formats) (outcome : ReadOutcome)
+      → ReadsTo formats (read_step formats (InMessage l.context l.depth l.quoted) l.rest) (parts_view l.parts.items) outcome
       → ReadsTo formats (read_step formats (InMessage l.context l.depth false) l.text) (parts_view l.initial.parts.items) outcome;
   shorter : length l.rest ≤ length l.text;
 }

@@ -5,7 +5,8 @@ use Rattle.po_catalog.proofs.bytes.add_flags.Given as goal
 
 -- the flags before the rest are added
 abbrev pub invariant-words : goal.invariant-words
-invariant-words l = l.flags.items ++ flat_map with_comma (flags_of l.rest) ≡ l.initial.flags.items ++ flat_map with_comma (flags_of l.comment)
+invariant-words l = l.flags.items ++ flat_map with_comma (flags_of l.rest)
+    ≡ l.initial.flags.items ++ flat_map with_comma (flags_of l.comment)
 
 abbrev pub decreases-words : goal.decreases-words
 decreases-words l = length l.rest

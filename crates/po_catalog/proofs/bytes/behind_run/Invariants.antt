@@ -5,7 +5,10 @@ use Rattle.po_catalog.proofs.bytes.behind_run.Given as goal
 
 -- only bytes of the class were passed
 abbrev pub invariant-loop-rest : goal.invariant-loop-rest
-invariant-loop-rest l = record { rest : behind_run (is_in l.class) l.rest ≡ behind_run (is_in l.class) l.text; shorter : length l.rest ≤ length l.text }
+invariant-loop-rest l = record {
+  rest : behind_run (is_in l.class) l.rest ≡ behind_run (is_in l.class) l.text;
+  shorter : length l.rest ≤ length l.text;
+}
 
 abbrev pub decreases-loop-rest : goal.decreases-loop-rest
 decreases-loop-rest l = length l.rest

@@ -8,11 +8,13 @@ returns-clause-front c =
     let text = c.args.text.now in
     let rest = c.behind_run.result.now in
     c.split_at.ensures.front
-    ∙ cut_front (is_in c.args.class) text rest (length text - length rest) c.behind_run.ensures.rest (omega (arith, c.behind_run.ensures.shorter))
+    ∙ cut_front (is_in c.args.class) text rest (length text - length rest) c.behind_run.ensures.rest
+    (omega (arith, c.behind_run.ensures.shorter))
 
 pub returns-clause-rest : goal.returns-clause-rest
 returns-clause-rest c =
     let text = c.args.text.now in
     let rest = c.behind_run.result.now in
     c.split_at.ensures.back
-    ∙ cut_rest (is_in c.args.class) text rest (length text - length rest) c.behind_run.ensures.rest (omega (arith, c.behind_run.ensures.shorter))
+    ∙ cut_rest (is_in c.args.class) text rest (length text - length rest) c.behind_run.ensures.rest
+    (omega (arith, c.behind_run.ensures.shorter))

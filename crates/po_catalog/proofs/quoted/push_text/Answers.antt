@@ -13,10 +13,12 @@ returns-in-End-clause-said c =
     whole_said c.args.line.now _ _ c.said.rest.now c.in-End.after.now c.said.invariant.done (sym c.in-End.ensures.front)
 
 pub returns-in-Bad-clause-said : goal.returns-in-Bad-clause-said
-returns-in-Bad-clause-said c = broken_text c.args.line.now _ _ c.said.rest.now c.in-Bad.cause c.said.invariant.done (sym c.in-Bad.ensures.front)
+returns-in-Bad-clause-said c =
+    broken_text c.args.line.now _ _ c.said.rest.now c.in-Bad.cause c.said.invariant.done (sym c.in-Bad.ensures.front)
 
 pub said-preserved : goal.said-preserved
 said-preserved c = record {
-  done = more_said c.args.line.now _ _ _ c.in-Byte.byte c.said.rest.now c.in-Byte.after.now c.said.invariant.done c.in_ok-push-in-Byte.ensures.items (sym c.in-Byte.ensures.front);
+  done = more_said c.args.line.now _ _ _ c.in-Byte.byte c.said.rest.now c.in-Byte.after.now c.said.invariant.done
+      c.in_ok-push-in-Byte.ensures.items (sym c.in-Byte.ensures.front);
   shorter = omega (arith, c.in-Byte.ensures.shorter, c.said.invariant.shorter);
 }

@@ -7,7 +7,8 @@ lines-init c = lines_begin c.args.bytes.now c.without_mark.result.now _ _ c.new-
 
 pub lines-preserved : goal.lines-preserved
 lines-preserved c =
-    lines_go_on c.args.bytes.now (draft_view c.lines.reader) (draft_view c.read_line.new.self) c.in-Some.line.number c.in-Some.line.bytes.now c.lines.lines _
+    lines_go_on c.args.bytes.now (draft_view c.lines.reader)
+    (draft_view c.read_line.new.self) c.in-Some.line.number c.in-Some.line.bytes.now c.lines.lines _
     c.lines.invariant c.in-Some.ensures c.in_ok-read_line.ensures
 
 pub returns : goal.returns

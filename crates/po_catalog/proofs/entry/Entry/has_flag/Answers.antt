@@ -7,8 +7,11 @@ use Rattle.po_catalog.proofs.entry.Entry.has_flag.Goals as goal
 
 pub returns-then-is_empty : goal.returns-then-is_empty
 returns-then-is_empty c =
-    let none : length c.first_flag.result.0.now ≡ 0 = eqb-true _ _ (sym c.is_empty.ensures ∙ c.if-is_empty.true) in
-    (λ h. absurd (false≢true h), λ h. absurd (none_left c.args.self.now.flags.items c.flags.rest.now c.args.name.now _ c.flags.invariant.left c.first_flag.ensures.flag none h))
+    let none : length c.first_flag.result.0.now ≡ 0 = eqb-true _ _ (sym c.is_empty.ensures ∙ c.if-is_empty.true) in (
+      λ h. absurd (false≢true h),
+      λ h. absurd (none_left c.args.self.now.flags.items c.flags.rest.now c.args.name.now _ c.flags.invariant.left
+          c.first_flag.ensures.flag none h),
+    )
 
 pub returns-then-eq : goal.returns-then-eq
 returns-then-eq c =
@@ -21,6 +24,8 @@ flags-preserved c =
     let some : 0 < length c.first_flag.result.0.now = omega (arith, eqb-false _ _ (sym c.is_empty.ensures ∙ c.if-is_empty.false)) in
     let other = (slice_eq-Decides Decides-eqb _ _ _ c.eq.ensures).1 in
     record {
-      found = λ h. c.flags.invariant.found (found_later c.flags.rest.now c.args.name.now _ _ c.first_flag.ensures.flag c.first_flag.ensures.rest some h);
-      left = λ h. left_later c.flags.rest.now c.args.name.now _ _ c.first_flag.ensures.flag c.first_flag.ensures.rest some (λ e. both_ways _ c.if-eq.false (other e)) (c.flags.invariant.left h);
+      found = λ h. c.flags.invariant.found
+          (found_later c.flags.rest.now c.args.name.now _ _ c.first_flag.ensures.flag c.first_flag.ensures.rest some h);
+      left = λ h. left_later c.flags.rest.now c.args.name.now _ _ c.first_flag.ensures.flag c.first_flag.ensures.rest some
+          (λ e. both_ways _ c.if-eq.false (other e)) (c.flags.invariant.left h);
     }
