@@ -17,6 +17,15 @@ pub struct Finding<'a> {
     pub cause: Cause,
 }
 
+/// The line that is printed, without a newline: `cardinal ru few: expected value`.
+impl fmt::Display for Finding<'_> {
+    ghost output = { λ finding. Some (finding_line (finding_view finding)) };
+
+    fn fmt<W: fmt::Write>(&self, f: &mut fmt::Formatter<W>) -> fmt::Result {
+        write!(f, "{}: {}", self.place, self.cause)
+    }
+}
+
 impl Finding<'_> {
     /// Returns the line that is printed: the place, and what is wrong. It allocates; the only error
     /// is out of memory.
@@ -24,14 +33,5 @@ impl Finding<'_> {
         ensures { IfOk result (λ line. string_bytes line ≡ finding_line (finding_view self.now)) }
     {
         self.to_string(alloc)
-    }
-}
-
-/// The line that is printed, without a newline: `cardinal ru few: expected value`.
-impl fmt::Display for Finding<'_> {
-    ghost output = { λ finding. Some (finding_line (finding_view finding)) };
-
-    fn fmt<W: fmt::Write>(&self, f: &mut fmt::Formatter<W>) -> fmt::Result {
-        write!(f, "{}: {}", self.place, self.cause)
     }
 }
