@@ -18,7 +18,7 @@ use Rattle.plural_documents.specs.declared.outline.Portion.{Portion}
 use Rattle.plural_documents.specs.declared.outline.Portion.TheVariants as kept
 use Rattle.plural_documents.proofs.OutlinedLemmas.{some_is}
 use Rattle.plural_documents.proofs.OutlineLemmas.{found_kept}
-use Rattle.plural_documents.proofs.RulesMeant.{held_same}
+use Rattle.plural_documents.proofs.HeldOutlines.{held_same}
 use Rattle.serde_json.specs.Data.{Data, null, boolean, number, string, array, object, Members, no_members, member}
 use Rattle.serde_json.specs.Find.{get_member}
 use Rattle.serde_json.specs.View.{view}

@@ -19,9 +19,10 @@ use Rattle.plural_base.specs.declared.ranges.PluralRanges.{PluralRanges}
 use Rattle.plural_documents.specs.Inner.HeldParts.{Holds}
 use Rattle.plural_documents.specs.Inner.HeldTokens.{Held, held_tokens}
 use Rattle.plural_documents.specs.Inner.RulesPlaces.{AreRight, IsFaultless, IsRight, IsRightBelow, IsRightPart, IsRightText, below, is_any_read, is_float}
-use Rattle.plural_documents.specs.Outlines.{HeldText, IsHeld, part_by_names}
+use Rattle.plural_documents.specs.Outlines.{HeldText}
 use Rattle.plural_documents.specs.declared.rules_place.RulesPlace.{RulesPlace}
 use Rattle.plural_documents.specs.declared.rules_place.RulesPlace.TheVariants.{Document, LocalesRules, Rules, Rule, LocalesRanges, Ranges, Categories, Category, Nowhere}
+use Rattle.plural_documents.proofs.HeldOutlines.{held_same}
 use Rattle.plural_documents.proofs.OutlinedLemmas.{some_is}
 use Rattle.plural_documents.proofs.OutlineLemmas.{order, same_key}
 use Rattle.plural_documents.proofs.RangeNames.{category_named}
@@ -190,12 +191,6 @@ document_means (object ms) right =
     let ranges = map_means ranges_meant LocalesRanges Ranges (λ key. refl) ranges_mean (λ s text. text)
     (get_member (codes "ranges") ms) (under (codes "ranges") LocalesRanges refl) in
     (record { cardinal = cardinal.0; ordinal = ordinal.0; ranges = ranges.0 }, rw (cardinal.1, ordinal.1, ranges.1) refl)
-
--- a text holds one value
-pub held_same : (text : HeldText) (one other : Data) → IsHeld text one → IsHeld text other → one ≡ other
-held_same text one other (whole, reads, part) (whole', reads', part') =
-    let same : whole ≡ whole' = some_is whole whole' (sym reads ∙ reads') in
-    some_is one other (sym part ∙ ap (part_by_names text.names) same ∙ part')
 
 -- what is held has no fault
 pub faultless : (text : HeldText) (ts new : List Held) → Holds text ts → list_any is_float ts ≡ false → IsRightPart (Some Document) ts new
