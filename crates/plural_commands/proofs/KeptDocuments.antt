@@ -1,15 +1,15 @@
 -- What is kept of a document answers a query as the document does.
-use Rattle.std.proofs.Common.{◌≡◌, ℕ, List, bytes_eq, codes, cond, Option, Some, None, Result, Ok, Err, refl, sym, ap, subst, ◌∙◌}
-use Rattle.std.specs.Prelude.{IfOk, option_and_then}
+use Rattle.std.proofs.Common.{◌≡◌, ℕ, List, codes, Option, Some, None, Result, Ok, Err, refl, sym, ap, subst, ◌∙◌}
+use Rattle.std.specs.Prelude.{option_and_then}
 use Rattle.std.specs.Cow.{cow_str_bytes}
 use Rattle.std.proofs.lemmas.Slice.Eq.{bytes_eq-Decides}
-use Rattle.icu_plurals.specs.DocumentJson.{Document as Maps, document_for, document_of_json, found, of_locale, row_of, rows_for, with_locale}
+use Rattle.icu_plurals.specs.DocumentJson.{Document as Maps, document_for, document_of_json, found, of_locale, row_of, with_locale}
 use Rattle.icu_plurals.specs.Json.{Stands}
 use Rattle.icu_plurals.specs.FiveRules.{FiveRules}
 use Rattle.icu_plurals.specs.PackedElements.{PackedElements}
 use Rattle.icu_plurals.specs.declared.PluralRuleType.{PluralRuleType}
 use Rattle.icu_plurals.specs.declared.PluralRuleType.TheVariants.{Cardinal, Ordinal}
-use Rattle.plural_commands.specs.Answer.{AnswersFrom, AnswersLookup}
+use Rattle.plural_commands.specs.Answer.{AnswersFrom}
 use Rattle.plural_commands.specs.Input.{RuledElements, WholeDocument, document_of_value, elements_at_key, elements_for, or_bad, ranged_for, ruled_with, rules_for}
 use Rattle.plural_commands.specs.Lines.{AreRuleLines, IsCategoryLine, IsElementLine, IsMessageLine, IsRangeLine}
 use Rattle.plural_commands.specs.Queries.{Lookup, number_category, range_category, printed_rules, number_element, number_message}
@@ -17,16 +17,16 @@ use Rattle.plural_commands.specs.Inner.CallAnswers.{GivesRunFault, GivesText, Te
 use Rattle.plural_commands.specs.Inner.KeptDocuments.{HaveElements, HaveWanted, Serves, keeps, locale_of}
 use Rattle.plural_commands.specs.declared.document.ElementsSieve.{ElementsSieve}
 use Rattle.plural_commands.specs.declared.error.RunError.{RunError}
-use Rattle.plural_commands.specs.declared.error.RunError.TheVariants.{Locale}
 use Rattle.plural_commands.proofs.Faults.{mapped, no_error, same_error}
 use Rattle.plural_documents.proofs.HeldOutlines.{held_same}
+use Rattle.plural_documents.proofs.LocaleServes.{row_found}
 use Rattle.plural_documents.proofs.OutlineLemmas.{found_kept}
 use Rattle.plural_documents.proofs.OutlinedLemmas.{some_is}
 use Rattle.plural_documents.specs.Inputs.{json_of}
 use Rattle.plural_documents.specs.Outlines.{HeldText, IsHeld, IsOutlineOf, outline, outline_members}
-use Rattle.plural_documents.specs.Steps.{◌>>=◌, or_fault}
+use Rattle.plural_documents.specs.Steps.{◌>>=◌}
 use Rattle.plural_documents.specs.declared.Portion.TheVariants as portion
-use Rattle.serde_json.specs.Data.{Data, null, boolean, number, string, array, object, Members}
+use Rattle.serde_json.specs.Data.{Data, null, boolean, number, string, array, object}
 use Rattle.serde_json.specs.Find.{get, get_member}
 
 -- ---- A text
@@ -59,10 +59,6 @@ elements_kept sieve text part (whole, is_held, outlined) held is_other =
     elements_in sieve whole part outlined ∙ ap (get (codes "elements")) (held_same text whole held is_held is_other)
 
 -- ---- Maps
-
-row_found : {A : Type 0} (locale : List ℕ) (row : Option A) → found locale (row_of locale row) ≡ row
-row_found locale None = refl
-row_found locale (Some x) = rw ((bytes_eq-Decides locale locale).1 refl) refl
 
 abbrev with_rules : PackedElements → FiveRules → Result RuledElements RunError
 with_rules elements rules = Ok (record { elements = elements; rules = rules })

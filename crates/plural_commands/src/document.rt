@@ -16,9 +16,7 @@ use icu_plurals::{
     JsonError, JsonProvider, PluralRuleType, PluralRules, PluralRulesOptions,
     PluralRulesWithRanges, PluralsProvider,
 };
-use plural_documents::{
-    JsonTextError, JsonTokens, Portion, Scratch, Sieve, provider_of_locale,
-};
+use plural_documents::{JsonTextError, JsonTokens, Portion, Scratch, Sieve, provider_of_locale};
 use serde_json::Value;
 use std::alloc::Global;
 
@@ -88,11 +86,7 @@ fn maps_of(alloc: Global, text: &JsonTokens<'_>, locale: &str) -> Result<JsonPro
 }
 
 // A value with the elements of a document, if they are asked for.
-fn value_for(
-    alloc: Global,
-    text: &JsonTokens<'_>,
-    lookup: &Lookup<'_>,
-) -> Result<Value, RunError>
+fn value_for(alloc: Global, text: &JsonTokens<'_>, lookup: &Lookup<'_>) -> Result<Value, RunError>
     ensures { GivesElements (lookup_view lookup.now) text.now result }
 {
     match lookup {

@@ -3,7 +3,8 @@ use Rattle.std.proofs.Common.{◌≡◌, ℕ, List, [], ◌∷◌, Bool, true, f
 use Rattle.std.specs.Bool.{OnTrue}
 use Rattle.std.specs.Prelude.{IfOk, if◌then◌else◌, option_and_then}
 use Rattle.std.proofs.lemmas.Bool.{or_from, or_parts}
-use Rattle.plural_base.specs.DocumentJson.{Document as Maps, Rows, all_maps, document_for, document_meant, document_of_json, found, map_meant, rows_meant, with_locale}
+use Rattle.std.proofs.lemmas.Slice.Eq.{bytes_eq-Decides}
+use Rattle.plural_base.specs.DocumentJson.{row_of, Document as Maps, Rows, all_maps, document_for, document_meant, document_of_json, found, map_meant, rows_meant, with_locale}
 use Rattle.plural_base.specs.FiveRules.{FiveRules}
 use Rattle.plural_base.specs.Json.{Stands, ◌>>=◌}
 use Rattle.plural_base.specs.RangesJson.{ranges_meant}
@@ -56,6 +57,11 @@ mutual
       (λ v is. kept_exact (keeps choice key) value v both.0 is) (members_exact choice ms both.1)
 
 -- ---- Maps
+
+-- of the row of a locale alone the same is found
+pub row_found : {A : Type 0} (locale : List ℕ) (row : Option A) → found locale (row_of locale row) ≡ row
+row_found locale None = refl
+row_found locale (Some x) = rw ((bytes_eq-Decides locale locale).1 refl) refl
 
 module _ (locale : Bor (List ℕ)) where
   abbrev row : LocaleSieve

@@ -1,5 +1,5 @@
 -- Not a definition of the subject: what is kept of a document for a query.
-use Rattle.std.specs.Prelude.{◌≡◌, ⊤, ℕ, List, codes, bytes_eq, if◌then◌else◌, Some, None, Result, Ok, Err}
+use Rattle.std.specs.Prelude.{◌≡◌, ⊤, ℕ, List, codes, bytes_eq, if◌then◌else◌, Some, Result, Ok, Err}
 use Rattle.plural_commands.specs.Answer.{AnswersLookup}
 use Rattle.plural_commands.specs.Input.{WholeDocument}
 use Rattle.plural_commands.specs.Inner.CallAnswers.{GivesRunFault}

@@ -1,6 +1,5 @@
 use Rattle.std.proofs.lemmas.Result.{err_from_is_err_and}
 use Rattle.icu_plurals.specs.DocumentJson.{document_of_json}
-use Rattle.plural_commands.specs.Inner.KeptDocuments.{GivesServing}
 use Rattle.plural_commands.specs.Inner.PrivateViews.{document_view, lookup_view}
 use Rattle.plural_commands.proofs.Faults.{handed_on}
 use Rattle.plural_commands.proofs.KeptDocuments.{document_refused, document_there, maps_there, serves}
