@@ -2,8 +2,7 @@
 use Rattle.std.proofs.Common.{◌≡◌, ℕ, List, codes, Option, Some, None, Result, Ok, Err, refl, sym, ap, subst, ◌∙◌}
 use Rattle.std.specs.Prelude.{option_and_then}
 use Rattle.std.specs.Cow.{cow_str_bytes}
-use Rattle.std.proofs.lemmas.Slice.Eq.{bytes_eq-Decides}
-use Rattle.icu_plurals.specs.DocumentJson.{Document as Maps, document_for, document_of_json, found, of_locale, row_of, with_locale}
+use Rattle.icu_plurals.specs.DocumentJson.{Document as Maps, document_for, document_of_json, found, of_locale, with_locale}
 use Rattle.icu_plurals.specs.Json.{Stands}
 use Rattle.icu_plurals.specs.FiveRules.{FiveRules}
 use Rattle.icu_plurals.specs.PackedElements.{PackedElements}
