@@ -1,5 +1,5 @@
 -- What the maps of a document have for a locale.
-use Rattle.std.proofs.Common.{◌≡◌, ℕ, List, Option, Some, None, Result, Ok, Err, refl, sym, ap, subst, ◌∙◌}
+use Rattle.std.proofs.Common.{◌≡◌, ℕ, List, Some, None, Result, Ok, Err, refl, sym, ap, subst, ◌∙◌}
 use Rattle.icu_plurals.specs.DocumentJson.{Document as Maps, document_for, document_of_json, found, of_locale, rows_for, with_locale}
 use Rattle.icu_plurals.specs.FiveRules.{FiveRules}
 use Rattle.icu_plurals.specs.Json.{GivesMeaning, Stands}
@@ -12,7 +12,7 @@ use Rattle.plural_documents.proofs.JsonTextLemmas.{some_bytes}
 use Rattle.plural_documents.proofs.LocaleServes.{row_found}
 use Rattle.plural_documents.specs.Inputs.{json_of}
 use Rattle.plural_documents.specs.Outlines.{GivesHeldText, HeldText, IsHeld}
-use Rattle.plural_documents.specs.Steps.{After, Then}
+use Rattle.plural_documents.specs.Steps.{Then}
 use Rattle.plural_documents.specs.declared.JsonTextError.{JsonTextError}
 use Rattle.plural_documents.specs.declared.JsonTextError.TheVariants as text
 use Rattle.plural_exports.specs.GivenDocuments.{HasRulesAt, HasRulesFor, IsMapsFault, MeansMaps, ReadsJson}

@@ -1,4 +1,3 @@
-use Rattle.std.proofs.Common.{Err}
 use Rattle.std.proofs.lemmas.Result.{err_from_is_err_and}
 use Rattle.plural_exports.proofs.LocaleMaps.{ranges_found, ranges_refused}
 use Rattle.plural_exports.proofs.Steps.{passed_on}
