@@ -21,19 +21,11 @@ use Rattle.plural_documents.proofs.HeldOutlines.{held_same}
 use Rattle.plural_documents.proofs.LocaleServes.{row_found}
 use Rattle.plural_documents.proofs.OutlineLemmas.{found_kept}
 use Rattle.plural_documents.proofs.OutlinedLemmas.{some_is}
-use Rattle.plural_documents.specs.Inputs.{json_of}
 use Rattle.plural_documents.specs.Outlines.{HeldText, IsHeld, IsOutlineOf, outline, outline_members}
 use Rattle.plural_documents.specs.Steps.{◌>>=◌}
 use Rattle.plural_documents.specs.declared.Portion.TheVariants as portion
 use Rattle.serde_json.specs.Data.{Data, null, boolean, number, string, array, object}
 use Rattle.serde_json.specs.Find.{get, get_member}
-
--- ---- A text
-
--- of bytes that are held whole the value is held
-pub whole_held : (bytes : List ℕ) (text : HeldText) (whole : Data) → text ≡ record { bytes = bytes; names = None } → json_of bytes ≡ Some whole
-    → IsHeld text whole
-whole_held bytes text whole same reads = subst (λ (t : HeldText). IsHeld t whole) (sym same) (whole, reads, refl)
 
 -- ---- Elements
 
