@@ -115,6 +115,10 @@ fn bad_inputs_are_refused(rt: HostRuntime) {
 1: bad document: rule many: expected operand
 < {"cardinal":{"a":null}}
 1: bad document: shape
+< {"cardinal":{"b":{"one":"i 1"},"a":{"few":"=","one":"i = 1"}},"ordinal":7}
+1: bad document: rule few: expected operand
+< {"ranges":{"b":{"ranges":{"one":"one"}}},"cardinal":{"a":{"one":"i = 1"}}}
+1: bad document: range key
 < {"cardinal":null,"ordinal":{}}
 1: locale not found
 "#;
