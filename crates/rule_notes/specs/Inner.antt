@@ -1,0 +1,2 @@
+-- causes as lists that tests make
+pub mod CauseLists
