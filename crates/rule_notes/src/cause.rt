@@ -4,8 +4,9 @@ ghost use Rattle.std.specs.Prelude.{◌≡◌, Some, IfOk};
 ghost use Rattle.plural_reference.specs.Serializer.{relation_text};
 ghost use Rattle.rule_notes.specs.CauseTexts.{cause_text};
 
+use crate::printed::printed;
+use plural_base::PluralCategory;
 use plural_reference::ast::{AndCondition, Condition, Relation};
-use plural_reference::serialize_condition;
 use std::alloc::{AllocError, Global};
 use std::fmt;
 use std::marker::Model;
@@ -17,6 +18,11 @@ pub enum Cause {
     UpsideDown(u64, u64),
     /// The relation has `=`, and no operands make it true.
     Empty(PrintedRelation),
+    /// The condition prints as that of this earlier category.
+    Alike(PluralCategory),
+    /// The condition is true of some whole number below 10000 or decimal below 100 with one or two
+    /// fraction digits, and that of an earlier category is true of each such number.
+    Taken,
 }
 
 /// The text that a relation prints. Contracts see its bytes.
@@ -38,11 +44,7 @@ impl PrintedRelation {
     {
         let group = AndCondition(vec![in alloc; relation.try_clone()?]?.into());
         let condition = Condition(vec![in alloc; group]?.into());
-        let mut text = String::new(alloc);
-        match serialize_condition(&condition, &mut text) {
-            Ok(()) => Ok(PrintedRelation(text)),
-            Err(_) => Err(AllocError),
-        }
+        Ok(PrintedRelation(printed(alloc, &condition)?))
     }
 }
 
@@ -61,6 +63,10 @@ impl fmt::Display for Cause {
         match self {
             Cause::UpsideDown(start, end) => write!(f, "range {start}..{end} is upside down"),
             Cause::Empty(relation) => write!(f, "{relation} is never true"),
+            Cause::Alike(category) => write!(f, "same condition as {category}"),
+            Cause::Taken => f.write_str(
+                "earlier rules have all its numbers, of 0 to 9999, 0.0 to 99.9 and 0.00 to 99.99",
+            ),
         }
     }
 }

@@ -1,9 +1,16 @@
 //! Notes on the conditions of plural rules: what is never true in them.
 #![tactic(auto)]
 
+mod category_rule;
 mod cause;
 mod condition_causes;
+mod earlier_rules;
 mod empty_relation;
+mod note;
+mod notes;
+mod own_numbers;
+mod printed;
 
 pub use cause::{Cause, PrintedRelation};
 pub use condition_causes::causes_of;
+pub use note::Note;

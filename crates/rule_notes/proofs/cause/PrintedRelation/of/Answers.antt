@@ -1,8 +1,6 @@
-use Rattle.std.proofs.Common.{◌≡◌, ℕ, List, [], ◌∷◌, ap, ◌∙◌, ◌++◌, string_bytes}
-use Rattle.std.proofs.lemmas.Fmt.{contents_after_writes}
-use Rattle.plural_reference.specs.Serializer.{condition_text, relation_text}
+use Rattle.std.proofs.Common.{◌≡◌, ℕ, List, [], ◌∷◌, ap, ◌∙◌}
+use Rattle.plural_reference.specs.Serializer.{condition_text}
 use Rattle.plural_reference.specs.declared.ast.AndCondition.{AndCondition}
-use Rattle.plural_reference.specs.declared.ast.Condition.{Condition}
 use Rattle.plural_reference.specs.declared.ast.Relation.{Relation}
 use Rattle.rule_notes.proofs.cause.PrintedRelation.of.Goals as goal
 
@@ -13,11 +11,8 @@ text_of groups = condition_text (record { 0 = groups })
 abbrev alone : List Relation → List ℕ
 alone relations = text_of (record { 0 = relations } ∷ [])
 
-pub returns-in-Ok : goal.returns-in-Ok
-returns-in-Ok c =
+pub returns : goal.returns
+returns c =
     let group : c.into.result ≡ c.args.relation.now ∷ [] =
     c.into.ensures ∙ c.in_ok-vec.ensures.items ∙ ap (λ (r : Relation). r ∷ []) c.in_ok-try_clone.ensures in
-    contents_after_writes _ string_bytes (λ w bs v appended. appended) c.new-text.result _ c.serialize_condition.new.w c.in-Ok.ensures
-    ∙ ap (λ text. text ++ text_of c.into-2.result) c.new-text.ensures.bytes
-    ∙ ap text_of (c.into-2.ensures ∙ c.in_ok-vec-2.ensures.items)
-    ∙ ap alone group
+    c.in_ok-printed.ensures ∙ ap text_of (c.into-2.ensures ∙ c.in_ok-vec-2.ensures.items) ∙ ap alone group
