@@ -1,11 +1,11 @@
 -- The operands of decimals of at most two places.
-use Rattle.std.proofs.Common.{◌≡◌, ◌≢◌, ℕ, zero, suc, ◌+◌, ◌-◌, ◌*◌, ◌/◌, ◌%◌, ◌^◌, ◌<◌, ◌≤◌, ◌⊎◌, inl, inr, refl, ap, sym, subst, ◌∙◌, arith, lit<, lit≤}
+use Rattle.std.proofs.Common.{◌≡◌, ◌≢◌, ℕ, zero, suc, ◌+◌, ◌-◌, ◌*◌, ◌/◌, ◌%◌, ◌^◌, ◌<◌, ◌≤◌, inl, inr, refl, ap, sym, subst, ◌∙◌, arith}
 use Rattle.std.proofs.lemmas.Bool.{cases_lt}
 use Rattle.std.proofs.lemmas.Nat.{pow-add}
 use Rattle.std.proofs.lemmas.Nat.Gcd.{dvd_of_mod-eq-zero, dvd_trans, dvd-zero, mod-eq-zero_of_dvd}
 use Rattle.std.proofs.Math.Nat.{dvd-mul_right, mod-eq_of_lt, one-dvd, zero-div, div-one}
 use Rattle.std.specs.Int.{◌∣◌}
-use Rattle.plural_operands.specs.Operands.{HasFraction, Operands}
+use Rattle.plural_operands.specs.Operands.{Operands}
 use Rattle.rule_notes.specs.Inner.OwnNumbers.{IsLeft}
 use Rattle.rule_notes.specs.LookedAtNumbers.{HasDecimal}
 

@@ -8,3 +8,5 @@ pub mod Decimals
 pub mod OwnNumbersFound
 -- notes one after the other
 pub mod NoteGrowth
+-- the conditions of texts
+pub mod TextConditions

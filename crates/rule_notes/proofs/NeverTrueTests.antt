@@ -1,14 +1,13 @@
 -- What the tests of ranges and relations decide.
-use Rattle.std.proofs.Common.{◌≡◌, ◌≢◌, ℕ, ◌<◌, ◌≤◌, ◌%◌, ◌==◌, Bool, true, false, ◌&&◌, ◌||◌, List, [], ◌∷◌, map, Option, Some, None, nat_le, nat_lt, if◌then◌else◌, refl, ap, sym, ◌∙◌, subst, arith, rules, inl, inr, ◌⊎◌}
+use Rattle.std.proofs.Common.{◌≡◌, ℕ, ◌<◌, ◌≤◌, ◌%◌, ◌==◌, Bool, true, false, ◌&&◌, ◌||◌, List, [], ◌∷◌, map, Option, Some, None, nat_lt, refl, ap, sym, ◌∙◌, arith, inl, inr, ◌⊎◌}
 use Rattle.std.proofs.Math.Nat.{mod-eq_of_lt}
 use Rattle.std.proofs.lemmas.Bool.Decides.{nat_tests}
-use Rattle.std.proofs.lemmas.Grind.{common_steps}
 use Rattle.std.specs.List.{list_all, list_any}
-use Rattle.std.specs.Prelude.{IsFalse, option_map}
+use Rattle.std.specs.Prelude.{option_map}
 use Rattle.plural_operands.specs.Operands.{Operands, operand_value}
 use Rattle.plural_operands.specs.declared.operand.Operand.{Operand}
 use Rattle.plural_operands.specs.declared.operand.Operand.TheVariants.{N, I, V, W, F, T, C, E}
-use Rattle.plural_reference.specs.Truth.{ends_of, holds_by, is_in_ranges, is_zero_modulus, modulus_of, range_holds, ranges_of, remainder, tree_relation_truth, tree_value, under}
+use Rattle.plural_reference.specs.Truth.{ends_of, holds_by, range_holds, remainder, tree_relation_truth, tree_value, under}
 use Rattle.plural_reference.specs.declared.ast.Expression.{Expression}
 use Rattle.plural_reference.specs.declared.ast.Operator.{Operator}
 use Rattle.plural_reference.specs.declared.ast.Operator.TheVariants.{Eq, NotEq}

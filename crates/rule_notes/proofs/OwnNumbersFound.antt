@@ -1,12 +1,12 @@
 -- Numbers that are found, or not.
-use Rattle.std.proofs.Common.{◌≡◌, ℕ, ◌<◌, ◌≤◌, ◌*◌, ◌^◌, ◌⊎◌, Bool, true, false, ◌&&◌, not, List, [], inl, inr, refl, subst, sym, arith, rules}
+use Rattle.std.proofs.Common.{◌≡◌, ℕ, ◌≤◌, Bool, true, false, ◌&&◌, not, List, [], inl, inr, refl, subst, arith}
 use Rattle.std.proofs.lemmas.Bool.{cases_lt}
 use Rattle.std.specs.Prelude.{IsTrue, MatchBool}
 use Rattle.plural_operands.specs.Operands.{Operands, of_whole}
 use Rattle.plural_reference.specs.Truth.{tree_truth}
 use Rattle.rule_notes.specs.EarlierRules.{IsTaken}
 use Rattle.rule_notes.specs.Inner.OwnNumbers.{HasOwn, HasOwnDecimal, HasOwnWhole, is_own, is_taken_at}
-use Rattle.rule_notes.specs.LookedAtNumbers.{IsDecimal, IsLookedAt, IsWhole}
+use Rattle.rule_notes.specs.LookedAtNumbers.{IsLookedAt, IsWhole}
 use Rattle.rule_notes.specs.declared.category_rule.CategoryRule.{CategoryRule}
 
 -- ---- The kinds of numbers

@@ -1,7 +1,7 @@
 -- The numbers that are looked at: 0 to 9999, 0.0 to 99.9 and 0.00 to 99.99.
 --     HasDecimal places parts o      the operands of parts / 10^places, shown with so many places
 --     IsLookedAt o      the operands of a number that is looked at
-use Rattle.std.specs.Prelude.{◌≡◌, ◌⊎◌, ℕ, ◌*◌, ◌/◌, ◌%◌, ◌^◌, ◌<◌, ◌≤◌}
+use Rattle.std.specs.Prelude.{◌≡◌, ◌⊎◌, ℕ, ◌*◌, ◌/◌, ◌%◌, ◌^◌, ◌<◌}
 use Rattle.plural_operands.specs.Operands.{HasFraction, Operands, of_whole}
 
 pub record HasDecimal (places parts : ℕ) (o : Operands) : Type 0 where

@@ -6,12 +6,39 @@
 --     AreNotesOf texts notes      the notes of five texts
 use Rattle.std.specs.Prelude.{◌≡◌, ◌⊎◌, ℕ, List, [], ◌∷◌, ◌++◌, map, Option, Some, None, IsFalse, IsTrue}
 use Rattle.plural_base.specs.declared.category.PluralCategory.{PluralCategory}
+use Rattle.plural_base.specs.declared.category.PluralCategory.TheVariants.{Zero, One, Two, Few, Many}
+use Rattle.plural_base.specs.declared.five.Five.{Five}
+use Rattle.plural_checker.specs.LanguageTexts.{is_long}
+use Rattle.plural_reference.specs.Lexer.{TextFaulty, TextReads}
+use Rattle.plural_reference.specs.Samples.{FaultyRule, ReadsCondition}
+use Rattle.plural_reference.specs.declared.ast.Condition.{Condition}
+use Rattle.plural_reference.specs.declared.error.ParseError.{ParseError}
 use Rattle.rule_notes.specs.ConditionCauses.{AreConditionCauses, IsNotedIf, NotesBoth}
 use Rattle.rule_notes.specs.EarlierRules.{AreAlikeCauses, IsTaken}
 use Rattle.rule_notes.specs.declared.category_rule.CategoryRule.{CategoryRule}
 use Rattle.rule_notes.specs.declared.cause.Cause.{Cause}
 use Rattle.rule_notes.specs.declared.cause.Cause.TheVariants.{Taken}
 use Rattle.rule_notes.specs.declared.note.Note.{Note}
+
+-- ---- The rules of texts
+
+abbrev pub HasCondition : Option (List ℕ) → Option Condition → Type 0
+HasCondition None condition = condition ≡ None
+HasCondition (Some text) (Some condition) = IsFalse (is_long text) × TextReads ReadsCondition text condition
+HasCondition (Some text) None = IsTrue (is_long text) ⊎ ((fault : ParseError) × TextFaulty FaultyRule text fault)
+
+abbrev pub rule_if : PluralCategory → Option Condition → List CategoryRule
+rule_if category None = []
+rule_if category (Some condition) = record { category = category; condition = condition } ∷ []
+
+-- the rule of a category is added to earlier ones, if its text has a condition
+abbrev pub AddsRule : PluralCategory → Option (List ℕ) → List CategoryRule → List CategoryRule → Type 0
+AddsRule category text earlier rules = (condition : Option Condition) × HasCondition text condition × (rules ≡ earlier ++ rule_if category condition)
+
+abbrev pub AreRulesOf : Five (Option (List ℕ)) → List CategoryRule → Type 0
+AreRulesOf texts rules =
+    (zero one two few : List CategoryRule) × AddsRule Zero texts.zero [] zero × AddsRule One texts.one zero one
+    × AddsRule Two texts.two one two × AddsRule Few texts.few two few × AddsRule Many texts.many few rules
 
 -- ---- Notes
 
@@ -32,3 +59,6 @@ abbrev pub AreRuleNotes : List CategoryRule → List CategoryRule → List Note 
 AreRuleNotes earlier [] notes = notes ≡ []
 AreRuleNotes earlier (rule ∷ rules) notes =
     NotesBoth (AreNotesOfRule earlier rule) (AreRuleNotes (earlier ++ rule ∷ []) rules) notes
+
+abbrev pub AreNotesOf : Five (Option (List ℕ)) → List Note → Type 0
+AreNotesOf texts notes = (rules : List CategoryRule) × AreRulesOf texts rules × AreRuleNotes [] rules notes

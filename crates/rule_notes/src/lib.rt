@@ -1,4 +1,5 @@
-//! Notes on the conditions of plural rules: what is never true in them.
+//! Notes on the conditions of a language's plural rules: what is never true in them, and what comes
+//! too late.
 #![tactic(auto)]
 
 mod category_rule;
@@ -14,3 +15,4 @@ mod printed;
 pub use cause::{Cause, PrintedRelation};
 pub use condition_causes::causes_of;
 pub use note::Note;
+pub use notes::notes_of;

@@ -1,23 +1,42 @@
 //! The notes of a language's rules.
 
 ghost use Rattle.std.specs.Prelude.{◌≡◌, ◌++◌, [], IfOk, OnOk};
+ghost use Rattle.plural_checker.specs.LanguageTexts.{six_texts};
 ghost use Rattle.rule_notes.specs.Inner.NoteSteps.{Adds};
-ghost use Rattle.rule_notes.specs.RuleNotes.{AreNotesOfRule, AreRuleCauses, AreRuleNotes, notes_under};
+ghost use Rattle.rule_notes.specs.RuleNotes.{AreNotesOf, AreNotesOfRule, AreRuleCauses, AreRuleNotes, notes_under};
 
-use crate::category_rule::CategoryRule;
+use crate::category_rule::{CategoryRule, rules_of};
 use crate::cause::Cause;
 use crate::condition_causes::add_condition;
 use crate::earlier_rules::{add_alike, add_taken};
 use crate::note::Note;
 use plural_base::PluralCategory;
+use plural_checker::LanguageTexts;
+use plural_reference::Sequence;
 use std::alloc::{AllocError, Global};
 
+/// Returns the notes of the five texts of a language's rules of one type, in the order of the texts:
+/// zero, one, two, few, many. A text of more than
+/// [`MOST_TEXT_BYTES`](plural_checker::MOST_TEXT_BYTES) bytes and one that is no rule have none, as
+/// if they weren't there; what is wrong with them [`check_texts`](plural_checker::check_texts) tells.
+///
+/// Of a condition come first, for each relation, its ranges that are upside down, and then the
+/// relation, if no operands make it true; then the first earlier category whose condition prints
+/// alike; and then that earlier rules have all its numbers, of those that are looked at: 0 to 9999,
+/// 0.0 to 99.9 and 0.00 to 99.99. A rule that is true of none of these has no such note.
+///
+/// It allocates; the only error is out of memory.
+pub fn notes_of(alloc: Global, texts: &LanguageTexts<'_>) -> Result<Sequence<Note>, AllocError>
+    ensures { IfOk result (λ notes. AreNotesOf (six_texts texts.now).five notes) }
+{
+    let rules = rules_of(alloc, texts)?;
+    let mut notes = Vec::new(alloc);
+    add_notes(alloc, rules.as_slice(), &mut notes)?;
+    Ok(notes.into())
+}
+
 // Adds the notes of rules.
-pub(crate) fn add_notes(
-    alloc: Global,
-    rules: &[CategoryRule],
-    notes: &mut Vec<Note>,
-) -> Result<(), AllocError>
+fn add_notes(alloc: Global, rules: &[CategoryRule], notes: &mut Vec<Note>) -> Result<(), AllocError>
     ensures { OnOk result (Adds (AreRuleNotes [] rules.now) notes.old.items notes.new.items) }
 {
     for index in 0..rules.len() {

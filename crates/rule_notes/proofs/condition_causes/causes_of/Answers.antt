@@ -1,4 +1,4 @@
-use Rattle.std.proofs.Common.{◌≡◌, List, [], ◌++◌, ap, sym, subst, ◌∙◌}
+use Rattle.std.proofs.Common.{◌≡◌, List, ◌++◌, ap, sym, subst, ◌∙◌}
 use Rattle.rule_notes.specs.ConditionCauses.{AreConditionCauses}
 use Rattle.rule_notes.specs.Inner.CauseLists.{condition_causes}
 use Rattle.rule_notes.specs.declared.cause.Cause.{Cause}

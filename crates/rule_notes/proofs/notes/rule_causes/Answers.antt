@@ -1,4 +1,3 @@
-use Rattle.std.proofs.Common.{◌≡◌, List, [], ◌++◌, ap, sym, subst, ◌∙◌, arith}
 use Rattle.rule_notes.proofs.ListedCauses.{condition_noted}
 use Rattle.rule_notes.proofs.NoteGrowth.{adds_both, adds_to_nothing}
 use Rattle.rule_notes.specs.ConditionCauses.{AreConditionCauses, IsNotedIf, NotesBoth}
