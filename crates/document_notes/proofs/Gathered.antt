@@ -1,5 +1,5 @@
 -- Notes of a document that are gathered one after the other.
-use Rattle.std.proofs.Common.{◌≡◌, List, [], ◌++◌, Option, refl, ap, sym, ◌∙◌}
+use Rattle.std.proofs.Common.{◌≡◌, List, [], ◌++◌, refl, ap, sym, ◌∙◌}
 use Rattle.std.proofs.lemmas.List.{append-nil}
 use Rattle.plural_fallback.specs.declared.locales.Part.TheVariants.{Cardinal, Ordinal}
 use Rattle.serde_json.specs.Data.{Data}

@@ -5,7 +5,7 @@
 use Rattle.std.specs.Prelude.{◌≡◌, ℕ, ◌==◌, List, [], ◌++◌, codes, length, Option, Some, None, if◌then◌else◌}
 use Rattle.std.specs.Fmt.{decimal}
 use Rattle.std.specs.List.{flat_map}
-use Rattle.document_report.specs.DocumentFindings.{Finding, finding_line}
+use Rattle.document_report.specs.DocumentFindings.{finding_line}
 use Rattle.document_report.specs.DocumentPlaces.{at_text, finding_place_text}
 use Rattle.document_report.specs.ReportText.{counts_in, findings_in, report_text}
 use Rattle.document_report.specs.declared.counts.Counts.{Counts}

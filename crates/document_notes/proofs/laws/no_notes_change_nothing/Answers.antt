@@ -1,8 +1,8 @@
-use Rattle.std.proofs.Common.{◌≡◌, ℕ, List, [], ◌∷◌, ◌++◌, codes, ap, append_assoc}
+use Rattle.std.proofs.Common.{◌≡◌, ℕ, List, [], ◌++◌, codes, ap, append_assoc}
 use Rattle.std.proofs.lemmas.List.{append-nil}
 use Rattle.std.specs.Fmt.{decimal}
 use Rattle.std.specs.List.{flat_map}
-use Rattle.document_report.specs.ReportText.{counts_of, findings_in, printed_finding}
+use Rattle.document_report.specs.ReportText.{findings_in, printed_finding}
 use Rattle.document_notes.proofs.laws.no_notes_change_nothing.Goals as goal
 
 -- the pieces of the counts, grouped from the right, or from the left
