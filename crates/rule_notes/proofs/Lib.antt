@@ -10,3 +10,5 @@ pub mod OwnNumbersFound
 pub mod NoteGrowth
 -- the conditions of texts
 pub mod TextConditions
+-- one list
+pub mod OneList

@@ -7,6 +7,7 @@ pub mod LookedAtNumbers
 pub mod EarlierRules
 -- the notes of a language's rules
 pub mod RuleNotes
+pub mod RuleNoteLaws
 -- the texts of notes
 pub mod CauseTexts
 -- no definitions of the subject

@@ -7,6 +7,7 @@ mod cause;
 mod condition_causes;
 mod earlier_rules;
 mod empty_relation;
+pub mod laws;
 mod note;
 mod notes;
 mod own_numbers;
