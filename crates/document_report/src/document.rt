@@ -4,13 +4,14 @@ ghost use Rattle.std.specs.Prelude.{◌≡◌, OnOk, option_map};
 ghost use Rattle.std.specs.Option.{option_and_then};
 ghost use Rattle.serde_json.specs.Find.{as_object, get};
 ghost use Rattle.serde_json.specs.View.{members_view, view};
+ghost use Rattle.document_report.specs.CheckAnswer.{check_origin};
 ghost use Rattle.document_report.specs.CheckedDocument.{members_or_none, document_of_bytes};
 ghost use Rattle.document_report.specs.FoundInDocuments.{HasGrownBy, IsFoundInMembers};
 ghost use Rattle.plural_documents.specs.Steps.{or_fault};
 ghost use Rattle.document_report.specs.Inner.CheckCalls.{GivesOnly};
 ghost use Rattle.plural_fallback.specs.LocalesJson.{part_name};
 ghost use Rattle.document_report.specs.declared.error.CheckError.TheVariants.{Json};
-ghost use Rattle.plural_documents.specs.Inputs.{json_of};
+ghost use Rattle.plural_documents.specs.Inputs.{GivesBy, json_of};
 
 use crate::error::CheckError;
 use crate::form::check_document;
@@ -20,9 +21,12 @@ use plural_fallback::Part;
 use serde_json::{Map, Value};
 use std::alloc::{AllocError, Global};
 
-// The document that the bytes write: a value whose parts and locales are objects.
-pub(crate) fn value_of(alloc: Global, bytes: &[u8]) -> Result<Value, CheckError>
-    ensures { GivesOnly view (document_of_bytes bytes.now) result }
+/// Returns the document that bytes write: a JSON value whose parts and locales are objects. It
+/// allocates.
+///
+/// The errors are those of [`run`](crate::run::run) from [`CheckError::Json`] on, but of a writer.
+pub fn value_of(alloc: Global, bytes: &[u8]) -> Result<Value, CheckError>
+    ensures { GivesBy check_origin view (λ answer. document_of_bytes bytes.now ≡ answer) result }
 {
     let value = json_of(alloc, bytes)?;
     check_document(alloc, &value)?;
@@ -40,8 +44,9 @@ fn json_of(alloc: Global, bytes: &[u8]) -> Result<Value, CheckError>
     }
 }
 
-// The members of a part of a document, by locale.
-pub(crate) fn members_of(document: &Value, part: Part) -> Option<&Map<String, Value>>
+/// Returns the members of a part of a document, by locale; none if the part is no object. It allocates
+/// nothing.
+pub fn members_of(document: &Value, part: Part) -> Option<&Map<String, Value>>
     ensures { option_map (λ m. members_view m.now.entries) result
         ≡ option_and_then as_object (get (part_name part) (view document.now)) }
 {

@@ -74,8 +74,9 @@ fn add_language<'a>(
     add_categories(alloc, place, value.as_object(), found)
 }
 
-// The texts of a language's rules.
-pub(crate) fn texts_of(value: &Value) -> LanguageTexts<'_>
+/// Returns the texts of a language's rules: the value of a locale in the rules of a document. It
+/// allocates nothing.
+pub fn texts_of(value: &Value) -> LanguageTexts<'_>
     ensures { six_texts result ≡ all_texts_in (view value.now) }
 {
     LanguageTexts {

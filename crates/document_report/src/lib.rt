@@ -29,10 +29,12 @@ mod tables;
 
 pub use cause::Cause;
 pub use counts::Counts;
+pub use document::{members_of, value_of};
 pub use entry::EntryFault;
 pub use error::CheckError;
 pub use finding::Finding;
 pub use finding_place::{FindingPlace, LocalePlace};
+pub use languages::texts_of;
 pub use place::{Locale, Place};
 pub use plural_fallback::Part;
 pub use report::{Report, Verdict, report_of};

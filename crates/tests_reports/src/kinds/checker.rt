@@ -1,4 +1,4 @@
-//! Checks of a language's texts against their samples.
+//! Checks of a language's texts against their samples, and notes on their conditions.
 
 use icu_plurals::provider::rules::reference::ast::{DecimalValue, SampleRange};
 use icu_plurals::{PluralCategory, PluralElements, PluralRules};
@@ -9,6 +9,7 @@ use plural_checker::{
 };
 use row_calls::arguments::has_names;
 use row_calls::call::Call;
+use rule_notes::notes_of;
 use std::fmt::Write;
 
 /// Makes the call of a kind of this file. Returns whether there is such a kind.
@@ -17,6 +18,7 @@ pub fn make(kind: &str, call: &mut Call) -> bool {
         "sample_numbers" => sample_numbers(call),
         "sample_count" => sample_count(call),
         "report" => report(call),
+        "notes" => notes(call),
         "has_rule" => has_rule(call),
         "coverage" => coverage(call),
         "set_of_elements" => set_of_elements(call),
@@ -142,6 +144,21 @@ fn report(call: &mut Call) {
     let _ = write!(call, "{} numbers", report.numbers);
     for fault in report.faults.iter() {
         let _ = write!(call, " | {fault}");
+    }
+}
+
+// The notes of a language's rules.
+fn notes(call: &mut Call) {
+    let texts = SixTexts::next(call);
+    let Ok(notes) = notes_of(call.alloc, &texts.borrowed()) else {
+        return call.out_of_memory();
+    };
+    if notes.is_empty() {
+        call.print("none");
+    }
+    for note in notes.iter() {
+        call.separate(" | ");
+        call.print_value(note);
     }
 }
 

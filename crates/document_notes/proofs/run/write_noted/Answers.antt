@@ -1,0 +1,18 @@
+use Rattle.std.proofs.Common.{refl, rules, option_map}
+use Rattle.std.proofs.lemmas.Result.{err_from_is_err_and}
+use Rattle.document_notes.proofs.NotedAnswers.{nothing_written, passed_on}
+use Rattle.document_report.specs.CheckedDocument.{document_of_bytes}
+use Rattle.document_notes.specs.NotedAnswer.{AnswersNoted, noted_view}
+use Rattle.document_notes.proofs.run.write_noted.Goals as goal
+
+pub returns-in_err-noted : goal.returns-in_err-noted
+returns-in_err-noted g c =
+    nothing_written (AnswersNoted (option_map (λ name. name.now) c.args.noting.file) c.args.noting.is_strict (document_of_bytes c.args.bytes.now))
+    (g.W.Write.contents c.args.writer.now) c.in_err-noted.field-0.0 c.from_residual.result
+    (passed_on _ _ (err_from_is_err_and c.from_residual.result c.from_residual.ensures.1)) c.in_err-noted.ensures
+
+pub returns-in-Ok : goal.returns-in-Ok
+returns-in-Ok g c = (noted_view c.in_ok-noted.noted, c.in_ok-noted.ensures, refl, search rules)
+
+pub returns : goal.returns
+returns g c = (noted_view c.in_ok-noted.noted, c.in_ok-noted.ensures, search rules)

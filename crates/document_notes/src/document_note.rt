@@ -1,0 +1,103 @@
+//! The notes of a document.
+
+ghost use Rattle.std.specs.Prelude.{◌≡◌, ◌++◌, ◌∷◌, [], IfOk, OnOk, map};
+ghost use Rattle.document_notes.specs.DocumentNotes.{AreNotesIn, Gathers, IsNotedInPart, note_at, note_view};
+ghost use Rattle.document_report.specs.DocumentPlaces.{locale_place_view};
+ghost use Rattle.serde_json.specs.View.{view};
+
+use crate::language_notes::LanguageNotes;
+use document_report::{LocalePlace, members_of};
+use plural_documents::{Findings, add_members};
+use plural_fallback::Part;
+use rule_notes::Note;
+use serde_json::Value;
+use std::alloc::{AllocError, Global};
+use std::marker::Model;
+
+/// A note on a rule of a document.
+#[derive(Debug, Drop)]
+pub struct DocumentNote<'a> {
+    /// The locale, in its part.
+    pub place: LocalePlace<'a>,
+    /// The note, with its category.
+    pub note: Note,
+}
+
+/// The notes of a document, in their order.
+#[derive(Debug, Drop)]
+pub struct DocumentNotes<'a> {
+    notes: Vec<DocumentNote<'a>>,
+}
+
+impl<'a> Model for DocumentNotes<'a> {
+    ghost use Rattle.std.specs.Prelude.{List, map};
+    ghost use Rattle.document_notes.specs.DocumentNotes as seen;
+
+    ghost Value = { List seen.NoteAt };
+
+    ghost view = { λ notes. map seen.note_view notes.notes.items };
+}
+
+impl<'a> Findings for DocumentNotes<'a> {
+    ghost use Rattle.std.specs.Prelude.{◌++◌, []};
+    ghost use Rattle.std.proofs.Common.{append_assoc};
+    ghost use Rattle.std.proofs.lemmas.List.{append-nil};
+
+    ghost nothing = { [] };
+
+    ghost together = { λ first second. first ++ second };
+
+    fn nothing(alloc: Global) -> DocumentNotes<'a> {
+        DocumentNotes {
+            notes: Vec::new(alloc),
+        }
+    }
+
+    ghost ends = { append-nil };
+
+    ghost joins = { append_assoc };
+}
+
+impl<'a> DocumentNotes<'a> {
+    /// Returns the notes.
+    pub fn as_slice(&self) -> &[DocumentNote<'a>]
+        ensures { map note_view result.now ≡ self.now }
+    {
+        self.notes.as_slice()
+    }
+
+    // Adds a note on a locale.
+    pub(crate) fn add(&mut self, place: LocalePlace<'a>, note: Note) -> Result<(), AllocError>
+        ensures { OnOk result (self.new ≡ self.old ++ note_at (locale_place_view place.entry) note ∷ []) }
+    {
+        self.notes.push(DocumentNote { place, note })?;
+        Ok(())
+    }
+}
+
+/// Returns the notes of a document's rules, of those for cardinal and then of those for ordinal
+/// numbers, in the order of the locales' bytes, each as by [`notes_of`](rule_notes::notes_of). It
+/// allocates; the only error is out of memory.
+pub fn notes_in<'a>(alloc: Global, document: &'a Value) -> Result<DocumentNotes<'a>, AllocError>
+    ensures { IfOk result (λ notes. AreNotesIn (view document.now) notes) }
+{
+    let mut notes = DocumentNotes::nothing(alloc);
+    add_part(alloc, document, Part::Cardinal, &mut notes)?;
+    add_part(alloc, document, Part::Ordinal, &mut notes)?;
+    Ok(notes)
+}
+
+// Adds the notes of a part.
+fn add_part<'a>(
+    alloc: Global,
+    document: &'a Value,
+    part: Part,
+    notes: &mut DocumentNotes<'a>,
+) -> Result<(), AllocError>
+    ensures { OnOk result (Gathers (IsNotedInPart (view document.now) part) notes.old notes.new) }
+{
+    match members_of(document, part) {
+        Some(members) => add_members(alloc, &LanguageNotes { part }, members, notes),
+        None => Ok(()),
+    }
+}

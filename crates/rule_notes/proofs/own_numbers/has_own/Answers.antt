@@ -1,0 +1,7 @@
+use Rattle.rule_notes.proofs.OwnNumbersFound.{own_if}
+use Rattle.rule_notes.proofs.own_numbers.has_own.Goals as goal
+
+pub returns : goal.returns
+returns c =
+    own_if c.args.earlier.now c.args.rule.now c.has_whole-2.result c.if-has_whole.ensures c.if-has_decimal.ensures c.if-has_decimal-2.ensures
+    c.has_whole-2.ensures
