@@ -1,0 +1,3 @@
+mod FourBytes
+mod BlockEntries
+mod WorkedCatalogs
