@@ -1,3 +1,4 @@
 mod FourBytes
 mod BlockEntries
+mod BlockBytes
 mod WorkedCatalogs
