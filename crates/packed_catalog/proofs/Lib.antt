@@ -1,4 +1,5 @@
 mod FourBytes
 mod BlockEntries
 mod BlockBytes
+mod OneBlock
 mod WorkedCatalogs
