@@ -2,4 +2,6 @@ mod FourBytes
 mod BlockEntries
 mod BlockBytes
 mod OneBlock
+mod FirstFaults
+mod KeysFound
 mod WorkedCatalogs

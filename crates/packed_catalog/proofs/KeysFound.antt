@@ -1,0 +1,60 @@
+-- The place of a key among sorted keys, and the value under it.
+use Rattle.std.proofs.Common.{◌≡◌, ℕ, zero, suc, ◌+◌, ◌<◌, ◌≤◌, List, [], ◌∷◌, length, get_or, refl, sym, ap, ◌∙◌, arith, inl, inr, subst, Some, None, true, false}
+use Rattle.std.proofs.lemmas.Bool.{cases_lt}
+use Rattle.std.proofs.lemmas.Cmp.{nat_list_cmp_total, tied_itself}
+use Rattle.std.proofs.lemmas.List.{length-map}
+use Rattle.std.proofs.lemmas.Map.Keys.{Less-from_sorted}
+use Rattle.std.proofs.lemmas.Slice.Eq.{bytes_eq-Decides}
+use Rattle.std.specs.Cmp.Lexicographic.{slice_cmp}
+use Rattle.std.specs.declared.cmp.Ordering.TheVariants.{Less, Equal}
+use Rattle.std.specs.Ordering.{nat_cmp}
+use Rattle.std.specs.Prelude.{◌≢◌, Bool, bytes_eq, slice_get, cond}
+use Rattle.packed_catalog.specs.CatalogBytes.{Entry, keys_of, value_under}
+use Rattle.packed_catalog.specs.CatalogFaults.{count_in, key_in}
+use Rattle.packed_catalog.specs.Inner.CatalogReading.{IsBlock, entries_in}
+use Rattle.packed_catalog.proofs.BlockBytes.{sorted_in}
+use Rattle.packed_catalog.proofs.BlockEntries.{get_or-keys_in, length-entries_in}
+
+-- a key is below each later one
+pub keys_apart : (bytes : List ℕ) → IsBlock bytes → (i j : ℕ) → i < j → j < count_in bytes
+    → slice_cmp nat_cmp (key_in bytes i) (key_in bytes j) ≡ Less
+keys_apart bytes h i j l m =
+    let keys : List (List ℕ) = keys_of (entries_in bytes) in
+    let many : length keys ≡ count_in bytes = length-map (entries_in bytes) (λ (entry : Entry). entry.key) ∙ length-entries_in bytes in
+    rw (← get_or-keys_in bytes i (omega arith), ← get_or-keys_in bytes j m)
+    (Less-from_sorted (slice_cmp nat_cmp) keys i j [] (sorted_in bytes h) l (omega (arith, many)))
+
+-- up to a key that is below another, all are
+pub below_on : (bytes key : List ℕ) → IsBlock bytes → (m : ℕ) → m < count_in bytes → slice_cmp nat_cmp (key_in bytes m) key ≡ Less
+    → (k : ℕ) → k ≤ m → slice_cmp nat_cmp (key_in bytes k) key ≡ Less
+below_on bytes key h m l less k u = elim (cases_lt k m) [
+  | inl before ↦ nat_list_cmp_total.trans (key_in bytes k) (key_in bytes m) key (keys_apart bytes h k m before l) less
+  | inr after ↦ let e : m ≡ k = omega arith in subst (λ j. slice_cmp nat_cmp (key_in bytes j) key ≡ Less) e less
+]
+
+-- from a key on that isn't below another, none is
+pub above_on : (bytes key : List ℕ) → IsBlock bytes → (m : ℕ) → slice_cmp nat_cmp (key_in bytes m) key ≢ Less
+    → (k : ℕ) → m ≤ k → k < count_in bytes → slice_cmp nat_cmp (key_in bytes k) key ≢ Less
+above_on bytes key h m high k u l less = elim (cases_lt m k) [
+  | inl before ↦ high (nat_list_cmp_total.trans (key_in bytes m) (key_in bytes k) key (keys_apart bytes h m k before l) less)
+  | inr after ↦ let e : k ≡ m = omega arith in high (subst (λ j. slice_cmp nat_cmp (key_in bytes j) key ≡ Less) e less)
+]
+
+-- a key below another is another one
+pub below_apart : (a b : List ℕ) → slice_cmp nat_cmp a b ≡ Less → a ≢ b
+below_apart a b less same =
+    let equal : slice_cmp nat_cmp a b ≡ Equal = subst (λ c. slice_cmp nat_cmp a c ≡ Equal) same (tied_itself nat_list_cmp_total a) in
+    absurd (cc)
+
+-- the value of the first entry with a key
+pub value_found : (key : List ℕ) (entries : List Entry) (i : ℕ) (entry : Entry) → slice_get entries i ≡ Some entry → entry.key ≡ key
+    → ((k : ℕ) → k < i → get_or (keys_of entries) k [] ≢ key) → value_under key entries ≡ Some entry.value
+value_found key [] i entry h e before = absurd (cc)
+value_found key (first ∷ entries) zero entry h e before = ?
+value_found key (first ∷ entries) (suc i) entry h e before = ?
+
+-- no value if no entry has a key
+pub value_none : (key : List ℕ) (entries : List Entry) → ((k : ℕ) → k < length entries → get_or (keys_of entries) k [] ≢ key)
+    → value_under key entries ≡ None
+value_none key [] h = refl
+value_none key (first ∷ entries) h = ?
