@@ -39,7 +39,7 @@ first_low key i rises low = record {
     none (suc j) l bad = bad (rises j l)
 
 -- where each end is good, no entry has a bad one
-no_bad_end : (bytes : List ℕ) → HasGoodEnds bytes → (index : ℕ) → index < count_in bytes → ¬ (HasBadEnd bytes index)
+pub no_bad_end : (bytes : List ℕ) → HasGoodEnds bytes → (index : ℕ) → index < count_in bytes → ¬ (HasBadEnd bytes index)
 no_bad_end bytes h index l bad = elim bad [
   | inl key ↦ omega (arith, key, h.rises (2 * index) (omega arith))
   | inr value ↦ omega (arith, value, h.rises (suc (2 * index)) (omega arith))

@@ -1,5 +1,5 @@
 -- The place of a key among sorted keys, and the value under it.
-use Rattle.std.proofs.Common.{◌≡◌, ℕ, zero, suc, ◌+◌, ◌<◌, ◌≤◌, List, [], ◌∷◌, length, get_or, refl, sym, ap, ◌∙◌, arith, inl, inr, subst, Some, None, true, false}
+use Rattle.std.proofs.Common.{◌≡◌, ℕ, zero, suc, ◌+◌, ◌<◌, ◌≤◌, List, [], ◌∷◌, length, get_or, refl, ap, ◌∙◌, arith, inl, inr, subst, Some, None, true, false}
 use Rattle.std.proofs.lemmas.Bool.{cases_lt}
 use Rattle.std.proofs.lemmas.Cmp.{nat_list_cmp_total, tied_itself}
 use Rattle.std.proofs.lemmas.List.{length-map}
@@ -8,7 +8,7 @@ use Rattle.std.proofs.lemmas.Slice.Eq.{bytes_eq-Decides}
 use Rattle.std.specs.Cmp.Lexicographic.{slice_cmp}
 use Rattle.std.specs.declared.cmp.Ordering.TheVariants.{Less, Equal}
 use Rattle.std.specs.Ordering.{nat_cmp}
-use Rattle.std.specs.Prelude.{◌≢◌, Bool, bytes_eq, slice_get, cond}
+use Rattle.std.specs.Prelude.{◌≢◌, Bool, bytes_eq, slice_get}
 use Rattle.packed_catalog.specs.CatalogBytes.{Entry, keys_of, value_under}
 use Rattle.packed_catalog.specs.CatalogFaults.{count_in, key_in}
 use Rattle.packed_catalog.specs.Inner.CatalogReading.{IsBlock, entries_in}
@@ -46,15 +46,27 @@ below_apart a b less same =
     let equal : slice_cmp nat_cmp a b ≡ Equal = subst (λ c. slice_cmp nat_cmp a c ≡ Equal) same (tied_itself nat_list_cmp_total a) in
     absurd (cc)
 
+-- the test of two keys that differ
+not_true : (r : Bool) → r ≢ true → r ≡ false
+not_true true h = absurd (h refl)
+not_true false h = refl
+
+apart : (a b : List ℕ) → a ≢ b → bytes_eq a b ≡ false
+apart a b h = not_true (bytes_eq a b) (λ t. h ((bytes_eq-Decides a b).0 t))
+
 -- the value of the first entry with a key
 pub value_found : (key : List ℕ) (entries : List Entry) (i : ℕ) (entry : Entry) → slice_get entries i ≡ Some entry → entry.key ≡ key
     → ((k : ℕ) → k < i → get_or (keys_of entries) k [] ≢ key) → value_under key entries ≡ Some entry.value
 value_found key [] i entry h e before = absurd (cc)
-value_found key (first ∷ entries) zero entry h e before = ?
-value_found key (first ∷ entries) (suc i) entry h e before = ?
+value_found key (first ∷ entries) zero entry h e before =
+    let same : first ≡ entry = cc in
+    rw ((bytes_eq-Decides first.key key).1 (ap (λ (x : Entry). x.key) same ∙ e)) (ap (λ (x : Entry). Some x.value) same)
+value_found key (first ∷ entries) (suc i) entry h e before =
+    rw (apart first.key key (before 0 (omega arith))) (value_found key entries i entry h e (λ k l. before (suc k) (omega arith)))
 
 -- no value if no entry has a key
 pub value_none : (key : List ℕ) (entries : List Entry) → ((k : ℕ) → k < length entries → get_or (keys_of entries) k [] ≢ key)
     → value_under key entries ≡ None
 value_none key [] h = refl
-value_none key (first ∷ entries) h = ?
+value_none key (first ∷ entries) h =
+    rw (apart first.key key (h 0 (omega arith))) (value_none key entries (λ k l. h (suc k) (omega arith)))

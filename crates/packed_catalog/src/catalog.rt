@@ -29,11 +29,15 @@ impl<'a> Model for PackedCatalog<'a> {
 
     ghost Value = { List Entry };
 
+    ghost use Rattle.packed_catalog.specs.CatalogBytes.{CatalogBytes};
     ghost use Rattle.packed_catalog.specs.Inner.CatalogReading.{IsBlock, entries_in};
 
     ghost view = { λ catalog. entries_in catalog.bytes.now };
 
-    ghost invariant = { λ catalog. IsBlock catalog.bytes.now };
+    ghost invariant = { λ catalog. record {
+      block : IsBlock catalog.bytes.now;
+      encoded : CatalogBytes (entries_in catalog.bytes.now) catalog.bytes.now;
+    } };
 }
 
 impl<'a> PackedCatalog<'a> {
