@@ -4,4 +4,5 @@ mod BlockBytes
 mod OneBlock
 mod FirstFaults
 mod KeysFound
+mod EntriesOrder
 mod WorkedCatalogs

@@ -1,6 +1,5 @@
 //! Why bytes aren't a catalogue, and why entries can't be packed.
 
-use std::alloc::AllocError;
 use std::error::Error;
 use std::fmt;
 
@@ -65,14 +64,3 @@ impl fmt::Display for PackCatalogError {
 }
 
 impl Error for PackCatalogError {}
-
-impl From<AllocError> for PackCatalogError {
-    ghost use Rattle.std.specs.Prelude.{◌≡◌};
-    ghost use Rattle.packed_catalog.specs.declared.error.PackCatalogError.TheVariants.{Memory};
-
-    ghost from_gives = { λ _ error. error ≡ Memory };
-
-    fn from(_error: AllocError) -> Self {
-        PackCatalogError::Memory
-    }
-}

@@ -32,7 +32,10 @@ pub fn pack(alloc: Global, entries: &[CatalogEntry<'_>]) -> Result<Vec<u8>, Pack
     let Some(total) = data_length(entries) else {
         return Err(PackCatalogError::TooLong);
     };
-    Ok(written(alloc, entries, total)?)
+    match written(alloc, entries, total) {
+        Ok(bytes) => Ok(bytes),
+        Err(_) => Err(PackCatalogError::Memory),
+    }
 }
 
 // The first entry whose key isn't above the one before it.
