@@ -4,13 +4,10 @@ use Rattle.std.proofs.lemmas.Cmp.{nat_list_cmp_total}
 use Rattle.std.proofs.lemmas.List.{drop_all, drop-drop, length-map, length-take-le, take-append-drop}
 use Rattle.std.proofs.lemmas.List.Folds.{drop_split}
 use Rattle.std.proofs.lemmas.Map.Keys.{sorted_from_all_adjacent}
-use Rattle.std.specs.Cmp.Lexicographic.{slice_cmp}
-use Rattle.std.specs.declared.cmp.Ordering.TheVariants.{Less}
 use Rattle.std.specs.List.{concat}
-use Rattle.std.specs.Ordering.{nat_cmp}
-use Rattle.std.specs.Prelude.{flat_map, slice_index, slice_range}
-use Rattle.packed_catalog.specs.CatalogBytes.{AreSorted, CanPack, CatalogBytes, Entry, catalog_bytes, ends_from, four_bytes, keys_of, pieces_of}
-use Rattle.packed_catalog.specs.CatalogFaults.{HasGoodEnds, count_in, data_in, key_in, piece_in, start_of}
+use Rattle.std.specs.Prelude.{flat_map, slice_index}
+use Rattle.packed_catalog.specs.CatalogBytes.{AreSorted, CatalogBytes, Entry, ends_from, four_bytes, keys_of, pieces_of}
+use Rattle.packed_catalog.specs.CatalogFaults.{HasGoodEnds, count_in, data_in, piece_in, start_of}
 use Rattle.packed_catalog.specs.Inner.CatalogReading.{IsBlock, entries_in}
 use Rattle.packed_catalog.proofs.FourBytes.{drop-four, four_bytes-number}
 use Rattle.packed_catalog.proofs.BlockEntries.{get_or-keys_in, length-entries_in, pieces_in, pieces_of-entries_in}
@@ -104,8 +101,8 @@ sorted_in bytes h =
     let n : length keys ≡ count_in bytes = length-map (entries_in bytes) (λ (entry : Entry). entry.key) ∙ length-entries_in bytes in
     sorted_from_all_adjacent nat_list_cmp_total keys []
     (λ k l. let s : suc k < count_in bytes = omega (arith, n) in
-        let e : k + 1 ≡ suc k = omega arith in
-        rw (e, get_or-keys_in bytes k (omega arith), get_or-keys_in bytes (suc k) s) (h.sorted k s))
+    let e : k + 1 ≡ suc k = omega arith in
+    rw (e, get_or-keys_in bytes k (omega arith), get_or-keys_in bytes (suc k) s) (h.sorted k s))
 
 -- a block encodes its entries
 pub block_encodes : (bytes : List ℕ) → AreBytes bytes → IsBlock bytes → CatalogBytes (entries_in bytes) bytes
@@ -124,7 +121,7 @@ block_encodes bytes is h =
     let front : bytes ≡ four_bytes n ++ drop 4 bytes =
     drop-four bytes 0 (omega arith)
     ∙ ap (λ q. q ++ drop 4 bytes) (sym (four_bytes-number (get_or bytes 0 0) (get_or bytes 1 0) (get_or bytes 2 0) (get_or bytes 3 0)
-        (is 0) (is 1) (is 2) (is 3))) in
+    (is 0) (is 1) (is 2) (is 3))) in
     record {
       can_pack = record {
         sorted = sorted_in bytes h;

@@ -1,8 +1,8 @@
 -- The entries that are read from a block.
-use Rattle.std.proofs.Common.{◌≡◌, ℕ, zero, suc, ◌+◌, ◌-◌, ◌*◌, ◌<◌, ◌≤◌, List, [], ◌∷◌, length, get_or, refl, ap, ◌∙◌, arith, Some, sym}
+use Rattle.std.proofs.Common.{◌≡◌, ℕ, zero, suc, ◌+◌, ◌*◌, ◌<◌, List, [], ◌∷◌, length, get_or, refl, ap, ◌∙◌, arith, Some, sym}
 use Rattle.std.specs.Prelude.{slice_get}
-use Rattle.packed_catalog.specs.CatalogBytes.{Entry, keys_of, pieces_of}
-use Rattle.packed_catalog.specs.CatalogFaults.{count_in, key_in, piece_in, start_of}
+use Rattle.packed_catalog.specs.CatalogBytes.{keys_of, pieces_of}
+use Rattle.packed_catalog.specs.CatalogFaults.{count_in, key_in, piece_in}
 use Rattle.packed_catalog.specs.Inner.CatalogReading.{entries_from, entries_in, entry_in}
 
 -- so many pieces, from one on
@@ -20,7 +20,7 @@ pieces_of-entries_from bytes index zero = refl
 pieces_of-entries_from bytes index (suc n) =
     let again = pieces_of-entries_from bytes (suc index) n in
     ap (λ ps. piece_in bytes (2 * index) ∷ piece_in bytes (suc (2 * index)) ∷ ps)
-        (again ∙ ap (λ k. pieces_in bytes k (2 * n)) (twice index))
+    (again ∙ ap (λ k. pieces_in bytes k (2 * n)) (twice index))
     ∙ ap (pieces_in bytes (2 * index)) (sym (twice n))
 
 -- the pieces of the entries

@@ -1,5 +1,5 @@
 -- The order of entries that are to be packed.
-use Rattle.std.proofs.Common.{◌≡◌, ℕ, zero, suc, ◌+◌, ◌-◌, ◌<◌, ◌≤◌, List, [], ◌∷◌, length, get_or, refl, sym, ap, ◌∙◌, arith, subst}
+use Rattle.std.proofs.Common.{◌≡◌, ℕ, zero, suc, ◌+◌, ◌-◌, ◌<◌, ◌≤◌, List, [], ◌∷◌, length, get_or, refl, ap, arith, subst}
 use Rattle.std.proofs.lemmas.Cmp.{nat_list_cmp_total}
 use Rattle.std.proofs.lemmas.List.{length-map}
 use Rattle.std.proofs.lemmas.Map.Keys.{Less-from_sorted, sorted_from_all_adjacent}
@@ -39,7 +39,7 @@ pub sorted_from_rising : (entries : List Entry) → ((k : ℕ) → suc k < lengt
 sorted_from_rising entries rises =
     let keys : List (List ℕ) = keys_of entries in
     sorted_from_all_adjacent nat_list_cmp_total keys [] (λ k l. let e : suc k ≡ k + 1 = omega arith in
-        subst (λ j. slice_cmp nat_cmp (get_or keys k []) (get_or keys j []) ≡ Less) e (rises k (omega (arith, length-keys_of entries))))
+    subst (λ j. slice_cmp nat_cmp (get_or keys k []) (get_or keys j []) ≡ Less) e (rises k (omega (arith, length-keys_of entries))))
 
 -- sorted entries have no low key
 pub sorted_not_low : (entries : List Entry) → AreSorted entries → (index : ℕ) → ¬ (IsFirstLow entries index)

@@ -1,11 +1,11 @@
 -- The first fault of a block, and that there is one at most.
-use Rattle.std.proofs.Common.{◌≡◌, ℕ, zero, suc, ◌+◌, ◌-◌, ◌*◌, ◌/◌, ◌<◌, ◌≤◌, List, refl, sym, ap, ◌∙◌, arith, inl, inr, subst}
+use Rattle.std.proofs.Common.{◌≡◌, ℕ, zero, suc, ◌*◌, ◌/◌, ◌<◌, ◌≤◌, List, refl, ap, arith, inl, inr, subst}
 use Rattle.std.specs.Prelude.{◌≢◌}
 use Rattle.std.proofs.lemmas.Bool.{cases_lt}
 use Rattle.std.specs.Cmp.Lexicographic.{slice_cmp}
 use Rattle.std.specs.declared.cmp.Ordering.TheVariants.{Less}
 use Rattle.std.specs.Ordering.{nat_cmp}
-use Rattle.packed_catalog.specs.CatalogFaults.{HasBadEnd, HasFault, HasGoodEnds, HasWholeData, IsFirst, IsLowKey, count_in, key_in, start_of}
+use Rattle.packed_catalog.specs.CatalogFaults.{HasBadEnd, HasFault, HasGoodEnds, IsFirst, IsLowKey, count_in, key_in, start_of}
 use Rattle.packed_catalog.specs.declared.error.CatalogError.{CatalogError}
 use Rattle.packed_catalog.specs.declared.error.CatalogError.TheVariants.{Header, Length, End, Order}
 use Rattle.packed_catalog.specs.Inner.CatalogReading.{IsBlock}

@@ -3,12 +3,11 @@ use Rattle.std.proofs.Common.{◌≡◌, ℕ, zero, suc, ◌+◌, ◌-◌, ◌*�
 use Rattle.std.proofs.lemmas.List.{drop-drop, drop_at, length-map, take_at}
 use Rattle.std.proofs.lemmas.Map.Keys.{Less-from_sorted}
 use Rattle.std.specs.Cmp.Lexicographic.{slice_cmp}
-use Rattle.std.specs.declared.cmp.Ordering.TheVariants.{Less}
 use Rattle.std.specs.List.{concat}
 use Rattle.std.specs.Ordering.{nat_cmp}
 use Rattle.std.specs.Prelude.{flat_map}
 use Rattle.packed_catalog.specs.CatalogBytes.{AreSorted, CatalogBytes, Entry, catalog_bytes, ends_from, four_bytes, keys_of, pieces_of}
-use Rattle.packed_catalog.specs.CatalogFaults.{HasGoodEnds, count_in, data_in, key_in, piece_in, start_of}
+use Rattle.packed_catalog.specs.CatalogFaults.{count_in, data_in, piece_in, start_of}
 use Rattle.packed_catalog.specs.Inner.CatalogReading.{IsBlock, entries_in}
 use Rattle.packed_catalog.proofs.FourBytes.{length-flat_map_four_bytes, number_spelled}
 use Rattle.packed_catalog.proofs.BlockEntries.{get_or-keys_in, length-entries_in, pieces_in, pieces_of-entries_in, twice}

@@ -1,8 +1,7 @@
 -- The definitions at worked examples.
 use Rattle.std.proofs.Common.{◌≡◌, List, ℕ, [], ◌∷◌, refl, Some, None, lit<, inr}
-use Rattle.std.specs.Prelude.{Option}
 use Rattle.packed_catalog.specs.CatalogBytes.{Entry, catalog_bytes, value_under}
-use Rattle.packed_catalog.specs.CatalogFaults.{HasFault, HasBadEnd, key_in}
+use Rattle.packed_catalog.specs.CatalogFaults.{HasFault, HasBadEnd}
 use Rattle.packed_catalog.specs.declared.error.CatalogError.TheVariants.{Header}
 use Rattle.packed_catalog.specs.Inner.CatalogReading.{entries_in}
 

@@ -10,7 +10,12 @@ pub(crate) fn number(bytes: &[u8], place: usize) -> usize
     ensures value { result ≡ four_byte_number bytes.now place }
     ensures bound { result < 4294967296 }
 {
-    u32::from_le_bytes([bytes[place], bytes[place + 1], bytes[place + 2], bytes[place + 3]]) as usize
+    u32::from_le_bytes([
+        bytes[place],
+        bytes[place + 1],
+        bytes[place + 2],
+        bytes[place + 3],
+    ]) as usize
 }
 
 // The count of entries, if the count and the ends are there.

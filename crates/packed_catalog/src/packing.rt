@@ -97,7 +97,12 @@ fn push_number(bytes: &mut Vec<u8>, n: usize) -> Result<(), AllocError>
     requires { n < 2 ^ 32 }
     ensures { OnOk result (bytes.new.items ≡ bytes.old.items ++ four_bytes n) }
 {
-    let digits = [(n % 256) as u8, (n / 256 % 256) as u8, (n / 256 / 256 % 256) as u8, (n / 256 / 256 / 256) as u8];
+    let digits = [
+        (n % 256) as u8,
+        (n / 256 % 256) as u8,
+        (n / 256 / 256 % 256) as u8,
+        (n / 256 / 256 / 256) as u8,
+    ];
     bytes.extend_from_slice(&digits)
 }
 

@@ -24,9 +24,9 @@ loop-low-preserved c =
     let at = c.loop-low.invariant in
     let m : ℕ = c.loop-low.low + (c.loop-low.high - c.loop-low.low) / 2 in
     let high = λ (less : slice_cmp nat_cmp (key_in c.args.bytes.now m) c.args.key.now ≡ Less).
-        let t = c.is_below.ensures.1 (subst (λ (other : List ℕ). slice_cmp nat_cmp other c.args.key.now ≡ Less) (sym c.piece.ensures) less) in
-        let e : true ≡ false = sym t ∙ c.if-is_below.false in
-        true≢false e in
+    let t = c.is_below.ensures.1 (subst (λ (other : List ℕ). slice_cmp nat_cmp other c.args.key.now ≡ Less) (sym c.piece.ensures) less) in
+    let e : true ≡ false = sym t ∙ c.if-is_below.false in
+    true≢false e in
     record {
       order = omega arith;
       within = omega (arith, at.within);

@@ -1,4 +1,4 @@
-use Rattle.std.proofs.Common.{◌≡◌, ℕ, List, [], suc, ◌-◌, get_or, arith, ap, inl, inr, subst, sym, ◌∙◌, true, false}
+use Rattle.std.proofs.Common.{◌≡◌, ℕ, List, [], suc, ◌-◌, get_or, arith, inl, inr, subst, sym, ◌∙◌, true, false}
 use Rattle.std.proofs.lemmas.Bool.{cases_lt}
 use Rattle.std.specs.Cmp.Lexicographic.{slice_cmp}
 use Rattle.std.specs.declared.cmp.Ordering.TheVariants.{Less}
@@ -18,10 +18,9 @@ returns-then-not-is_below-clause-some c =
     let e : i ≡ suc (i - 1) = omega (arith, c.loop-index.auto.index) in
     let same = keys_compared entries i _ c.loop-index.auto.index c.loop-index-test.true in
     let low = λ (less : slice_cmp nat_cmp (key (i - 1)) (key i) ≡ Less).
-        let t = c.is_below.ensures.1 (same ∙ less) in
-        let b : true ≡ false = sym t ∙ c.if-not-is_below.true in
-        true≢false b in
-    (
+    let t = c.is_below.ensures.1 (same ∙ less) in
+    let b : true ≡ false = sym t ∙ c.if-not-is_below.true in
+    true≢false b in (
       omega (arith, length-lent entries),
       subst (IsFirst (IsLowKey key)) (sym e)
           (first_low key (i - 1) (λ k l. c.loop-index.invariant k (omega (arith, l)))

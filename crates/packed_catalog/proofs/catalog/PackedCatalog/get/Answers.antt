@@ -12,11 +12,11 @@ returns-then-index-count c =
     let n = c.number-count.ensures.value in
     let seek = c.first_from-index.ensures in
     sym (not_found_at bytes key c.first_from-index.result c.self.invariant.block seek.below (λ k l m. seek.above k l (omega (arith, m, n)))
-        (λ l same. elim c.then-index-count.branch [
-          | then-index-count-via-then-index-count w ↦ omega (arith, w.if-index-count.true, n, l)
-          | then-index-count-via-else-index-count+then-ne w ↦
-            told_other w.piece.result.now key w.ne.result w.ne.ensures w.if-ne.true (w.piece.ensures ∙ same)
-        ]))
+    (λ l same. elim c.then-index-count.branch [
+      | then-index-count-via-then-index-count w ↦ omega (arith, w.if-index-count.true, n, l)
+      | then-index-count-via-else-index-count+then-ne w ↦
+          told_other w.piece.result.now key w.ne.result w.ne.ensures w.if-ne.true (w.piece.ensures ∙ same)
+    ]))
     ∙ ap (λ (es : List Entry). value_under key es) c.self.view_is
 
 pub returns : goal.returns

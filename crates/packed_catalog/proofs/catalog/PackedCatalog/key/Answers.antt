@@ -1,4 +1,4 @@
-use Rattle.std.proofs.Common.{List, ◌≡◌, ◌<◌, length, ap, arith, sym, ◌∙◌, Some}
+use Rattle.std.proofs.Common.{List, length, ap, arith, sym, ◌∙◌, Some}
 use Rattle.std.specs.Prelude.{option_map, slice_get}
 use Rattle.std.proofs.lemmas.Option.{slice_get_past}
 use Rattle.packed_catalog.specs.CatalogBytes.{Entry}

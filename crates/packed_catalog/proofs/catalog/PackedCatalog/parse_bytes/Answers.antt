@@ -23,14 +23,14 @@ returns-in-Some-first_bad_end-clause-accepted c = λ entries h.
     let block = encoded_block entries c.args.bytes.now h in
     let found = c.in-Some-first_bad_end.ensures in
     absurd (no_bad_end c.args.bytes.now block.ends c.in-Some-first_bad_end.index
-        (omega (arith, found.within, c.in-Some.ensures.value)) found.some.here)
+    (omega (arith, found.within, c.in-Some.ensures.value)) found.some.here)
 
 pub returns-in-Some-first_low_key-clause-accepted : goal.returns-in-Some-first_low_key-clause-accepted
 returns-in-Some-first_low_key-clause-accepted c = λ entries h.
     let block = encoded_block entries c.args.bytes.now h in
     let found = c.in-Some-first_low_key.ensures in
     absurd (no_low_key (key_in c.args.bytes.now) (count_in c.args.bytes.now) block.sorted c.in-Some-first_low_key.index
-        (omega (arith, found.within, c.in-Some.ensures.value)) found.some.here)
+    (omega (arith, found.within, c.in-Some.ensures.value)) found.some.here)
 
 pub invariant_of-result : goal.invariant_of-result
 invariant_of-result c =
