@@ -5,4 +5,5 @@ mod OneBlock
 mod FirstFaults
 mod KeysFound
 mod EntriesOrder
+mod SharedFronts
 mod WorkedCatalogs

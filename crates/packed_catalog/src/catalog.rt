@@ -10,7 +10,7 @@ ghost use Rattle.packed_catalog.specs.Inner.CatalogReading.{IsBlock};
 
 use crate::error::CatalogError;
 use crate::numbers::{count_of, data, number, start_of};
-use crate::reading::{first_bad_end, first_low_key, is_below, piece};
+use crate::reading::{compared, first_bad_end, first_low_key, piece};
 use std::marker::Model;
 
 /// Values by key, borrowed from the bytes that they are packed in.
@@ -142,14 +142,19 @@ fn first_from(bytes: &[u8], content: &[u8], count: usize, key: &[u8]) -> usize
     ensures below { (k : ℕ) → k < result → slice_cmp nat_cmp (key_in bytes.now k) key.now ≡ Less }
     ensures above { (k : ℕ) → result ≤ k → k < count → slice_cmp nat_cmp (key_in bytes.now k) key.now ≢ Less }
 {
-    let mut low = 0;
-    let mut high = count;
+    let (mut low, mut high) = (0, count);
+    // How many bytes the keys before and from there on have in common with the key.
+    let (mut low_shared, mut high_shared) = (0, 0);
     while low < high {
         let middle = low + (high - low) / 2;
-        if is_below(piece(bytes, content, 2 * middle), key) {
+        let other = piece(bytes, content, 2 * middle);
+        let (shared, is_below) = compared(other, key, low_shared.min(high_shared));
+        if is_below {
             low = middle + 1;
+            low_shared = shared;
         } else {
             high = middle;
+            high_shared = shared;
         }
     }
     low

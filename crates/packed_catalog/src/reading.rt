@@ -5,6 +5,7 @@ ghost use Rattle.std.specs.Cmp.Lexicographic.{slice_cmp};
 ghost use Rattle.std.specs.declared.cmp.Ordering.TheVariants.{Less};
 ghost use Rattle.std.specs.Ordering.{nat_cmp};
 ghost use Rattle.packed_catalog.specs.CatalogFaults.{HasBadEnd, HasGoodEnds, HasWholeData, IsFirst, IsLowKey, count_in, data_in, key_in, piece_in, start_of};
+ghost use Rattle.packed_catalog.specs.Inner.CatalogReading.{SharesFront};
 
 use crate::numbers::{number, start_of};
 
@@ -25,6 +26,22 @@ pub(crate) fn is_below(key: &[u8], other: &[u8]) -> bool
     ensures { IsTrue result ↔ (slice_cmp nat_cmp key.now other.now ≡ Less) }
 {
     key.cmp(&other).is_lt()
+}
+
+// How many bytes at the front a key has in common with another, if so many are known to be, and
+// whether it is below the other.
+pub(crate) fn compared(key: &[u8], other: &[u8], known: usize) -> (usize, bool)
+    requires { SharesFront known key.now other.now }
+    ensures shares { SharesFront result.0 key.now other.now }
+    ensures below { IsTrue result.1 ↔ (slice_cmp nat_cmp key.now other.now ≡ Less) }
+{
+    let both = key.len().min(other.len());
+    for i in known..both {
+        if key[i] != other[i] {
+            return (i, key[i] < other[i]);
+        }
+    }
+    (both, key.len() < other.len())
 }
 
 // The first entry with a piece that ends before it begins.

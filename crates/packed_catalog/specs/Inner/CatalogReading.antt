@@ -1,5 +1,5 @@
 -- A reader of a catalogue's bytes, for the view of a catalogue. Not a definition of the subject.
-use Rattle.std.specs.Prelude.{◌≡◌, ℕ, zero, suc, ◌*◌, ◌<◌, List, [], ◌∷◌}
+use Rattle.std.specs.Prelude.{◌≡◌, ℕ, zero, suc, ◌*◌, ◌<◌, ◌≤◌, List, [], ◌∷◌, length, take}
 use Rattle.std.specs.Cmp.Lexicographic.{slice_cmp}
 use Rattle.std.specs.declared.cmp.Ordering.TheVariants.{Less}
 use Rattle.std.specs.Ordering.{nat_cmp}
@@ -23,3 +23,9 @@ entries_in bytes = entries_from bytes 0 (count_in bytes)
 pub record IsBlock (bytes : List ℕ) : Type 0 where
   pub ends : HasGoodEnds bytes
   pub sorted : (index : ℕ) → suc index < count_in bytes → slice_cmp nat_cmp (key_in bytes index) (key_in bytes (suc index)) ≡ Less
+
+-- two lists have their first c numbers in common
+pub record SharesFront (c : ℕ) (a b : List ℕ) : Type 0 where
+  pub front : take c a ≡ take c b
+  pub in_first : c ≤ length a
+  pub in_second : c ≤ length b
