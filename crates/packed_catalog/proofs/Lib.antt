@@ -1,0 +1,9 @@
+mod FourBytes
+mod BlockEntries
+mod BlockBytes
+mod OneBlock
+mod FirstFaults
+mod KeysFound
+mod EntriesOrder
+mod SharedFronts
+mod WorkedCatalogs
