@@ -4,14 +4,14 @@
 mod failure;
 mod report;
 
-use document_formats::{Asked, DocumentFormat, FileFormat, WordFault, asked_by};
+use document_formats::{Asked, WordFault, asked_by};
 use document_report::{CheckError, Verdict};
-use failure::{EXAMPLES, Failure, NOT_TEXT, USAGE, VERSION};
+use failure::{EXAMPLES, Failure, NOT_TEXT, STRICT_FORMAT, USAGE, VERSION};
 use finding_formats::Format;
 use plural_commands::RunError;
 use plural_commands::arguments::arguments;
 use plural_documents::write_output;
-use report::write_report;
+use report::{Way, write_report};
 use std::fs::File;
 use std::process::ExitCode;
 
@@ -32,19 +32,30 @@ fn answer(rt: &HostRuntime) -> Result<u8, Failure> {
     else {
         return Err(Failure::from(CheckError::Memory));
     };
-    match asked_by(words.as_slice()) {
-        Ok(asked) => answer_asked(rt, asked),
+    match words.as_slice() {
+        [option, rest @ ..] if *option == "--strict" => answer_words(rt, true, rest),
+        all => answer_words(rt, false, all),
+    }
+}
+
+// Answers the words behind `--strict`, or without it.
+fn answer_words(rt: &HostRuntime, is_strict: bool, words: &[&str]) -> Result<u8, Failure> {
+    match asked_by(words) {
+        Ok(asked) => answer_asked(rt, is_strict, asked),
         Err(fault) => tell_fault(rt, fault),
     }
 }
 
 // Answers what is asked.
-fn answer_asked(rt: &HostRuntime, asked: Asked<'_>) -> Result<u8, Failure> {
+fn answer_asked(rt: &HostRuntime, is_strict: bool, asked: Asked<'_>) -> Result<u8, Failure> {
     match asked {
         Asked::Help => help(rt),
         Asked::Version => print(rt, VERSION),
-        Asked::Reports(format, []) => report_input(rt, format),
-        Asked::Reports(format, files) => Ok(report_files(rt, format, files)),
+        Asked::Reports(format, _) if is_strict && format != Format::Text => {
+            Ok(tell_usage(rt, STRICT_FORMAT))
+        }
+        Asked::Reports(format, []) => report_input(rt, Way { format, is_strict }),
+        Asked::Reports(format, files) => Ok(report_files(rt, Way { format, is_strict }, files)),
     }
 }
 
@@ -77,23 +88,23 @@ fn tell_usage(rt: &HostRuntime, text: &str) -> u8 {
 }
 
 // Writes the report of the document in standard input.
-fn report_input(rt: &HostRuntime, format: Format) -> Result<u8, Failure> {
-    let verdict = write_report(rt, &DocumentFormat(format), &mut rt.stdin())?;
+fn report_input(rt: &HostRuntime, way: Way) -> Result<u8, Failure> {
+    let verdict = write_report(rt, way, None, &mut rt.stdin())?;
     Ok(verdict.status())
 }
 
 // Writes the report of each file, and says which of them have none. Returns the highest status.
-fn report_files(rt: &HostRuntime, format: Format, files: &[&str]) -> u8 {
+fn report_files(rt: &HostRuntime, way: Way, files: &[&str]) -> u8 {
     let mut status = 0;
     for file in files {
-        status = status.max(report_file(rt, format, *file));
+        status = status.max(report_file(rt, way, *file));
     }
     status
 }
 
 // Writes the report of a file, or says why there is none. Returns the status.
-fn report_file(rt: &HostRuntime, format: Format, file: &str) -> u8 {
-    match report_of_file(rt, format, file) {
+fn report_file(rt: &HostRuntime, way: Way, file: &str) -> u8 {
+    match report_of_file(rt, way, file) {
         Ok(verdict) => verdict.status(),
         Err(failure) => {
             let _ = eprintln!(rt; "plurals_check: {file}: {failure}");
@@ -103,13 +114,12 @@ fn report_file(rt: &HostRuntime, format: Format, file: &str) -> u8 {
 }
 
 // Writes the report of a file.
-fn report_of_file(rt: &HostRuntime, format: Format, file: &str) -> Result<Verdict, Failure> {
-    let printer = FileFormat { file, format };
+fn report_of_file(rt: &HostRuntime, way: Way, file: &str) -> Result<Verdict, Failure> {
     if file == INPUT {
-        return write_report(rt, &printer, &mut rt.stdin());
+        return write_report(rt, way, Some(file), &mut rt.stdin());
     }
     match File::open(rt, file) {
-        Ok(mut opened) => write_report(rt, &printer, &mut opened),
+        Ok(mut opened) => write_report(rt, way, Some(file), &mut opened),
         Err(_) => Err(Failure::Open),
     }
 }

@@ -13,6 +13,7 @@ mod forms;
 mod json_files;
 mod located_findings;
 mod message_reports;
+mod noted_documents;
 mod sarif_members;
 mod translations;
 
@@ -28,6 +29,7 @@ impl Kinds for Calls {
             || fallback::make(kind, call)
             || document_reports::make(kind, call)
             || document_findings::make(kind, call)
+            || noted_documents::make(kind, call)
             || message_reports::make(kind, call)
             || findings::make(kind, call)
             || located_findings::make(kind, call)
