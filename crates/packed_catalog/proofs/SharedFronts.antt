@@ -56,8 +56,8 @@ shares_between (suc c) (x ∷ a) (w ∷ m) (z ∷ b) (y ∷ k) h g p q =
     let hb : slice_cmp nat_cmp m b ≡ Less =
     sym (tied_start w (slice_cmp nat_cmp m b)) ∙ ap (λ v. ordering_then (nat_cmp w v) (slice_cmp nat_cmp m b)) (sym zw) ∙ g in
     let again = shares_between c a m b k ha hb
-        (record { front = pr; in_first = omega (arith, p.in_first); in_second = omega (arith, p.in_second) })
-        (record { front = qr; in_first = omega (arith, q.in_first); in_second = omega (arith, q.in_second) }) in
+    (record { front = pr; in_first = omega (arith, p.in_first); in_second = omega (arith, p.in_second) })
+    (record { front = qr; in_first = omega (arith, q.in_first); in_second = omega (arith, q.in_second) }) in
     record {
       front = ap (λ v. v ∷ take c m) wy ∙ ap (λ r. y ∷ r) again.front;
       in_first = omega (arith, again.in_first);
@@ -92,9 +92,9 @@ low_below c a b h la lb low =
     let y : ℕ = get_or b c 0 in
     rw (cmp-drop c a b h, drop_more a c 0 la, drop_more b c 0 lb)
     (by_ranked (x < y) (x ≡ y) (y < x) (nat_cmp x y) (ranked x y (nat_cmp x y) refl)
-        (λ e less. ap (λ o. ordering_then o (slice_cmp nat_cmp (drop (c + 1) a) (drop (c + 1) b))) e)
-        (λ e same. absurd (omega arith))
-        (λ e more. absurd (omega arith)))
+    (λ e less. ap (λ o. ordering_then o (slice_cmp nat_cmp (drop (c + 1) a) (drop (c + 1) b))) e)
+    (λ e same. absurd (omega arith))
+    (λ e more. absurd (omega arith)))
 
 pub high_not_below : (c : ℕ) (a b : List ℕ) → SharesFront c a b → c < length a → c < length b → get_or b c 0 < get_or a c 0
     → slice_cmp nat_cmp a b ≢ Less
@@ -121,8 +121,7 @@ pub below_at_difference : (c : ℕ) (a b : List ℕ) → SharesFront c a b → c
     → IsTrue (nat_lt (get_or a c 0) (get_or b c 0)) ↔ (slice_cmp nat_cmp a b ≡ Less)
 below_at_difference c a b h la lb other =
     let x : ℕ = get_or a c 0 in
-    let y : ℕ = get_or b c 0 in
-    (
+    let y : ℕ = get_or b c 0 in (
       (λ t. low_below c a b h la lb (ltb-true x y t)),
       (λ less. elim (cases_lt x y) [
         | inl low ↦ lt-ltb x y low
@@ -133,14 +132,13 @@ below_at_difference c a b h la lb other =
 -- what the test of two lengths tells, if one of the lists is shared whole
 pub below_at_end : (c : ℕ) (a b : List ℕ) → SharesFront c a b → c ≡ min (length a) (length b)
     → IsTrue (nat_lt (length a) (length b)) ↔ (slice_cmp nat_cmp a b ≡ Less)
-below_at_end c a b h e =
-    (
-      (λ t. let l = ltb-true (length a) (length b) t in short_below c a b h (omega (arith, e, l)) (omega (arith, e, l))),
-      (λ less. elim (cases_lt (length a) (length b)) [
-        | inl low ↦ lt-ltb (length a) (length b) low
-        | inr high ↦ absurd (long_not_below c a b h (omega (arith, e, high)) less)
-      ]),
-    )
+below_at_end c a b h e = (
+  (λ t. let l = ltb-true (length a) (length b) t in short_below c a b h (omega (arith, e, l)) (omega (arith, e, l))),
+  (λ less. elim (cases_lt (length a) (length b)) [
+    | inl low ↦ lt-ltb (length a) (length b) low
+    | inr high ↦ absurd (long_not_below c a b h (omega (arith, e, high)) less)
+  ]),
+)
 
 -- the smaller of two numbers is at most each
 pub smaller : (c d : ℕ) → (ord_min nat_cmp c d ≤ c) × (ord_min nat_cmp c d ≤ d)

@@ -145,7 +145,10 @@ fn packed_numbers(call: &mut Call) {
     let value = call.bytes();
     let mut keys: Vec<[u8; 2]> = Vec::new(call.alloc);
     for number in 0..count {
-        call.add_item(&mut keys, [(number / 256 % 256) as u8, (number % 256) as u8]);
+        call.add_item(
+            &mut keys,
+            [(number / 256 % 256) as u8, (number % 256) as u8],
+        );
     }
     let mut entries: Vec<CatalogEntry<'_>> = Vec::new(call.alloc);
     for key in &keys {
