@@ -1,5 +1,5 @@
 -- The place of a key among sorted keys, and the value under it.
-use Rattle.std.proofs.Common.{◌≡◌, ℕ, zero, suc, ◌*◌, ◌<◌, ◌≤◌, List, [], ◌∷◌, length, get_or, refl, sym, ap, ◌∙◌, arith, inl, inr, subst, Some, None, true, false}
+use Rattle.std.proofs.Common.{◌≡◌, ℕ, zero, suc, ◌*◌, ◌-◌, ◌<◌, ◌≤◌, List, [], ◌∷◌, length, get_or, refl, sym, ap, ◌∙◌, arith, inl, inr, subst, Some, None, true, false}
 use Rattle.std.proofs.lemmas.Bool.{cases_lt}
 use Rattle.std.proofs.lemmas.Cmp.{nat_list_cmp_total, tied_itself}
 use Rattle.std.proofs.lemmas.List.{length-map}
@@ -11,8 +11,9 @@ use Rattle.std.specs.Ordering.{nat_cmp}
 use Rattle.std.specs.Prelude.{◌≢◌, Bool, bytes_eq, not, slice_get}
 use Rattle.packed_catalog.specs.CatalogBytes.{Entry, keys_of, value_under}
 use Rattle.packed_catalog.specs.CatalogFaults.{count_in, key_in, piece_in}
-use Rattle.packed_catalog.specs.Inner.CatalogReading.{IsBlock, entries_in, entry_in}
+use Rattle.packed_catalog.specs.Inner.CatalogReading.{IsBlock, SharesFront, entries_in, entry_in}
 use Rattle.packed_catalog.proofs.BlockBytes.{sorted_in}
+use Rattle.packed_catalog.proofs.SharedFronts.{shares_between, shares_fewer, shares_none}
 use Rattle.packed_catalog.proofs.BlockEntries.{get_or-keys_in, length-entries_in, slice_get-entries_in}
 
 -- a key is below each later one
@@ -39,6 +40,23 @@ above_on bytes key h m high k u l less = elim (cases_lt m k) [
   | inl before ↦ high (nat_list_cmp_total.trans (key_in bytes m) (key_in bytes k) key (keys_apart bytes h m k before l) less)
   | inr after ↦ let e : k ≡ m = omega arith in high (subst (λ j. slice_cmp nat_cmp (key_in bytes j) key ≡ Less) e less)
 ]
+
+-- a key between two others that share a front with a key shares it too, of the smaller length
+pub shares_inside : (bytes key : List ℕ) → IsBlock bytes → (low high m c d e : ℕ) → e ≤ c → e ≤ d → low ≤ m → m < high → high ≤ count_in bytes
+    → (low ≡ 0 → c ≡ 0) → (high ≡ count_in bytes → d ≡ 0) → SharesFront c (key_in bytes (low - 1)) key → SharesFront d (key_in bytes high) key
+    → SharesFront e (key_in bytes m) key
+shares_inside bytes key h low high m c d e ec ed lm mh hn low_none high_none p q = elim (cases_lt 0 low) [
+  | inl some ↦ elim (cases_lt high (count_in bytes)) [
+    | inl inside ↦ shares_between e (key_in bytes (low - 1)) (key_in bytes m) (key_in bytes high) key
+        (keys_apart bytes h (low - 1) m (omega arith) (omega arith)) (keys_apart bytes h m high mh inside)
+        (shares_fewer c e (key_in bytes (low - 1)) key ec p) (shares_fewer d e (key_in bytes high) key ed q)
+    | inr last ↦ none (omega (arith, high_none (omega arith)))
+  ]
+  | inr first ↦ none (omega (arith, low_none (omega arith)))
+]
+  where
+    none : e ≡ 0 → SharesFront e (key_in bytes m) key
+    none z = rw z (shares_none (key_in bytes m) key)
 
 -- a key below another is another one
 pub below_apart : (a b : List ℕ) → slice_cmp nat_cmp a b ≡ Less → a ≢ b

@@ -13,6 +13,7 @@ mod lists;
 mod locales;
 mod messages;
 mod operands;
+mod packed_catalogs;
 mod packed_patterns;
 mod packed_rules;
 mod packed_texts;
@@ -61,9 +62,10 @@ fn of_texts(kind: &str, call: &mut Call) -> bool {
         || operands::make(kind, call)
 }
 
-// Kinds of packed lists and packed rules.
+// Kinds of packed lists, catalogues and rules.
 fn of_packed(kind: &str, call: &mut Call) -> bool {
     lists::make(kind, call)
+        || packed_catalogs::make(kind, call)
         || packed_rules::make(kind, call)
         || relations::make(kind, call)
         || rule_truths::make(kind, call)
