@@ -3,6 +3,7 @@ pub mod FormatArguments
 pub mod FormatNumbers
 pub mod FormatOffsets
 pub mod FormatBranches
+pub mod FormatParts
 pub mod FormatSteps
 pub mod FormatMeaning
 -- not definitions of the subject

@@ -1,7 +1,6 @@
 //! What a pattern says.
 
 ghost use Rattle.std.specs.Prelude.{◌≡◌, ◌++◌, IfErr, OnOk};
-ghost use Rattle.message_pattern.specs.PatternParts.{parts_view};
 ghost use Rattle.message_format.specs.FormatArguments.{arguments_view};
 ghost use Rattle.message_format.specs.FormatMeaning.{SaysExactly};
 ghost use Rattle.message_format.specs.Inner.FormatViews.{GivesOutcome, outcome_of, two_rules};
@@ -9,38 +8,43 @@ ghost use Rattle.message_format.specs.Inner.FormatViews.{GivesOutcome, outcome_o
 use crate::arguments::{Argument, value_named};
 use crate::branches::behind_end;
 use crate::error::FormatError;
+use crate::source::MessageParts;
 use crate::steps::{Rules, chosen, shown_value};
 use fixed_decimal::laws::texts_write_one_number;
-use message_pattern::{Part, Pattern, Piece};
+use message_pattern::{Pattern, Piece};
 use std::alloc::Global;
 
 // How many bytes of the text there is room for at first.
 const ROOM: usize = 64;
 
 // Formats the message at the front of the parts.
-fn message<'s, 'p: 's>(
+fn message<'s, 'p: 's, P: MessageParts<'p>>(
     alloc: Global,
     arguments: &'s [Argument<'s>],
     rules: &Rules<'_, '_>,
     hash: &'s [u8],
-    parts: &'s [Part<'p>],
+    parts: P,
     said: &mut Vec<u8>,
 ) -> Result<(), FormatError<'p>>
-    ensures { GivesOutcome (arguments_view arguments.now) (two_rules rules.now) hash.now (parts_view parts.now) said.old.items said.new.items result }
+    ensures { GivesOutcome (arguments_view arguments.now) (two_rules rules.now) hash.now (P.parts parts) said.old.items said.new.items result }
 {
     let mut left = parts;
-    'parts: while let [part, rest @ ..] = left {
+    'parts: while let Some((part, rest)) = left.first() {
         let text = match part.piece {
             Piece::Text(text) => text,
             Piece::Hash => hash,
             Piece::Argument(name) => shown_value(name, value_named(name, arguments))?,
             Piece::Begin(kind, name, offset) => {
                 let value = value_named(name, arguments);
-                let (shown, found) = chosen(
-                    alloc, rules, hash, kind, name, offset, part.depth, rest, value,
+                let (shown, found) = chosen(alloc, rules, hash, kind, name, offset, left, value)?;
+                message(
+                    alloc,
+                    &*arguments,
+                    rules,
+                    shown.as_bytes(),
+                    found.branch,
+                    said,
                 )?;
-                let branch = found.branch;
-                message(alloc, &*arguments, rules, shown.as_bytes(), branch, said)?;
                 left = behind_end(part.depth, found.left);
                 continue;
             }
@@ -74,12 +78,24 @@ pub fn format<'p>(
 ) -> Result<Vec<u8>, FormatError<'p>>
     ensures { SaysExactly (arguments_view arguments.now) (two_rules rules.now) pattern.now (outcome_of result) }
 {
+    format_parts(alloc, pattern.parts(), arguments, rules)
+}
+
+/// Returns what parts say, as [`format`] does of a pattern's.
+pub fn format_parts<'p, P: MessageParts<'p>>(
+    alloc: Global,
+    parts: P,
+    arguments: &[Argument<'_>],
+    rules: &Rules<'_, '_>,
+) -> Result<Vec<u8>, FormatError<'p>>
+    ensures { SaysExactly (arguments_view arguments.now) (two_rules rules.now) (P.parts parts) (outcome_of result) }
+{
     // A text writes one number at most, so it has one category.
     texts_write_one_number();
     let mut said = match Vec::with_capacity(alloc, ROOM) {
         Ok(said) => said,
         Err(_) => return Err(FormatError::Memory),
     };
-    message(alloc, arguments, rules, b"", pattern.parts(), &mut said)?;
+    message(alloc, arguments, rules, b"", parts, &mut said)?;
     Ok(said)
 }

@@ -1,0 +1,95 @@
+//! The parts of a block, which a message is said from.
+
+ghost use Rattle.std.specs.Prelude.{◌≤◌, length};
+
+use crate::branches::{branch_of_category, branch_of_word, first_chosen};
+use crate::steps::left_place;
+use message_format::{Chooser, Found, MessageParts, Seen};
+use message_pattern::Part;
+use packed_pattern::PackedPattern;
+use plural_base::PluralCategory;
+
+// The parts of a block, from a place on.
+#[derive(Clone, Copy)]
+pub(crate) struct BlockParts<'l, 'a> {
+    pattern: &'l PackedPattern<'a>,
+    next: usize,
+    ghost few: { length pattern.now ≤ 65535 },
+}
+
+impl<'l, 'a> BlockParts<'l, 'a> {
+    ghost use Rattle.std.specs.Prelude.{◌≡◌, drop};
+
+    // All parts.
+    pub(crate) fn of(pattern: &'l PackedPattern<'a>) -> Self
+        ensures pattern { result.pattern.now ≡ pattern.now }
+        ensures first { result.next ≡ 0 }
+    {
+        BlockParts { pattern, next: 0 }
+    }
+
+    // The parts from another place on.
+    fn from(self, next: usize) -> Self
+        ensures pattern { result.pattern.now ≡ self.entry.pattern.now }
+        ensures next { result.next ≡ next }
+    {
+        BlockParts {
+            pattern: self.pattern,
+            next,
+        }
+    }
+}
+
+impl<'l, 'a> MessageParts<'a> for BlockParts<'l, 'a> {
+    ghost use Rattle.std.specs.Prelude.{drop};
+
+    ghost parts = { λ it. drop it.next it.pattern.now };
+
+    fn first(self) -> Option<(Part<'a>, Self)> {
+        let part = self.pattern.get(self.next)?;
+        Some((part, self.from(self.next + 1)))
+    }
+
+    fn branch_of_word(self, word: &[u8]) -> Found<Self> {
+        let Some(begin) = self.pattern.placed(self.next) else {
+            return Found {
+                branch: self,
+                left: self,
+            };
+        };
+        Found {
+            branch: self.from(branch_of_word(self.pattern, word, self.next, &begin)),
+            left: self.from(left_place(self.next, &begin)),
+        }
+    }
+
+    fn branch_of_category(self, category: PluralCategory) -> Self {
+        let Some(begin) = self.pattern.placed(self.next) else {
+            return self;
+        };
+        self.from(branch_of_category(
+            self.pattern,
+            category,
+            self.next,
+            &begin,
+        ))
+    }
+
+    fn first_chosen<C: Chooser>(self, chooser: &C) -> Result<Seen<Self>, C::Stop> {
+        let Some(begin) = self.pattern.placed(self.next) else {
+            return Ok(Seen {
+                branch: None,
+                left: self,
+            });
+        };
+        let left = self.from(left_place(self.next, &begin));
+        match first_chosen(self.pattern, chooser, self.next, &begin) {
+            Ok(Some(at)) => Ok(Seen {
+                branch: Some(self.from(at)),
+                left,
+            }),
+            Ok(None) => Ok(Seen { branch: None, left }),
+            Err(stop) => Err(stop),
+        }
+    }
+}
