@@ -6,5 +6,6 @@ pub mod FormatBranches
 pub mod FormatParts
 pub mod FormatSteps
 pub mod FormatMeaning
+pub mod FormatWalk
 -- not definitions of the subject
 pub mod Inner

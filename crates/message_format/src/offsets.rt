@@ -33,7 +33,7 @@ fn offset_of(alloc: Global, digits: &[u8]) -> Result<UnsignedDecimal, DecimalErr
 }
 
 // A plural of a number, by the number less an offset.
-fn counted_by<'s, 'p: 's, P: MessageParts<'p>>(
+fn counted_by<'s, 'p, P: MessageParts<'p>>(
     alloc: Global,
     rules: &PluralRules<'_>,
     name: &'p [u8],
@@ -59,7 +59,7 @@ fn counted_by<'s, 'p: 's, P: MessageParts<'p>>(
 }
 
 // A plural of a number, with the digits of an offset.
-fn less<'s, 'p: 's, P: MessageParts<'p>>(
+fn less<'s, 'p, P: MessageParts<'p>>(
     alloc: Global,
     rules: &PluralRules<'_>,
     name: &'p [u8],
@@ -81,7 +81,7 @@ fn less<'s, 'p: 's, P: MessageParts<'p>>(
 }
 
 // A plural with an offset, of the text of a number.
-pub(crate) fn counted_less<'s, 'p: 's, P: MessageParts<'p>>(
+pub(crate) fn counted_less<'s, 'p, P: MessageParts<'p>>(
     alloc: Global,
     rules: &PluralRules<'_>,
     name: &'p [u8],

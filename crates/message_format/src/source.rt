@@ -1,6 +1,6 @@
 //! What a message is said from.
 
-ghost use Rattle.std.specs.Prelude.{◌≡◌, ◌≤◌, ◌↔◌, ◌∷◌, [], ℕ, ⊥, List, drop, length, IsTrue, IfOk, MatchOption, option_map};
+ghost use Rattle.std.specs.Prelude.{◌≡◌, ◌≤◌, ◌↔◌, ◌∷◌, [], ℕ, List, drop, length, IsTrue, IfOk, MatchOption, option_map};
 ghost use Rattle.plural_base.specs.Categories.{name_of};
 ghost use Rattle.message_pattern.specs.PatternParts.{Selector as SpecSelector, Keyword, part_view, selector_view};
 ghost use Rattle.message_format.specs.FormatBranches.{branch_or_other};

@@ -32,7 +32,7 @@ pub struct Rules<'r, 'data> {
 
 // The text that `{name}` prints.
 #[inline(always)]
-pub(crate) fn shown_value<'s, 'p: 's>(
+pub(crate) fn shown_value<'s, 'p>(
     name: &'p [u8],
     value: Option<Value<'s>>,
 ) -> Result<&'s [u8], FormatError<'p>>
@@ -46,7 +46,7 @@ pub(crate) fn shown_value<'s, 'p: 's>(
 }
 
 // A select of a value.
-fn selected<'s, 'p: 's, P: MessageParts<'p>>(
+fn selected<'s, 'p, P: MessageParts<'p>>(
     hash: &'s [u8],
     name: &'p [u8],
     argument: P,
@@ -66,7 +66,7 @@ fn selected<'s, 'p: 's, P: MessageParts<'p>>(
 }
 
 // A plural without an offset, of the text of a number, by its digits.
-fn counted_by_digits<'s, 'p: 's, P: MessageParts<'p>>(
+fn counted_by_digits<'s, 'p, P: MessageParts<'p>>(
     alloc: Global,
     rules: &PluralRules<'_>,
     name: &'p [u8],
@@ -87,7 +87,7 @@ fn counted_by_digits<'s, 'p: 's, P: MessageParts<'p>>(
 
 // A plural without an offset, of the text of a number that no branch has the value of, by its
 // category.
-fn counted_by_category<'s, 'p: 's, P: MessageParts<'p>>(
+fn counted_by_category<'s, 'p, P: MessageParts<'p>>(
     alloc: Global,
     rules: &PluralRules<'_>,
     name: &'p [u8],
@@ -109,7 +109,7 @@ fn counted_by_category<'s, 'p: 's, P: MessageParts<'p>>(
 }
 
 // A plural without an offset, of the text of a number.
-fn counted<'s, 'p: 's, P: MessageParts<'p>>(
+fn counted<'s, 'p, P: MessageParts<'p>>(
     alloc: Global,
     rules: &PluralRules<'_>,
     name: &'p [u8],
@@ -138,7 +138,7 @@ fn counted<'s, 'p: 's, P: MessageParts<'p>>(
 }
 
 // A plural of a value.
-fn plural<'s, 'p: 's, P: MessageParts<'p>>(
+fn plural<'s, 'p, P: MessageParts<'p>>(
     alloc: Global,
     rules: &PluralRules<'_>,
     name: &'p [u8],
@@ -160,7 +160,7 @@ fn plural<'s, 'p: 's, P: MessageParts<'p>>(
 }
 
 // What an argument chooses.
-pub(crate) fn chosen<'s, 'p: 's, P: MessageParts<'p>>(
+pub(crate) fn chosen<'s, 'p, P: MessageParts<'p>>(
     alloc: Global,
     rules: &Rules<'_, '_>,
     hash: &'s [u8],

@@ -1,6 +1,6 @@
 //! The branches of an argument of a block.
 
-ghost use Rattle.std.specs.Prelude.{◌≡◌, ◌≤◌, ◌<◌, ◌+◌, ⊥, ℕ, List, drop, length, IfOk, IfSome, option_map};
+ghost use Rattle.std.specs.Prelude.{◌≡◌, ◌≤◌, ◌<◌, ◌+◌, ℕ, List, drop, length, IfOk, IfSome, option_map};
 ghost use Rattle.plural_base.specs.Categories.{name_of};
 ghost use Rattle.message_pattern.specs.PatternParts.{Keyword, branches_of};
 ghost use Rattle.message_format.specs.FormatBranches.{branch_of_keyword, branch_or_other};

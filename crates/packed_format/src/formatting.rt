@@ -5,9 +5,13 @@ ghost use Rattle.message_format.specs.FormatMeaning.{SaysExactly};
 ghost use Rattle.message_format.specs.Inner.FormatViews.{outcome_of, two_rules};
 
 use crate::parts::BlockParts;
-use message_format::{Argument, FormatError, Rules, format_parts};
+use message_format::laws::one_outcome;
+use message_format::{Argument, FormatError, Rules, say};
 use packed_pattern::PackedPattern;
 use std::alloc::Global;
+
+// How many bytes of the text there is room for at first.
+const ROOM: usize = 64;
 
 /// Returns what a packed pattern says with its arguments, under the rules of a language, as
 /// [`format`](message_format::format) does of the pattern that it was packed from, with its errors.
@@ -21,5 +25,12 @@ pub fn format_packed<'a>(
 ) -> Result<Vec<u8>, FormatError<'a>>
     ensures { SaysExactly (arguments_view arguments.now) (two_rules rules.now) pattern.now (outcome_of result) }
 {
-    format_parts(alloc, BlockParts::of(pattern), arguments, rules)
+    one_outcome();
+    let mut said = match Vec::with_capacity(alloc, ROOM) {
+        Ok(said) => said,
+        Err(_) => return Err(FormatError::Memory),
+    };
+    let parts = BlockParts::of(pattern);
+    say(alloc, arguments, rules, b"", parts, &mut said)?;
+    Ok(said)
 }

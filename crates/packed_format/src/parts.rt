@@ -4,10 +4,13 @@ ghost use Rattle.std.specs.Prelude.{◌≤◌, length};
 
 use crate::branches::{branch_of_category, branch_of_word, first_chosen};
 use crate::steps::left_place;
-use message_format::{Chooser, Found, MessageParts, Seen};
+use message_format::{
+    Argument, Chooser, FormatError, Found, MessageParts, MessageSteps, Next, Rules, Seen, step_of,
+};
 use message_pattern::Part;
 use packed_pattern::PackedPattern;
 use plural_base::PluralCategory;
+use std::alloc::Global;
 
 // The parts of a block, from a place on.
 #[derive(Clone, Copy)]
@@ -91,5 +94,26 @@ impl<'l, 'a> MessageParts<'a> for BlockParts<'l, 'a> {
             Ok(None) => Ok(Seen { branch: None, left }),
             Err(stop) => Err(stop),
         }
+    }
+}
+
+impl<'l, 'a> MessageSteps for BlockParts<'l, 'a> {
+    ghost use Rattle.std.specs.Prelude.{drop};
+
+    type Fault = FormatError<'a>;
+
+    ghost parts = { λ it. drop it.next it.pattern.now };
+
+    ghost error = { λ f. f };
+
+    fn step<'s>(
+        self,
+        alloc: Global,
+        arguments: &'s [Argument<'s>],
+        rules: &Rules<'_, '_>,
+        hash: &'s [u8],
+        said: &mut Vec<u8>,
+    ) -> Result<Option<Next<'s, Self>>, FormatError<'a>> {
+        step_of(self, alloc, arguments, rules, hash, said)
     }
 }

@@ -14,12 +14,14 @@ use Rattle.message_format.specs.declared.error.FormatError.{FormatError}
 use Rattle.message_format.specs.declared.error.FormatError.TheVariants as error
 use Rattle.message_format.specs.declared.steps.Rules as rules
 use Rattle.message_format.specs.declared.shown.Shown as shown
+use Rattle.message_format.specs.declared.saying.Next as next
 use Rattle.message_format.specs.declared.shown.Shown.TheVariants as shows
 use Rattle.message_format.specs.FormatArguments.{Argument, Value, value_view}
 use Rattle.message_format.specs.FormatParts.{AreLeftOf}
 use Rattle.message_format.specs.FormatNumbers.{digit_of}
 use Rattle.message_format.specs.FormatSteps.{Step, Prints, Chooses, Fails, TwoRules}
 use Rattle.message_format.specs.FormatMeaning.{PatternOutcome, Said, Faulty, Says}
+use Rattle.message_format.specs.FormatWalk.{GoesOn, GoesOnBehind}
 
 abbrev pub any_value : Option values.Value → Option Value
 any_value None = None
@@ -67,9 +69,9 @@ number_step name number.Limit = Some (Fails OverLimit name)
 number_step name number.Memory = None
 
 -- a branch that is chosen, and the parts that are left of its argument
-pub record IsWithin (ps branch left : List Part) : Type 0 where
+pub record IsWithin (ps branch others : List Part) : Type 0 where
   pub shorter : length branch ≤ length (drop 1 ps)
-  pub left : AreLeftOf ps left
+  pub left : AreLeftOf ps others
 
 abbrev pub ChoosesWithin : {P : Type 0} → (P → List Part) → List Part → Result (Choice P) FormatError → Type 0
 ChoosesWithin parts ps (Ok c) = IsWithin ps (parts c.1.branch) (parts c.1.left)
@@ -79,11 +81,26 @@ ChoosesWithin parts ps (Err f) = Unit {0}
 abbrev pub two_rules : rules.Rules → TwoRules
 two_rules r = record { cardinal = r.cardinal.now; ordinal = r.ordinal.now }
 
--- what a private call returns, with the text before and after it: the outcome, or out of memory
-abbrev pub GivesOutcome : List Argument → TwoRules → List ℕ → List Part → List ℕ → List ℕ → Result (Unit {0}) FormatError → Type 0
-GivesOutcome arguments rules hash parts old new (Ok x) = Says arguments rules hash old parts (Said new)
-GivesOutcome arguments rules hash parts old new (Err (error.Argument fault name)) = Says arguments rules hash old parts (Faulty fault name.now)
-GivesOutcome arguments rules hash parts old new (Err error.Memory) = Unit {0}
+-- what an error says of parts, or nothing if memory ran out
+abbrev pub IsFaultOf : List Argument → TwoRules → List ℕ → List Part → List ℕ → FormatError → Type 0
+IsFaultOf arguments rules hash parts old (error.Argument fault name) = Says arguments rules hash old parts (Faulty fault name.now)
+IsFaultOf arguments rules hash parts old error.Memory = Unit {0}
+
+-- what a call returns, with the text before and after it: the outcome, or out of memory
+abbrev pub GivesOutcome : {F : Type 0} → (F → FormatError) → List Argument → TwoRules → List ℕ → List Part → List ℕ → List ℕ → Result (Unit {0}) F → Type 0
+GivesOutcome error arguments rules hash parts old new (Ok x) = Says arguments rules hash old parts (Said new)
+GivesOutcome error arguments rules hash parts old new (Err f) = IsFaultOf arguments rules hash parts old (error f)
+
+-- how the parts go on behind a part: by way of a branch, or not
+abbrev pub GoesTo : {P : Type 0} → (P → List Part) → List Argument → TwoRules → List ℕ → List Part → List ℕ → List ℕ → List Part → Option (shown.Shown × P) → Type 0
+GoesTo parts arguments rules hash ps old new rest None = GoesOn arguments rules hash old new ps rest
+GoesTo parts arguments rules hash ps old new rest (Some b) = GoesOnBehind arguments rules hash (shown_view b.0) old new ps (parts b.1) rest
+
+-- what a step returns: how the parts go on, that they end, or a fault
+abbrev pub StepsTo : {P F : Type 0} → (P → List Part) → (F → FormatError) → List Argument → TwoRules → List ℕ → List Part → List ℕ → List ℕ → Result (Option (next.Next P)) F → Type 0
+StepsTo parts error arguments rules hash ps old new (Ok None) = Says arguments rules hash old ps (Said new)
+StepsTo parts error arguments rules hash ps old new (Ok (Some n)) = GoesTo parts arguments rules hash ps old new (parts n.rest) n.branch
+StepsTo parts error arguments rules hash ps old new (Err f) = IsFaultOf arguments rules hash ps old (error f)
 
 -- the outcome that a result has, or none if memory ran out
 abbrev pub outcome_of : Result (Vec ℕ Global) FormatError → Option PatternOutcome

@@ -1,0 +1,2 @@
+pub mod BehindParts
+pub mod FirstNumbers
