@@ -1,13 +1,13 @@
 //! The branches of an argument of a block.
 
-ghost use Rattle.std.specs.Prelude.{◌≡◌, ◌≤◌, ◌<◌, ◌+◌, ℕ, List, drop, length, IfOk, IfSome, option_map};
+ghost use Rattle.std.specs.Prelude.{◌≡◌, ◌≤◌, ◌<◌, ◌+◌, ℕ, List, drop, length, IfOk, IfSome, option_map, codes};
 ghost use Rattle.plural_base.specs.Categories.{name_of};
 ghost use Rattle.message_pattern.specs.PatternParts.{Keyword, branches_of};
-ghost use Rattle.message_format.specs.FormatBranches.{branch_of_keyword, branch_or_other};
+ghost use Rattle.message_format.specs.FormatBranches.{branch_of_keyword, branch_or_other, parts_or_none};
 ghost use Rattle.message_format.specs.FormatParts.{IsFirst};
 ghost use Rattle.packed_pattern.specs.PartPlaces.{IsPlaced};
 
-use crate::steps::{category_index, next_number, next_selector, place_behind};
+use crate::steps::{category_index, is_plural, next_number, next_selector, place_behind};
 use message_format::Chooser;
 use message_pattern::{ArgumentKind, Piece, Selector};
 use packed_pattern::{PackedPattern, PlacedPart};
@@ -45,7 +45,13 @@ fn branch_of_keyword(
 
 // Where the branch `other` is, of an argument that begins at a place. Behind all parts, if there is
 // none.
-fn branch_other(pattern: &PackedPattern<'_>, index: usize, begin: &PlacedPart<'_>) -> usize {
+fn branch_other(pattern: &PackedPattern<'_>, index: usize, begin: &PlacedPart<'_>) -> usize
+    requires few { length pattern.now ≤ 65535 }
+    requires placed { IsPlaced begin.now pattern.now index }
+    requires within { index < length pattern.now }
+    ensures branch { drop result pattern.now ≡ parts_or_none (branch_of_keyword (codes "other") (branches_of begin.now.part.depth (drop (index + 1) pattern.now))) }
+    ensures behind { index < result }
+{
     let part = begin.part();
     match part.piece {
         Piece::Begin(ArgumentKind::Select, _, _) => place_behind(pattern, index, begin.place(1)),
@@ -66,6 +72,7 @@ pub(crate) fn branch_of_word(
 ) -> usize
     requires few { length pattern.now ≤ 65535 }
     requires placed { IsPlaced begin.now pattern.now index }
+    requires within { index < length pattern.now }
     ensures branch { drop result pattern.now ≡ branch_or_other word.now (branches_of begin.now.part.depth (drop (index + 1) pattern.now)) }
     ensures behind { index < result }
 {
@@ -85,14 +92,14 @@ pub(crate) fn branch_of_category(
 ) -> usize
     requires few { length pattern.now ≤ 65535 }
     requires placed { IsPlaced begin.now pattern.now index }
+    requires within { index < length pattern.now }
     ensures branch { drop result pattern.now ≡ branch_or_other (name_of category) (branches_of begin.now.part.depth (drop (index + 1) pattern.now)) }
     ensures behind { index < result }
 {
-    match begin.part().piece {
-        Piece::Begin(ArgumentKind::Plural | ArgumentKind::Ordinal, _, _) => {
-            place_behind(pattern, index, begin.place(category_index(category)))
-        }
-        _ => branch_of_word(pattern, category.as_str().as_bytes(), index, begin),
+    if is_plural(begin.part().piece) {
+        place_behind(pattern, index, begin.place(category_index(category)))
+    } else {
+        branch_of_word(pattern, category.as_str().as_bytes(), index, begin)
     }
 }
 
@@ -107,6 +114,7 @@ pub(crate) fn first_chosen<C: Chooser>(
     requires numbers { (word : List ℕ) → C.IsChosen chooser.now (Keyword word) → ⊥ }
     requires few { length pattern.now ≤ 65535 }
     requires placed { IsPlaced begin.now pattern.now index }
+    requires within { index < length pattern.now }
     ensures first { IfOk result (λ found. IsFirst (C.IsChosen chooser.now) (branches_of begin.now.part.depth (drop (index + 1) pattern.now)) (option_map (λ at. drop at pattern.now) found)) }
     ensures behind { IfOk result (λ found. IfSome found (λ at. index < at)) }
 {

@@ -28,18 +28,9 @@ impl<'l, 'a> BlockParts<'l, 'a> {
         ensures pattern { result.pattern.now ≡ pattern.now }
         ensures first { result.next ≡ 0 }
     {
+        // A block has at most 65535 parts.
+        let _ = pattern.as_bytes();
         BlockParts { pattern, next: 0 }
-    }
-
-    // The parts from another place on.
-    fn from(self, next: usize) -> Self
-        ensures pattern { result.pattern.now ≡ self.entry.pattern.now }
-        ensures next { result.next ≡ next }
-    {
-        BlockParts {
-            pattern: self.pattern,
-            next,
-        }
     }
 }
 
@@ -49,8 +40,10 @@ impl<'l, 'a> MessageParts<'a> for BlockParts<'l, 'a> {
     ghost parts = { λ it. drop it.next it.pattern.now };
 
     fn first(self) -> Option<(Part<'a>, Self)> {
-        let part = self.pattern.get(self.next)?;
-        Some((part, self.from(self.next + 1)))
+        match self.pattern.get(self.next) {
+            Some(part) => Some((part, BlockParts { pattern: self.pattern, next: self.next + 1 })),
+            None => None,
+        }
     }
 
     fn branch_of_word(self, word: &[u8]) -> Found<Self> {
@@ -60,9 +53,11 @@ impl<'l, 'a> MessageParts<'a> for BlockParts<'l, 'a> {
                 left: self,
             };
         };
+        let branch = branch_of_word(self.pattern, word, self.next, &begin);
+        let left = left_place(self.next, &begin);
         Found {
-            branch: self.from(branch_of_word(self.pattern, word, self.next, &begin)),
-            left: self.from(left_place(self.next, &begin)),
+            branch: BlockParts { pattern: self.pattern, next: branch },
+            left: BlockParts { pattern: self.pattern, next: left },
         }
     }
 
@@ -70,12 +65,8 @@ impl<'l, 'a> MessageParts<'a> for BlockParts<'l, 'a> {
         let Some(begin) = self.pattern.placed(self.next) else {
             return self;
         };
-        self.from(branch_of_category(
-            self.pattern,
-            category,
-            self.next,
-            &begin,
-        ))
+        let next = branch_of_category(self.pattern, category, self.next, &begin);
+        BlockParts { pattern: self.pattern, next }
     }
 
     fn first_chosen<C: Chooser>(self, chooser: &C) -> Result<Seen<Self>, C::Stop> {
@@ -85,10 +76,11 @@ impl<'l, 'a> MessageParts<'a> for BlockParts<'l, 'a> {
                 left: self,
             });
         };
-        let left = self.from(left_place(self.next, &begin));
+        let left = left_place(self.next, &begin);
+        let left = BlockParts { pattern: self.pattern, next: left };
         match first_chosen(self.pattern, chooser, self.next, &begin) {
             Ok(Some(at)) => Ok(Seen {
-                branch: Some(self.from(at)),
+                branch: Some(BlockParts { pattern: self.pattern, next: at }),
                 left,
             }),
             Ok(None) => Ok(Seen { branch: None, left }),

@@ -2,11 +2,11 @@
 
 ghost use Rattle.std.specs.Prelude.{◌≡◌, ◌≤◌, ◌<◌, ◌+◌, ℕ, List, drop, length, slice_index};
 ghost use Rattle.plural_base.specs.Categories.{name_of};
-ghost use Rattle.message_pattern.specs.PatternParts.{Part as SpecPart, branches_of};
+ghost use Rattle.message_pattern.specs.PatternParts.{Part as SpecPart, piece_view, branches_of};
 ghost use Rattle.message_pattern.specs.declared.part.ArgumentKind.TheVariants.{Plural};
 ghost use Rattle.message_format.specs.FormatBranches.{behind_end};
 ghost use Rattle.packed_pattern.specs.PartPlaces.{IsPlaced, argument_places, place_or_other};
-ghost use Rattle.packed_format.specs.Inner.PackedSteps.{AreNext, parts_behind};
+ghost use Rattle.packed_format.specs.Inner.PackedSteps.{AreNext, has_next_number, is_plural, parts_behind};
 
 use message_pattern::{ArgumentKind, Piece, Selector};
 use packed_pattern::{PackedPattern, PlacedPart};
@@ -27,21 +27,37 @@ pub(crate) fn next_selector(index: usize, placed: &PlacedPart<'_>, depth: usize)
     }
 }
 
+// Whether a piece begins a plural or an ordinal.
+pub(crate) fn is_plural(piece: Piece<'_>) -> bool
+    ensures { result ≡ is_plural (piece_view piece.entry) }
+{
+    match piece {
+        Piece::Begin(ArgumentKind::Plural, _, _) => true,
+        Piece::Begin(ArgumentKind::Ordinal, _, _) => true,
+        _ => false,
+    }
+}
+
+// Whether a part has the place of the first branch by a number, or of the next.
+fn has_next_number(piece: Piece<'_>) -> bool
+    ensures { result ≡ has_next_number (piece_view piece.entry) }
+{
+    match piece {
+        Piece::Branch(Selector::Exactly(_)) => true,
+        _ => is_plural(piece),
+    }
+}
+
 // Where the next selector of this depth is sought that is a number, behind a part.
 pub(crate) fn next_number(index: usize, placed: &PlacedPart<'_>, depth: usize) -> Option<usize>
     requires { index ≤ 65535 }
     ensures { (parts : List SpecPart) → IsPlaced placed.now parts index → AreNext depth parts index result }
 {
     let part = placed.part();
-    let place = match part.piece {
-        Piece::Begin(ArgumentKind::Plural | ArgumentKind::Ordinal, _, _)
-        | Piece::Branch(Selector::Exactly(_))
-            if part.depth == depth =>
-        {
-            placed.place(1)
-        }
-        _ => return Some(next_selector(index, placed, depth)),
-    };
+    if part.depth != depth || !has_next_number(part.piece) {
+        return Some(next_selector(index, placed, depth));
+    }
+    let place = placed.place(1);
     if place == 0 {
         None
     } else {

@@ -1,6 +1,7 @@
 -- Steps from a part of a block to what stands behind it.
-use Rattle.std.specs.Prelude.{◌≡◌, ◌+◌, ◌<◌, ◌≤◌, ℕ, List, [], ◌∷◌, drop, nat_eq, if◌then◌else◌, Option, Some, None}
-use Rattle.message_pattern.specs.PatternParts.{Part, Selector, Exactly, Keyword, Branching, branches_of}
+use Rattle.std.specs.Prelude.{◌≡◌, ◌+◌, ◌<◌, ◌≤◌, ℕ, List, [], ◌∷◌, drop, nat_eq, Bool, true, false, if◌then◌else◌, Option, Some, None}
+use Rattle.message_pattern.specs.declared.part.ArgumentKind.TheVariants.{Plural, Ordinal}
+use Rattle.message_pattern.specs.PatternParts.{Part, PatternPiece, Begin, Branch, Exactly, Keyword, Branching, branches_of}
 
 -- the branches by a number
 abbrev pub numbers_of : List Branching → List Branching
@@ -21,6 +22,17 @@ AreNext depth parts index None = numbers_from depth parts (index + 1) ≡ []
 AreNext depth parts index (Some at) =
     (index < at) × (at ≤ index + 65536) × (numbers_from depth parts at ≡ numbers_from depth parts (index + 1))
 
--- so many parts less one behind the part at a place, and none if the count is 0
+-- a plural or an ordinal begins
+abbrev pub is_plural : PatternPiece → Bool
+is_plural (Begin Plural name offset) = true
+is_plural (Begin Ordinal name offset) = true
+is_plural _ = false
+
+-- a part has the place of the first branch by a number, or of the next
+abbrev pub has_next_number : PatternPiece → Bool
+has_next_number (Branch (Exactly number)) = true
+has_next_number piece = is_plural piece
+
+-- the parts from a place on, and none if it is 0
 abbrev pub parts_behind : ℕ → List Part → List Part
 parts_behind place ps = if nat_eq place 0 then [] else drop place ps
