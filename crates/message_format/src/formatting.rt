@@ -6,8 +6,8 @@ ghost use Rattle.message_format.specs.Inner.FormatViews.{outcome_of, two_rules};
 
 use crate::arguments::Argument;
 use crate::error::FormatError;
-use crate::steps::Rules;
 use crate::saying::say;
+use crate::steps::Rules;
 use fixed_decimal::laws::texts_write_one_number;
 use message_pattern::Pattern;
 use std::alloc::Global;

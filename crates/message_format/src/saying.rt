@@ -65,16 +65,25 @@ pub fn step_of<'s, 'p, P: MessageParts<'p>>(
     match found.0.piece {
         Piece::Text(text) => {
             said.extend_from_slice(text)?;
-            Ok(Some(Next { branch: None, rest: found.1 }))
+            Ok(Some(Next {
+                branch: None,
+                rest: found.1,
+            }))
         }
         Piece::Hash => {
             said.extend_from_slice(hash)?;
-            Ok(Some(Next { branch: None, rest: found.1 }))
+            Ok(Some(Next {
+                branch: None,
+                rest: found.1,
+            }))
         }
         Piece::Argument(name) => {
             let text = shown_value(name, value_named(name, arguments))?;
             said.extend_from_slice(text)?;
-            Ok(Some(Next { branch: None, rest: found.1 }))
+            Ok(Some(Next {
+                branch: None,
+                rest: found.1,
+            }))
         }
         Piece::Begin(kind, name, offset) => {
             let value = value_named(name, arguments);

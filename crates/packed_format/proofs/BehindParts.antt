@@ -77,6 +77,7 @@ word_place word depth (p ∷ ps) =
         → IsPlaceOf (p ∷ ps) (branch_place (Word word) depth (p ∷ ps)) (branch_of_keyword word (branches_of depth (p ∷ ps)))
     by_word true other same deeper is more = rw (deeper, is, same) refl
     by_word false other same deeper is more = rw (deeper, is, same) more
+
     this : (b : Bool) (q : PatternPiece) → nat_lt depth p.depth ≡ b → p.piece ≡ q
         → IsPlaceOf (p ∷ ps) (one_more (branch_place (Word word) depth ps)) (branch_of_keyword word (branches_of depth ps))
         → IsPlaceOf (p ∷ ps) (branch_place (Word word) depth (p ∷ ps)) (branch_of_keyword word (branches_of depth (p ∷ ps)))
@@ -124,6 +125,7 @@ number_place depth (p ∷ ps) = this (nat_lt depth p.depth) p.piece refl refl (o
   where
     by_place : (n m : ℕ) → n ≡ m → IsNumberPlace depth (p ∷ ps) m → IsNumberPlace depth (p ∷ ps) n
     by_place n m e h = subst (λ (k : ℕ). IsNumberPlace depth (p ∷ ps) k) (sym e) h
+
     this : (b : Bool) (q : PatternPiece) → nat_lt depth p.depth ≡ b → p.piece ≡ q
         → (numbers_of (branches_of depth (p ∷ ps)) ≡ numbers_of (branches_of depth ps) → IsNumberPlace depth (p ∷ ps) (one_more (branch_place AnyNumber depth ps)))
         → IsNumberPlace depth (p ∷ ps) (branch_place AnyNumber depth (p ∷ ps))

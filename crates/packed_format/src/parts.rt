@@ -41,7 +41,13 @@ impl<'l, 'a> MessageParts<'a> for BlockParts<'l, 'a> {
 
     fn first(self) -> Option<(Part<'a>, Self)> {
         match self.pattern.get(self.next) {
-            Some(part) => Some((part, BlockParts { pattern: self.pattern, next: self.next + 1 })),
+            Some(part) => Some((
+                part,
+                BlockParts {
+                    pattern: self.pattern,
+                    next: self.next + 1,
+                },
+            )),
             None => None,
         }
     }
@@ -56,8 +62,14 @@ impl<'l, 'a> MessageParts<'a> for BlockParts<'l, 'a> {
         let branch = branch_of_word(self.pattern, word, self.next, &begin);
         let left = left_place(self.next, &begin);
         Found {
-            branch: BlockParts { pattern: self.pattern, next: branch },
-            left: BlockParts { pattern: self.pattern, next: left },
+            branch: BlockParts {
+                pattern: self.pattern,
+                next: branch,
+            },
+            left: BlockParts {
+                pattern: self.pattern,
+                next: left,
+            },
         }
     }
 
@@ -66,7 +78,10 @@ impl<'l, 'a> MessageParts<'a> for BlockParts<'l, 'a> {
             return self;
         };
         let next = branch_of_category(self.pattern, category, self.next, &begin);
-        BlockParts { pattern: self.pattern, next }
+        BlockParts {
+            pattern: self.pattern,
+            next,
+        }
     }
 
     fn first_chosen<C: Chooser>(self, chooser: &C) -> Result<Seen<Self>, C::Stop> {
@@ -77,10 +92,16 @@ impl<'l, 'a> MessageParts<'a> for BlockParts<'l, 'a> {
             });
         };
         let left = left_place(self.next, &begin);
-        let left = BlockParts { pattern: self.pattern, next: left };
+        let left = BlockParts {
+            pattern: self.pattern,
+            next: left,
+        };
         match first_chosen(self.pattern, chooser, self.next, &begin) {
             Ok(Some(at)) => Ok(Seen {
-                branch: Some(BlockParts { pattern: self.pattern, next: at }),
+                branch: Some(BlockParts {
+                    pattern: self.pattern,
+                    next: at,
+                }),
                 left,
             }),
             Ok(None) => Ok(Seen { branch: None, left }),

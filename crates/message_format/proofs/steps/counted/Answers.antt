@@ -2,7 +2,6 @@ use Rattle.std.proofs.Common.{◌≤◌, None, length, refl, arith}
 use Rattle.fixed_decimal.specs.Written.{CompactNumber}
 use Rattle.message_format.specs.FormatParts.{branches_at, IsFirst}
 use Rattle.message_format.specs.FormatBranches.{Equals}
-
 use Rattle.message_format.proofs.Plainly.{of_plain, counted_plain}
 use Rattle.message_format.proofs.steps.counted.Goals as goal
 
@@ -12,11 +11,17 @@ first_chosen-requires g c =
     λ k. ((refl, tt), ((c.as_bytes-written.result.now, c.in-Some.ensures.plain, short), λ word e. e))
 
 pub counted_by_category-requires : goal.counted_by_category-requires
-counted_by_category-requires g c = λ k. ((refl, (refl, tt)), ((λ x w.
-    let bs = branches_at (g.P.MessageParts.parts c.args.argument) in
-    let none = rw c.in-None.is at c.in-Ok.ensures.first in
-    of_plain c.texts_write_one_number.ensures.compact (λ (y : CompactNumber). IsFirst (λ s. Equals y s) bs None) c.as_bytes-written.result.now c.args.text.now
-    c.in-Some.plain.whole.now c.in-Some.plain.fraction.now x c.in-Some.ensures.plain c.as_bytes-written.ensures.value none w), c.in-Ok.ensures.left))
+counted_by_category-requires g c = λ k. (
+  (refl, (refl, tt)),
+  (
+    (λ x w.
+        let bs = branches_at (g.P.MessageParts.parts c.args.argument) in
+        let none = rw c.in-None.is at c.in-Ok.ensures.first in
+        of_plain c.texts_write_one_number.ensures.compact (λ (y : CompactNumber). IsFirst (λ s. Equals y s) bs None) c.as_bytes-written.result.now c.args.text.now
+        c.in-Some.plain.whole.now c.in-Some.plain.fraction.now x c.in-Some.ensures.plain c.as_bytes-written.ensures.value none w),
+    c.in-Ok.ensures.left,
+  ),
+)
 
 pub returns-in-Some-branch-clause-step : goal.returns-in-Some-branch-clause-step
 returns-in-Some-branch-clause-step g c =

@@ -26,7 +26,7 @@ returns-then-eq-clause-branch c =
     let there = selector_there c.in-Some.placed c.args.pattern.now c.loop-placed.at c.part-part.result c.in-Some.ensures c.part-part.ensures c.args.depth c.in-Branch.selector c.if-part-depth.true c.in-Branch.is in
     let same : bytes_eq c.in-Keyword.other.now c.args.word.now ≡ true = sym c.eq.ensures ∙ c.if-eq.true in
     let found : Some (drop (c.loop-placed.at + 1) c.args.pattern.now)
-        ≡ branch_of_keyword c.args.word.now (record { selector = selector_view c.in-Branch.selector; parts = drop (c.loop-placed.at + 1) c.args.pattern.now } ∷ bs) = rw (c.in-Keyword.is, same) refl in
+    ≡ branch_of_keyword c.args.word.now (record { selector = selector_view c.in-Branch.selector; parts = drop (c.loop-placed.at + 1) c.args.pattern.now } ∷ bs) = rw (c.in-Keyword.is, same) refl in
     found ∙ (sym (ap (branch_of_keyword c.args.word.now) there) ∙ c.loop-placed.invariant.same)
 
 pub next_selector-at-requires : goal.next_selector-at-requires

@@ -15,10 +15,9 @@ pub returns-else-place-eq0 : goal.returns-else-place-eq0
 returns-else-place-eq0 c parts h =
     let has : has_next_number c.args.placed.now.part.piece ≡ true =
     sym (ap (λ (p : Part). has_next_number p.piece) c.part-part.ensures) ∙ (sym c.has_next_number.ensures ∙ c.if-not-has_next_number.false) in
-    let some : 0 < c.place-place.result = omega arith in
-    (
+    let some : 0 < c.place-place.result = omega arith in (
       omega arith,
       omega (arith, c.place-place.ensures.few),
       same_numbers c.args.placed.now parts c.args.index c.place-place.result c.args.depth h has (sym (ap (λ (p : Part). p.depth) c.part-part.ensures) ∙ c.if-part-depth.false)
-      c.place-place.ensures.place some,
+          c.place-place.ensures.place some,
     )
