@@ -71,19 +71,31 @@ fn print_said(
 ) {
     let said = format(call.alloc, pattern, arguments, rules);
     match pack(call.alloc, pattern) {
-        Ok(bytes) => match PackedPattern::parse_bytes(&bytes) {
-            Ok(packed) => {
-                let other = format_packed(call.alloc, &packed, arguments, rules);
-                if !are_same(&said, &other) {
-                    call.print("otherwise when packed: ");
-                    print_outcome(call, other);
-                }
+        Ok(bytes) => {
+            if !is_said_packed(call, &bytes, arguments, rules, &said) {
+                call.print("otherwise when packed: ");
             }
-            Err(error) => call.print_error(&error),
-        },
+        }
         Err(error) => call.print_error(&error),
     }
     print_outcome(call, said);
+}
+
+// Whether a block says this outcome.
+fn is_said_packed(
+    call: &Call,
+    bytes: &[u8],
+    arguments: &[Argument<'_>],
+    rules: &Rules<'_, '_>,
+    said: &Result<Vec<u8>, FormatError<'_>>,
+) -> bool {
+    match PackedPattern::parse_bytes(bytes) {
+        Ok(pattern) => are_same(
+            said,
+            &format_packed(call.alloc, &pattern, arguments, rules),
+        ),
+        Err(_) => false,
+    }
 }
 
 // Whether two outcomes are the same.
