@@ -12,7 +12,7 @@ use Rattle.message_format.specs.FormatBranches.{behind_end}
 use Rattle.message_format.specs.FormatParts.{branches_at}
 use Rattle.message_format.specs.FormatSteps.{Step, Stops, Prints, Chooses, TwoRules, IsChoice, IsStep}
 use Rattle.message_format.specs.FormatMeaning.{PatternOutcome, Said, Faulty, Says, ends, stops, prints, chooses, breaks, fails, PatternSays, SaysExactly}
-use Rattle.message_format.specs.Inner.FormatViews.{GivesFault, GivesOutcome, IsFaultOf, IsWithin, outcome_of}
+use Rattle.message_format.specs.Inner.FormatViews.{GivesFault, IsFaultOf, IsWithin, outcome_of}
 use Rattle.message_format.specs.FormatWalk.{GoesOn, GoesOnBehind}
 use Rattle.message_format.specs.declared.error.ArgumentFault.{ArgumentFault}
 use Rattle.message_format.proofs.OneSaying.{OneNumber, one_outcome}
@@ -57,15 +57,18 @@ at_text arguments rules hash before text new ps p rest e h n = record {
   comes = λ o k.
       subst (λ (l : List Part). Says arguments rules hash before l o) (sym e)
       (prints hash before text (part_view p) rest o h (subst (λ (t : List ℕ). Says arguments rules hash t rest o) n k));
-  shorter = subst (λ (l : List Part). length rest < length l) (sym e) (omega arith);
 }
+
+-- fewer parts follow
+pub rest_fewer : (ps : List Part) (p : parts.Part) (rest : List Part) → ps ≡ part_view p ∷ rest → length rest < length ps
+rest_fewer ps p rest e = subst (λ (l : List Part). length rest < length l) (sym e) (omega arith)
 
 -- a branch is chosen
 pub at_branch : (arguments : List Argument) (rules : TwoRules) (hash number before : List ℕ) (ps : List Part) (p : parts.Part) (rest branch left after : List Part)
     → ps ≡ part_view p ∷ rest → PartIs arguments rules hash p rest (Chooses number branch) → IsWithin ps branch left
-    → after ≡ behind_end p.depth left → length after ≤ length left
+    → after ≡ behind_end p.depth left
     → GoesOnBehind arguments rules hash number before before ps branch after
-at_branch arguments rules hash number before ps p rest branch left after e h w a fewer =
+at_branch arguments rules hash number before ps p rest branch left after e h w a =
     let within : IsWithin (part_view p ∷ rest) branch left = subst (λ (l : List Part). IsWithin l branch left) e w in
     let n : after ≡ behind_end p.depth rest = a ∙ within.left.behind in
     record {
@@ -75,9 +78,14 @@ at_branch arguments rules hash number before ps p rest branch left after e h w a
       breaks = λ fault name j.
           subst (λ (l : List Part). Says arguments rules hash before l (Faulty fault name)) (sym e)
           (breaks hash number before name (part_view p) rest branch fault h j);
-      inner = subst (λ (l : List Part). length branch < length l) (sym e) (omega (arith, within.shorter));
-      shorter = subst (λ (l : List Part). length after < length l) (sym e) (omega (arith, within.left.fewer, fewer));
     }
+
+-- fewer follow then, and in the branch
+pub branch_fewer : (ps : List Part) (p : parts.Part) (rest branch left after : List Part) → ps ≡ part_view p ∷ rest → IsWithin ps branch left
+    → length after ≤ length left → (length after < length ps) × (length branch < length ps)
+branch_fewer ps p rest branch left after e w fewer =
+    let within : IsWithin (part_view p ∷ rest) branch left = subst (λ (l : List Part). IsWithin l branch left) e w in
+    subst (λ (l : List Part). (length after < length l) × (length branch < length l)) (sym e) (omega (arith, within.left.fewer, fewer), omega (arith, within.shorter))
 
 -- an argument has a fault
 pub at_fault : (arguments : List Argument) (rules : TwoRules) (hash before : List ℕ) (ps : List Part) (p : parts.Part) (rest : List Part) (f : FormatError)
@@ -111,9 +119,7 @@ pub whole : (arguments : List Argument) (rules : TwoRules) (ps : List Part) (x o
 whole arguments rules ps x o h e = let f : x ≡ o = cc in subst (λ (y : PatternOutcome). PatternSays arguments rules ps y) f h
 
 -- an error of a walk over the whole pattern
-pub whole_error : (arguments : List Argument) (rules : TwoRules) (qs ps : List Part) (old new : List ℕ) (f : FormatError) (o : PatternOutcome) → qs ≡ ps → old ≡ []
-    → GivesOutcome (λ (x : FormatError). x) arguments rules [] qs old new (Err f) → outcome_of (Err f) ≡ Some o → PatternSays arguments rules ps o
-whole_error arguments rules qs ps old new (error.Argument fault name) o same e h k =
-    let begun = subst (λ (t : List ℕ). Says arguments rules [] t qs (Faulty fault name.now)) e h in
-    whole arguments rules ps (Faulty fault name.now) o (subst (λ (l : List Part). Says arguments rules [] [] l (Faulty fault name.now)) same begun) k
-whole_error arguments rules qs ps old new error.Memory o same e h k = cc
+pub whole_error : (arguments : List Argument) (rules : TwoRules) (ps : List Part) (f : FormatError) (o : PatternOutcome)
+    → IsFaultOf arguments rules [] ps [] f → outcome_of (Err f) ≡ Some o → PatternSays arguments rules ps o
+whole_error arguments rules ps (error.Argument fault name) o h k = whole arguments rules ps (Faulty fault name.now) o h k
+whole_error arguments rules ps error.Memory o h k = cc

@@ -1,13 +1,14 @@
 //! A walk over the parts of a message.
 
-ghost use Rattle.std.specs.Prelude.{◌≡◌};
+ghost use Rattle.std.specs.Prelude.{ℕ, List};
 ghost use Rattle.message_format.specs.FormatArguments.{arguments_view};
-ghost use Rattle.message_format.specs.Inner.FormatViews.{GivesOutcome, StepsTo, two_rules};
+ghost use Rattle.message_format.specs.Inner.FormatViews.{AreFewer, GivesOutcome, StepsTo, two_rules};
 
 use crate::arguments::{Argument, value_named};
 use crate::branches::behind_end;
 use crate::error::FormatError;
 use crate::shown::Shown;
+use crate::sink::Sink;
 use crate::source::MessageParts;
 use crate::steps::{Rules, chosen, shown_value};
 use message_pattern::{Part, Piece};
@@ -37,41 +38,43 @@ pub trait MessageSteps: Copy {
 
     /// Says the first part, if it is a text, `#` or `{name}`, and returns how the message goes on;
     /// none at its end.
-    fn step<'s>(
+    fn step<'s, W: Sink>(
         self,
         alloc: Global,
         arguments: &'s [Argument<'s>],
         rules: &Rules<'_, '_>,
         hash: &'s [u8],
-        said: &mut Vec<u8>,
+        said: &mut W,
     ) -> Result<Option<Next<'s, Self>>, Self::Fault>
-        ensures { StepsTo parts error (arguments_view arguments.now) (two_rules rules.now) hash.now (parts self) said.old.items said.new.items result };
+        ensures said { (before : List ℕ) → W.IsSaid said.old before → StepsTo parts error (arguments_view arguments.now) (two_rules rules.now) hash.now (parts self) before (W.IsSaid said.new) result }
+        ensures fewer { AreFewer parts (parts self) result };
 }
 
 /// Makes a step of parts: [`MessageSteps::step`] for each type of parts.
-pub fn step_of<'s, 'p, P: MessageParts<'p>>(
+pub fn step_of<'s, 'p, P: MessageParts<'p>, W: Sink>(
     parts: P,
     alloc: Global,
     arguments: &'s [Argument<'s>],
     rules: &Rules<'_, '_>,
     hash: &'s [u8],
-    said: &mut Vec<u8>,
+    said: &mut W,
 ) -> Result<Option<Next<'s, P>>, FormatError<'p>>
-    ensures { StepsTo P.parts (λ f. f) (arguments_view arguments.now) (two_rules rules.now) hash.now (P.parts parts) said.old.items said.new.items result }
+    ensures said { (before : List ℕ) → W.IsSaid said.old before → StepsTo P.parts (λ f. f) (arguments_view arguments.now) (two_rules rules.now) hash.now (P.parts parts) before (W.IsSaid said.new) result }
+    ensures fewer { AreFewer P.parts (P.parts parts) result }
 {
     let Some(found) = parts.first() else {
         return Ok(None);
     };
     match found.0.piece {
         Piece::Text(text) => {
-            said.extend_from_slice(text)?;
+            said.add(text)?;
             Ok(Some(Next {
                 branch: None,
                 rest: found.1,
             }))
         }
         Piece::Hash => {
-            said.extend_from_slice(hash)?;
+            said.add(hash)?;
             Ok(Some(Next {
                 branch: None,
                 rest: found.1,
@@ -79,7 +82,7 @@ pub fn step_of<'s, 'p, P: MessageParts<'p>>(
         }
         Piece::Argument(name) => {
             let text = shown_value(name, value_named(name, arguments))?;
-            said.extend_from_slice(text)?;
+            said.add(text)?;
             Ok(Some(Next {
                 branch: None,
                 rest: found.1,
@@ -105,28 +108,28 @@ impl<'l, 'p> MessageSteps for &'l [Part<'p>] {
 
     ghost error = { λ f. f };
 
-    fn step<'s>(
+    fn step<'s, W: Sink>(
         self,
         alloc: Global,
         arguments: &'s [Argument<'s>],
         rules: &Rules<'_, '_>,
         hash: &'s [u8],
-        said: &mut Vec<u8>,
+        said: &mut W,
     ) -> Result<Option<Next<'s, Self>>, FormatError<'p>> {
         step_of(self, alloc, arguments, rules, hash, said)
     }
 }
 
 /// Says the message at the front of parts, where `#` is a text, behind what was said before.
-pub fn say<'s, S: MessageSteps>(
+pub fn say<'s, S: MessageSteps, W: Sink>(
     alloc: Global,
     arguments: &'s [Argument<'s>],
     rules: &Rules<'_, '_>,
     hash: &'s [u8],
     parts: S,
-    said: &mut Vec<u8>,
+    said: &mut W,
 ) -> Result<(), S::Fault>
-    ensures { GivesOutcome S.error (arguments_view arguments.now) (two_rules rules.now) hash.now (S.parts parts) said.old.items said.new.items result }
+    ensures { (before : List ℕ) → W.IsSaid said.old before → GivesOutcome S.error (arguments_view arguments.now) (two_rules rules.now) hash.now (S.parts parts) before (W.IsSaid said.new) result }
 {
     let mut left = parts;
     'parts: while let Some(next) = left.step(alloc, arguments, rules, hash, said)? {

@@ -1,6 +1,6 @@
 //! Walks over the branches of an argument in a list of parts.
 
-ghost use Rattle.std.specs.Prelude.{◌≡◌, ◌≤◌, ◌↔◌, length, IsTrue, IfOk, IfSome};
+ghost use Rattle.std.specs.Prelude.{◌≡◌, ◌≤◌, length, IsTrue, IfOk, IfSome};
 ghost use Rattle.message_pattern.specs.PatternParts.{parts_view, branches_of};
 ghost use Rattle.message_format.specs.FormatBranches.{behind_end, is_keyword, branch_of_keyword, branch_or_other};
 ghost use Rattle.message_format.specs.FormatParts.{IsFirst};

@@ -1,6 +1,6 @@
 -- What is found of an argument from its place on.
-use Rattle.std.proofs.Common.{◌≡◌, ◌∙◌, ◌+◌, ◌≤◌, ◌<◌, ℕ, List, [], ◌∷◌, drop, length, refl, sym, ap, subst, arith, Option, Some, None, length-drop}
-use Rattle.message_pattern.specs.PatternParts.{Part, Selector, Branching, branches_of}
+use Rattle.std.proofs.Common.{◌≡◌, ◌+◌, ◌≤◌, ◌<◌, ℕ, List, [], ◌∷◌, drop, length, refl, sym, ap, subst, arith, None, length-drop}
+use Rattle.message_pattern.specs.PatternParts.{Part, Selector, branches_of}
 use Rattle.message_format.specs.FormatBranches.{behind_end, branch_or_other}
 use Rattle.message_format.specs.FormatParts.{branches_at, first_depth, AreLeftOf, IsFirst}
 use Rattle.packed_pattern.specs.PartPlaces.{PlacedPart, IsPlaced}

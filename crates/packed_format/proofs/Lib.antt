@@ -3,3 +3,4 @@ pub mod FirstNumbers
 pub mod PlacesRead
 pub mod Walked
 pub mod Begun
+pub mod Said

@@ -1,5 +1,5 @@
 -- What the places of a part say of those behind it.
-use Rattle.std.proofs.Common.{◌≡◌, ◌∙◌, ◌+◌, ◌<◌, ℕ, zero, suc, List, [], ◌∷◌, drop, refl, sym, ap, subst, arith, true, false, Option, Some, None}
+use Rattle.std.proofs.Common.{◌≡◌, ◌∙◌, ◌+◌, ◌<◌, ℕ, zero, suc, List, [], drop, refl, sym, ap, subst, arith, true, Option}
 use Rattle.std.specs.Prelude.{slice_index, length, codes}
 use Rattle.std.proofs.lemmas.List.{drop-drop}
 use Rattle.std.proofs.lemmas.Option.{slice_get_within}

@@ -1,12 +1,12 @@
 -- Steps of a walk over the branches of an argument.
-use Rattle.std.proofs.Common.{◌≡◌, ◌∙◌, ◌+◌, ◌≤◌, ◌<◌, ℕ, List, [], ◌∷◌, drop, Bor, refl, sym, ap, subst, arith, nat_lt, Bool, true, false, Option, Some, None}
+use Rattle.std.proofs.Common.{◌≡◌, ◌∙◌, ◌+◌, ◌≤◌, ◌<◌, ℕ, List, [], ◌∷◌, drop, Bor, refl, sym, ap, arith, nat_lt, true, false, Some}
 use Rattle.std.proofs.lemmas.Bool.Decides.{nat_tests}
 use Rattle.message_pattern.specs.declared.part.Part as parts
 use Rattle.message_pattern.specs.declared.part.Piece as pieces
 use Rattle.message_pattern.specs.declared.part.Piece.TheVariants as piece
 use Rattle.message_pattern.specs.declared.part.Selector as selectors
 use Rattle.message_pattern.specs.declared.part.Selector.TheVariants as selector
-use Rattle.message_pattern.specs.PatternParts.{Part, Branching, part_view, selector_view, branches_of}
+use Rattle.message_pattern.specs.PatternParts.{Part, part_view, selector_view, branches_of}
 use Rattle.message_format.specs.FormatBranches.{is_keyword}
 use Rattle.packed_pattern.specs.PartPlaces.{PlacedPart, IsPlaced}
 use Rattle.packed_format.proofs.BehindParts.{from_place}

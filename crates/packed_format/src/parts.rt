@@ -5,7 +5,8 @@ ghost use Rattle.std.specs.Prelude.{◌≤◌, length};
 use crate::branches::{branch_of_category, branch_of_word, first_chosen};
 use crate::steps::left_place;
 use message_format::{
-    Argument, Chooser, FormatError, Found, MessageParts, MessageSteps, Next, Rules, Seen, step_of,
+    Argument, Chooser, FormatError, Found, MessageParts, MessageSteps, Next, Rules, Seen, Sink,
+    step_of,
 };
 use message_pattern::Part;
 use packed_pattern::PackedPattern;
@@ -119,13 +120,13 @@ impl<'l, 'a> MessageSteps for BlockParts<'l, 'a> {
 
     ghost error = { λ f. f };
 
-    fn step<'s>(
+    fn step<'s, W: Sink>(
         self,
         alloc: Global,
         arguments: &'s [Argument<'s>],
         rules: &Rules<'_, '_>,
         hash: &'s [u8],
-        said: &mut Vec<u8>,
+        said: &mut W,
     ) -> Result<Option<Next<'s, Self>>, FormatError<'a>> {
         step_of(self, alloc, arguments, rules, hash, said)
     }

@@ -86,10 +86,11 @@ abbrev pub IsFaultOf : List Argument → TwoRules → List ℕ → List Part →
 IsFaultOf arguments rules hash parts old (error.Argument fault name) = Says arguments rules hash old parts (Faulty fault name.now)
 IsFaultOf arguments rules hash parts old error.Memory = Unit {0}
 
--- what a call returns, with the text before and after it: the outcome, or out of memory
-abbrev pub GivesOutcome : {F : Type 0} → (F → FormatError) → List Argument → TwoRules → List ℕ → List Part → List ℕ → List ℕ → Result (Unit {0}) F → Type 0
-GivesOutcome error arguments rules hash parts old new (Ok x) = Says arguments rules hash old parts (Said new)
-GivesOutcome error arguments rules hash parts old new (Err f) = IsFaultOf arguments rules hash parts old (error f)
+-- what a call returns, with the text before it and what holds of that after it: the outcome, or out
+-- of memory
+abbrev pub GivesOutcome : {F : Type 0} → (F → FormatError) → List Argument → TwoRules → List ℕ → List Part → List ℕ → (List ℕ → Type 0) → Result (Unit {0}) F → Type 0
+GivesOutcome error arguments rules hash parts old IsNew (Ok x) = (new : List ℕ) × IsNew new × Says arguments rules hash old parts (Said new)
+GivesOutcome error arguments rules hash parts old IsNew (Err f) = IsFaultOf arguments rules hash parts old (error f)
 
 -- how the parts go on behind a part: by way of a branch, or not
 abbrev pub GoesTo : {P : Type 0} → (P → List Part) → List Argument → TwoRules → List ℕ → List Part → List ℕ → List ℕ → List Part → Option (shown.Shown × P) → Type 0
@@ -97,10 +98,21 @@ GoesTo parts arguments rules hash ps old new rest None = GoesOn arguments rules 
 GoesTo parts arguments rules hash ps old new rest (Some b) = GoesOnBehind arguments rules hash (shown_view b.0) old new ps (parts b.1) rest
 
 -- what a step returns: how the parts go on, that they end, or a fault
-abbrev pub StepsTo : {P F : Type 0} → (P → List Part) → (F → FormatError) → List Argument → TwoRules → List ℕ → List Part → List ℕ → List ℕ → Result (Option (next.Next P)) F → Type 0
-StepsTo parts error arguments rules hash ps old new (Ok None) = Says arguments rules hash old ps (Said new)
-StepsTo parts error arguments rules hash ps old new (Ok (Some n)) = GoesTo parts arguments rules hash ps old new (parts n.rest) n.branch
-StepsTo parts error arguments rules hash ps old new (Err f) = IsFaultOf arguments rules hash ps old (error f)
+abbrev pub StepsTo : {P F : Type 0} → (P → List Part) → (F → FormatError) → List Argument → TwoRules → List ℕ → List Part → List ℕ → (List ℕ → Type 0) → Result (Option (next.Next P)) F → Type 0
+StepsTo parts error arguments rules hash ps old IsNew (Ok None) = IsNew old × Says arguments rules hash old ps (Said old)
+StepsTo parts error arguments rules hash ps old IsNew (Ok (Some n)) =
+    (new : List ℕ) × IsNew new × GoesTo parts arguments rules hash ps old new (parts n.rest) n.branch
+StepsTo parts error arguments rules hash ps old IsNew (Err f) = IsFaultOf arguments rules hash ps old (error f)
+
+-- fewer parts follow, and fewer are those from a branch on
+abbrev pub IsBranchFewer : {P : Type 0} → (P → List Part) → List Part → Option (shown.Shown × P) → Type 0
+IsBranchFewer parts ps None = Unit {0}
+IsBranchFewer parts ps (Some b) = length (parts b.1) < length ps
+
+abbrev pub AreFewer : {P F : Type 0} → (P → List Part) → List Part → Result (Option (next.Next P)) F → Type 0
+AreFewer parts ps (Ok None) = Unit {0}
+AreFewer parts ps (Ok (Some n)) = (length (parts n.rest) < length ps) × IsBranchFewer parts ps n.branch
+AreFewer parts ps (Err f) = Unit {0}
 
 -- the outcome that a result has, or none if memory ran out
 abbrev pub outcome_of : Result (Vec ℕ Global) FormatError → Option PatternOutcome

@@ -1,4 +1,4 @@
-use Rattle.std.proofs.Common.{Some, None, inl, refl, rules}
+use Rattle.std.proofs.Common.{Some, inl, refl, rules}
 use Rattle.plural_base.specs.Categories.{name_of}
 use Rattle.message_format.specs.FormatBranches.{IsCategory}
 use Rattle.message_format.specs.FormatParts.{branches_at}

@@ -1,4 +1,4 @@
-use Rattle.std.proofs.Common.{subst, Ok, Err}
+use Rattle.std.proofs.Common.{subst}
 use Rattle.std.specs.Prelude.{option_map, IfOk}
 use Rattle.fixed_decimal.specs.Written.{CompactNumber}
 use Rattle.message_format.specs.FormatBranches.{Equals}

@@ -1,6 +1,6 @@
-use Rattle.std.proofs.Common.{◌≡◌, true, false, refl, subst, Some, None, Option, List}
+use Rattle.std.proofs.Common.{◌≡◌, true, false, refl, subst, Some, None}
 use Rattle.fixed_decimal.specs.Written.{CompactNumber}
-use Rattle.message_pattern.specs.PatternParts.{Part, branches_of, parts_view}
+use Rattle.message_pattern.specs.PatternParts.{branches_of, parts_view}
 use Rattle.message_format.specs.FormatBranches.{Equals, IsBranchOfValue}
 use Rattle.message_format.specs.FormatParts.{IsFirst}
 use Rattle.message_format.proofs.OneSaying.{none_of_value}

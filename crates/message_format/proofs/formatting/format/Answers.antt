@@ -1,6 +1,5 @@
-use Rattle.std.proofs.Common.{Err, Some}
+use Rattle.std.proofs.Common.{[], Err, Some}
 use Rattle.std.proofs.lemmas.Result.{err_from_is_err_and}
-use Rattle.message_pattern.specs.PatternParts.{parts_view}
 use Rattle.message_format.specs.FormatArguments.{arguments_view}
 use Rattle.message_format.specs.FormatMeaning.{Said}
 use Rattle.message_format.specs.Inner.FormatViews.{outcome_of, two_rules}
@@ -18,11 +17,10 @@ returns-in_err-say c =
     rw (p.1, p.2)
     (exactly (record { unsigned = c.texts_write_one_number.ensures.unsigned; compact = c.texts_write_one_number.ensures.compact }) (arguments_view c.args.arguments.now) (two_rules c.args.rules.now) c.args.pattern.now (outcome_of (Err c.in_err-say.field-0.0))
     (λ o e.
-    whole_error (arguments_view c.args.arguments.now) (two_rules c.args.rules.now) (parts_view c.parts.result.now) c.args.pattern.now c.in-Ok.said.items c.say.new.said.items c.in_err-say.field-0.0 o
-    c.parts.ensures c.in-Ok.ensures.items c.in_err-say.ensures e))
+    whole_error (arguments_view c.args.arguments.now) (two_rules c.args.rules.now) c.args.pattern.now c.in_err-say.field-0.0 o (rw c.parts.ensures at (c.in_err-say.ensures [] c.in-Ok.ensures.items)) e))
 
 pub returns : goal.returns
 returns c =
-    let says = rw (c.in-Ok.ensures.items, c.parts.ensures) at c.in_ok-say.ensures in
+    let said = rw c.parts.ensures at (c.in_ok-say.ensures [] c.in-Ok.ensures.items) in
     exactly (record { unsigned = c.texts_write_one_number.ensures.unsigned; compact = c.texts_write_one_number.ensures.compact }) (arguments_view c.args.arguments.now) (two_rules c.args.rules.now) c.args.pattern.now (Some (Said c.say.new.said.items))
-    (λ o e. whole (arguments_view c.args.arguments.now) (two_rules c.args.rules.now) c.args.pattern.now (Said c.say.new.said.items) o says e)
+    (λ o e. whole (arguments_view c.args.arguments.now) (two_rules c.args.rules.now) c.args.pattern.now (Said c.say.new.said.items) o (rw said.1 said.2) e)

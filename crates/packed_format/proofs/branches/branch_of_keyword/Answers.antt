@@ -1,5 +1,5 @@
-use Rattle.std.proofs.Common.{◌≡◌, ◌∙◌, ◌+◌, ◌∷◌, length, drop, refl, sym, ap, arith, true, false, bytes_eq, List, Some, None}
-use Rattle.message_pattern.specs.PatternParts.{Branching, branches_of, selector_view}
+use Rattle.std.proofs.Common.{◌≡◌, ◌∙◌, ◌+◌, ◌∷◌, drop, refl, sym, ap, arith, true, false, bytes_eq, Some}
+use Rattle.message_pattern.specs.PatternParts.{branches_of, selector_view}
 use Rattle.message_format.specs.FormatBranches.{branch_of_keyword, is_keyword}
 use Rattle.packed_format.proofs.BehindParts.{no_place}
 use Rattle.packed_format.proofs.PlacesRead.{within}

@@ -1,9 +1,8 @@
-use Rattle.std.proofs.Common.{◌≡◌, ◌∙◌, ◌+◌, ◌<◌, ℕ, List, drop, length, refl, sym, ap, subst, inl, inr, arith, true, false, Option, Some, None}
-use Rattle.std.specs.Prelude.{IfSome}
+use Rattle.std.proofs.Common.{◌≡◌, ◌+◌, ◌<◌, ℕ, List, drop, length, refl, sym, ap, subst, inl, inr, arith, true, false, Option, Some, None}
 use Rattle.message_pattern.specs.PatternParts.{Part, Branching, branches_of, selector_view}
 use Rattle.message_format.specs.FormatParts.{IsFirst}
 use Rattle.packed_format.proofs.BehindParts.{no_place}
-use Rattle.packed_format.proofs.FirstNumbers.{FirstFrom, left_from, first_behind, next_behind, further, fewer_left}
+use Rattle.packed_format.proofs.FirstNumbers.{left_from, first_behind, next_behind, further, fewer_left}
 use Rattle.packed_format.proofs.PlacesRead.{within}
 use Rattle.packed_format.proofs.Walked.{deeper_there, selector_there, none_there}
 use Rattle.packed_format.proofs.branches.first_chosen.Goals.{then-part-depth+in-Branch+in-Ok+else-chosen, else-part-depth}

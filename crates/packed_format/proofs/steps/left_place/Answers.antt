@@ -1,6 +1,5 @@
 use Rattle.std.proofs.Common.{◌∙◌, ap, sym}
-use Rattle.message_pattern.specs.PatternParts.{Part, PatternPiece, offset_view, piece_view}
-use Rattle.message_pattern.specs.declared.part.Piece as pieces
+use Rattle.message_pattern.specs.PatternParts.{Part, offset_view, piece_view}
 use Rattle.packed_format.proofs.PlacesRead.{left_end}
 use Rattle.packed_format.proofs.steps.left_place.Goals as goal
 

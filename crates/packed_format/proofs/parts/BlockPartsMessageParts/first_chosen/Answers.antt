@@ -1,4 +1,4 @@
-use Rattle.std.proofs.Common.{◌∙◌, ap, arith, drop, subst, List, Some, None}
+use Rattle.std.proofs.Common.{arith, drop, subst, List, Some, None}
 use Rattle.message_pattern.specs.PatternParts.{Branching}
 use Rattle.message_format.specs.FormatParts.{IsFirst}
 use Rattle.packed_format.proofs.BehindParts.{no_place}
