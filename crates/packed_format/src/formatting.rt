@@ -1,0 +1,76 @@
+//! What a packed pattern says.
+
+ghost use Rattle.std.specs.Prelude.{[], ℕ, List};
+ghost use Rattle.message_format.specs.FormatArguments.{arguments_view};
+ghost use Rattle.message_format.specs.FormatMeaning.{SaysExactly};
+ghost use Rattle.message_format.specs.Inner.FormatViews.{GivesOutcome, outcome_of, two_rules};
+
+use crate::parts::BlockParts;
+use arrayvec::ArrayVec;
+use message_format::laws::one_outcome;
+use message_format::{Argument, FormatError, Rules, Sink, TextLength, say};
+use packed_pattern::PackedPattern;
+use std::alloc::Global;
+
+// How many bytes a text has at most that is said once, and then copied.
+const SHORT: usize = 256;
+
+/// Says a packed pattern with its arguments, under the rules of a language, behind what was said
+/// before. It reads the block in place: the parts of a branch that isn't chosen aren't read. It
+/// allocates the digits of long numbers and the texts of differences.
+///
+/// The errors are those of [`format`](message_format::format), or `Memory` if the sink is full. What
+/// was said before an error stays in the sink.
+pub fn say_packed<'a, W: Sink>(
+    alloc: Global,
+    pattern: &PackedPattern<'a>,
+    arguments: &[Argument<'_>],
+    rules: &Rules<'_, '_>,
+    said: &mut W,
+) -> Result<(), FormatError<'a>>
+    ensures { (before : List ℕ) → W.IsSaid said.old before
+        → GivesOutcome (λ f. f) (arguments_view arguments.now) (two_rules rules.now) [] pattern.now before (W.IsSaid said.new) result }
+{
+    say(alloc, arguments, rules, b"", BlockParts::of(pattern), said)
+}
+
+/// Returns what a packed pattern says with its arguments, as [`format`](message_format::format) does
+/// of the pattern that it was packed from, with its errors. The text is allocated once, at its
+/// length; beside that what [`say_packed`] allocates.
+pub fn format_packed<'a>(
+    alloc: Global,
+    pattern: &PackedPattern<'a>,
+    arguments: &[Argument<'_>],
+    rules: &Rules<'_, '_>,
+) -> Result<Vec<u8>, FormatError<'a>>
+    ensures { SaysExactly (arguments_view arguments.now) (two_rules rules.now) pattern.now (outcome_of result) }
+{
+    one_outcome();
+    let mut short = ArrayVec::<u8, SHORT>::new();
+    match say_packed(alloc, pattern, arguments, rules, &mut short) {
+        Ok(()) => {
+            let mut said = Vec::with_capacity(alloc, short.len())?;
+            said.extend_from_slice(short.as_slice())?;
+            Ok(said)
+        }
+        Err(FormatError::Memory) => format_long(alloc, pattern, arguments, rules),
+        Err(fault) => Err(fault),
+    }
+}
+
+// The same of a text that may be long: it is said twice, the first time to count its bytes.
+fn format_long<'a>(
+    alloc: Global,
+    pattern: &PackedPattern<'a>,
+    arguments: &[Argument<'_>],
+    rules: &Rules<'_, '_>,
+) -> Result<Vec<u8>, FormatError<'a>>
+    ensures { SaysExactly (arguments_view arguments.now) (two_rules rules.now) pattern.now (outcome_of result) }
+{
+    one_outcome();
+    let mut length = TextLength { count: 0 };
+    say_packed(alloc, pattern, arguments, rules, &mut length)?;
+    let mut said = Vec::with_capacity(alloc, length.count)?;
+    say_packed(alloc, pattern, arguments, rules, &mut said)?;
+    Ok(said)
+}
