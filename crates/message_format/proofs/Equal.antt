@@ -16,8 +16,8 @@ use Rattle.message_format.specs.declared.error.ArgumentFault.TheVariants.{NotANu
 use Rattle.message_format.specs.declared.error.FormatError.{FormatError}
 use Rattle.message_format.specs.declared.error.FormatError.TheVariants as error
 use Rattle.message_format.specs.FormatSteps.{Step, Chooses, Fails, StepsFromNumber, IsCounted}
-use Rattle.message_format.specs.Inner.FormatViews.{GivesStep, fault_step, number_step}
-use Rattle.message_format.specs.Inner.FormatWalks.{IsFirst}
+use Rattle.message_format.specs.Inner.FormatViews.{GivesFault, fault_step, number_step}
+use Rattle.message_format.specs.FormatParts.{IsFirst}
 use Rattle.message_format.proofs.Passes.{of_value}
 
 -- where it doesn't, the answer is false
@@ -42,7 +42,7 @@ compared one x y text b w l e h =
 -- a text that writes no number, or one over a limit, has this fault
 pub refused : {A B : Type 0} (Writes IsOver : A → Type 0) (name : List ℕ) (Then : A → Step → Type 0) (r : Result B DecimalError) (e : DecimalError) (f : FormatError)
     → r ≡ Err e → fault_step f ≡ number_step name e → (r ≡ Err number.Syntax → (x : A) → Writes x → ⊥) → (r ≡ Err number.Limit → (x : A) × Writes x × IsOver x)
-    → GivesStep (λ s. StepsFromNumber Writes IsOver name Then s) (Err f)
+    → GivesFault (λ s. StepsFromNumber Writes IsOver name Then s) f
 refused Writes IsOver name Then r number.Syntax (error.Argument fault n) is same none over =
     let step : Some (Fails fault n.now) ≡ Some (Fails NotANumber name) = same in
     inl (none is, cc)
@@ -57,7 +57,7 @@ refused Writes IsOver name Then r e error.Memory is same none over = tt
 pub not_counted : {B : Type 0} (rules : FiveRules) (name : List ℕ) (bs : List Branching) (text : List ℕ) (r : Result B DecimalError) (e : DecimalError) (f : FormatError)
     → r ≡ Err e → fault_step f ≡ number_step name e
     → (r ≡ Err number.Syntax → (x : CompactNumber) → WritesCompact text x → ⊥) → (r ≡ Err number.Limit → (x : CompactNumber) × WritesCompact text x × IsCompactOverLimit x)
-    → GivesStep (λ s. IsCounted rules name bs text s) (Err f)
+    → GivesFault (λ s. IsCounted rules name bs text s) f
 not_counted rules name bs text r e f is same none over =
     refused (λ x. WritesCompact text x) (λ x. IsCompactOverLimit x) name (λ x s. (parts : List Part) × IsBranchOfNumber rules x x bs parts × (s ≡ Chooses text parts)) r e f is same none over
 

@@ -15,14 +15,18 @@ use Rattle.message_format.specs.declared.error.FormatError.TheVariants as error
 use Rattle.message_format.specs.FormatBranches.{IsBranchOfNumber}
 use Rattle.message_format.specs.FormatOffsets.{IsDifference, plain}
 use Rattle.message_format.specs.FormatSteps.{Step, Chooses, Fails, StepsFromNumber, IsCountedBy, IsLess, IsCountedLess}
-use Rattle.message_format.specs.Inner.FormatViews.{Choice, step_view, GivesStep, fault_step, number_step}
+use Rattle.message_format.specs.Inner.FormatViews.{Choice, step_view, GivesFault, GivesStep, fault_step, number_step}
 use Rattle.message_format.proofs.Equal.{within, refused}
 
 -- what follows from each step follows from what is returned
-pub gives : (r : Result Choice FormatError) (P Q : Step → Type 0) → ((s : Step) → P s → Q s) → GivesStep P r → GivesStep Q r
-gives (Ok s) P Q f h = f (step_view s) h
-gives (Err (error.Argument fault name)) P Q f h = f (Fails fault name.now) h
-gives (Err error.Memory) P Q f h = tt
+pub fault_gives : (e : FormatError) (P Q : Step → Type 0) → ((s : Step) → P s → Q s) → GivesFault P e → GivesFault Q e
+fault_gives (error.Argument fault name) P Q f h = f (Fails fault name.now) h
+fault_gives error.Memory P Q f h = tt
+
+pub gives : {A : Type 0} (parts : A → List Part) (r : Result (Choice A) FormatError) (P Q : Step → Type 0) → ((s : Step) → P s → Q s)
+    → GivesStep parts P r → GivesStep parts Q r
+gives parts (Ok s) P Q f h = f (step_view parts s) h
+gives parts (Err e) P Q f h = fault_gives e P Q f h
 
 not_over : (x : Places) → IsWithinLimit x → IsOverLimit x → ⊥
 not_over x w (inl h) = omega (arith, w.whole)
@@ -64,7 +68,7 @@ module _ (one : OneCompact) (again : CompactReadAgain) (rules : FiveRules) (name
   pub less_refused : {B : Type 0} (r : Result B DecimalError) (e : DecimalError) (f : FormatError) → r ≡ Err e → fault_step f ≡ number_step name e
       → (r ≡ Err number.Syntax → (y : CompactNumber) → WritesCompact shown y → ⊥)
       → (r ≡ Err number.Limit → (y : CompactNumber) × WritesCompact shown y × IsCompactOverLimit y)
-      → GivesStep (λ (t : Step). (d : Decimal) × IsDifference x.significand o d × IsCountedBy rules name bs x d t) (Err f)
+      → GivesFault (λ (t : Step). (d : Decimal) × IsDifference x.significand o d × IsCountedBy rules name bs x d t) f
   less_refused r number.Syntax f is e none limit =
       absurd (none is (plain s.0) (subst (λ (t : List ℕ). WritesCompact t (plain s.0)) (sym same) (writes_plain again x.significand o text s)))
   less_refused r number.Limit (error.Argument fault n) is e none limit =
@@ -84,29 +88,29 @@ module _ (rules : FiveRules) (name : List ℕ) (bs : List Branching) (digits : L
 
   pub offset_refused : {B : Type 0} (r : Result B DecimalError) (e : DecimalError) (f : FormatError) → r ≡ Err e → fault_step f ≡ number_step name e
       → (r ≡ Err number.Syntax → (o : Places) → WritesUnsigned digits o → ⊥) → (r ≡ Err number.Limit → (o : Places) × WritesUnsigned digits o × IsOverLimit o)
-      → GivesStep (λ (s : Step). IsLess rules name bs digits x s) (Err f)
+      → GivesFault (λ (s : Step). IsLess rules name bs digits x s) f
   offset_refused r e f is step none limit =
-      gives (Err f) (λ (s : Step). StepsFromNumber (λ o. WritesUnsigned digits o) (λ o. IsOverLimit o) name (λ o t. From o t) s) (λ (s : Step). IsLess rules name bs digits x s)
+      fault_gives f (λ (s : Step). StepsFromNumber (λ o. WritesUnsigned digits o) (λ o. IsOverLimit o) name (λ o t. From o t) s) (λ (s : Step). IsLess rules name bs digits x s)
       (λ s k. inr (plain_number, k))
       (refused (λ o. WritesUnsigned digits o) (λ o. IsOverLimit o) name (λ o t. From o t) r e f is step none limit)
 
-  pub offset_gives : (o : Places) (r : Result Choice FormatError) → WritesUnsigned digits o → IsWithinLimit o
-      → GivesStep (λ (s : Step). From o s) r → GivesStep (λ (s : Step). IsLess rules name bs digits x s) r
-  offset_gives o r w l h =
-      gives r (λ (s : Step). From o s) (λ (s : Step). IsLess rules name bs digits x s) (λ s k. inr (plain_number, inr (inr (o, w, not_over o l, k)))) h
+  pub offset_gives : {A : Type 0} (parts : A → List Part) (o : Places) (r : Result (Choice A) FormatError) → WritesUnsigned digits o → IsWithinLimit o
+      → GivesStep parts (λ (s : Step). From o s) r → GivesStep parts (λ (s : Step). IsLess rules name bs digits x s) r
+  offset_gives parts o r w l h =
+      gives parts r (λ (s : Step). From o s) (λ (s : Step). IsLess rules name bs digits x s) (λ s k. inr (plain_number, inr (inr (o, w, not_over o l, k)))) h
 
 -- ---- the text of a number
 
-pub number_gives : (rules : FiveRules) (name : List ℕ) (bs : List Branching) (digits text : List ℕ) (x : CompactNumber) (r : Result Choice FormatError)
-    → WritesCompact text x → IsWithinLimit x.significand.absolute → x.exponent ≤ 255 → GivesStep (λ (s : Step). IsLess rules name bs digits x s) r
-    → GivesStep (λ (s : Step). IsCountedLess rules name bs digits text s) r
-number_gives rules name bs digits text x r w l e h =
-    gives r (λ (s : Step). IsLess rules name bs digits x s) (λ (s : Step). IsCountedLess rules name bs digits text s)
+pub number_gives : {A : Type 0} (parts : A → List Part) (rules : FiveRules) (name : List ℕ) (bs : List Branching) (digits text : List ℕ) (x : CompactNumber) (r : Result (Choice A) FormatError)
+    → WritesCompact text x → IsWithinLimit x.significand.absolute → x.exponent ≤ 255 → GivesStep parts (λ (s : Step). IsLess rules name bs digits x s) r
+    → GivesStep parts (λ (s : Step). IsCountedLess rules name bs digits text s) r
+number_gives parts rules name bs digits text x r w l e h =
+    gives parts r (λ (s : Step). IsLess rules name bs digits x s) (λ (s : Step). IsCountedLess rules name bs digits text s)
     (λ s k. inr (inr (x, w, within x l e, k))) h
 
 pub number_refused : {B : Type 0} (rules : FiveRules) (name : List ℕ) (bs : List Branching) (digits text : List ℕ) (r : Result B DecimalError) (e : DecimalError) (f : FormatError)
     → r ≡ Err e → fault_step f ≡ number_step name e
     → (r ≡ Err number.Syntax → (x : CompactNumber) → WritesCompact text x → ⊥) → (r ≡ Err number.Limit → (x : CompactNumber) × WritesCompact text x × IsCompactOverLimit x)
-    → GivesStep (λ s. IsCountedLess rules name bs digits text s) (Err f)
+    → GivesFault (λ s. IsCountedLess rules name bs digits text s) f
 number_refused rules name bs digits text r e f is same none over =
     refused (λ x. WritesCompact text x) (λ x. IsCompactOverLimit x) name (λ x s. IsLess rules name bs digits x s) r e f is same none over

@@ -9,7 +9,7 @@ use Rattle.message_pattern.specs.declared.part.Piece.TheVariants as pieces
 use Rattle.message_pattern.specs.declared.part.Selector as selectors
 use Rattle.message_pattern.specs.PatternParts.{Part, Selector, parts_view, selector_view, Branching, branches_of}
 use Rattle.message_format.specs.FormatBranches.{Equals, IsBranchOfValue, behind_end, is_keyword, branch_of_keyword}
-use Rattle.message_format.specs.Inner.FormatWalks.{IsFirst}
+use Rattle.message_format.specs.FormatParts.{IsFirst}
 
 -- what stands for a part that isn't there
 abbrev pub no_part : parts.Part

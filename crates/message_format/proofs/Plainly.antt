@@ -19,7 +19,7 @@ use Rattle.message_format.proofs.Passes.{of_value}
 use Rattle.message_format.specs.FormatBranches.{Equals, EqualsWritten}
 use Rattle.message_format.specs.FormatNumbers.{digit_of, HaveSameValue}
 use Rattle.message_format.specs.Inner.FormatPlain.{is_zero, digits_in, plain_number, IsNumeral, IsPlain, ArePlain}
-use Rattle.message_format.specs.Inner.FormatWalks.{IsFirst}
+use Rattle.message_format.specs.FormatParts.{IsFirst}
 
 -- if a conjunction is true, both its parts are
 both_true : (a b : Bool) → (a && b) ≡ true → (a ≡ true) × (b ≡ true)

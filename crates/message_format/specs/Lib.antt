@@ -3,7 +3,9 @@ pub mod FormatArguments
 pub mod FormatNumbers
 pub mod FormatOffsets
 pub mod FormatBranches
+pub mod FormatParts
 pub mod FormatSteps
 pub mod FormatMeaning
+pub mod FormatWalk
 -- not definitions of the subject
 pub mod Inner

@@ -1,56 +1,19 @@
 //! What a pattern says.
 
-ghost use Rattle.std.specs.Prelude.{◌≡◌, ◌++◌, IfErr, OnOk};
-ghost use Rattle.message_pattern.specs.PatternParts.{parts_view};
 ghost use Rattle.message_format.specs.FormatArguments.{arguments_view};
 ghost use Rattle.message_format.specs.FormatMeaning.{SaysExactly};
-ghost use Rattle.message_format.specs.Inner.FormatViews.{GivesOutcome, outcome_of, two_rules};
+ghost use Rattle.message_format.specs.Inner.FormatViews.{outcome_of, two_rules};
 
-use crate::arguments::{Argument, value_named};
-use crate::branches::behind_end;
+use crate::arguments::Argument;
 use crate::error::FormatError;
-use crate::steps::{Rules, chosen, shown_value};
+use crate::saying::say;
+use crate::steps::Rules;
 use fixed_decimal::laws::texts_write_one_number;
-use message_pattern::{Part, Pattern, Piece};
+use message_pattern::Pattern;
 use std::alloc::Global;
 
 // How many bytes of the text there is room for at first.
 const ROOM: usize = 64;
-
-// Formats the message at the front of the parts.
-fn message<'s, 'p: 's>(
-    alloc: Global,
-    arguments: &'s [Argument<'s>],
-    rules: &Rules<'_, '_>,
-    hash: &'s [u8],
-    parts: &'s [Part<'p>],
-    said: &mut Vec<u8>,
-) -> Result<(), FormatError<'p>>
-    ensures { GivesOutcome (arguments_view arguments.now) (two_rules rules.now) hash.now (parts_view parts.now) said.old.items said.new.items result }
-{
-    let mut left = parts;
-    'parts: while let [part, rest @ ..] = left {
-        let text = match part.piece {
-            Piece::Text(text) => text,
-            Piece::Hash => hash,
-            Piece::Argument(name) => shown_value(name, value_named(name, arguments))?,
-            Piece::Begin(kind, name, offset) => {
-                let value = value_named(name, arguments);
-                let (shown, found) = chosen(
-                    alloc, rules, hash, kind, name, offset, part.depth, rest, value,
-                )?;
-                let branch = found.branch;
-                message(alloc, &*arguments, rules, shown.as_bytes(), branch, said)?;
-                left = behind_end(part.depth, found.left);
-                continue;
-            }
-            Piece::Branch(_) | Piece::End => return Ok(()),
-        };
-        said.extend_from_slice(text)?;
-        left = rest;
-    }
-    Ok(())
-}
 
 /// Returns what a pattern says with its arguments (ICU MessageFormat), under the rules of a
 /// language, as bytes: UTF-8, if the pattern and the arguments are. It allocates the text, and the
@@ -80,6 +43,6 @@ pub fn format<'p>(
         Ok(said) => said,
         Err(_) => return Err(FormatError::Memory),
     };
-    message(alloc, arguments, rules, b"", pattern.parts(), &mut said)?;
+    say(alloc, arguments, rules, b"", pattern.parts(), &mut said)?;
     Ok(said)
 }

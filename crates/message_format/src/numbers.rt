@@ -7,7 +7,7 @@ ghost use Rattle.message_format.specs.FormatBranches.{Equals, EqualsWritten};
 ghost use Rattle.message_format.specs.FormatNumbers.{digit_of, HaveSameDigits, IsBelowZero, HaveSameValue};
 ghost use Rattle.message_format.specs.Inner.FormatViews.{IsZeroOutside, IsSpanOf};
 
-use crate::walks::Chooser;
+use crate::source::Chooser;
 use fixed_decimal::laws::texts_write_one_number;
 use fixed_decimal::{CompactDecimal, DecimalError, Sign, UnsignedDecimal};
 use message_pattern::Selector;

@@ -4,19 +4,19 @@ ghost use Rattle.std.specs.Prelude.{◌≡◌, IfOk, Err};
 ghost use Rattle.fixed_decimal.specs.Places.{Places, IsWithinLimit, IsOverLimit};
 ghost use Rattle.fixed_decimal.specs.Written.{WritesUnsigned};
 ghost use Rattle.fixed_decimal.specs.declared.decimal.Decimal.{Decimal as SignedNumber};
-ghost use Rattle.message_pattern.specs.PatternParts.{parts_view, branches_of};
+ghost use Rattle.message_format.specs.FormatParts.{branches_at};
 ghost use Rattle.message_format.specs.FormatOffsets.{IsDifference};
 ghost use Rattle.message_format.specs.FormatSteps.{IsCountedBy, IsLess, IsCountedLess};
 ghost use Rattle.message_format.specs.Inner.FormatViews.{GivesStep, ChoosesWithin};
 
-use crate::branches::{Found, branch_of_number};
+use crate::branches::branch_of_number;
 use crate::difference::difference;
 use crate::error::{ArgumentFault, FormatError};
 use crate::numbers::number_of_text;
 use crate::shown::Shown;
+use crate::source::{Found, MessageParts};
 use fixed_decimal::laws::{numbers_are_read_again, texts_write_one_number};
 use fixed_decimal::{CompactDecimal, DecimalError, UnsignedDecimal};
-use message_pattern::Part;
 use plural_base::PluralRules;
 use std::alloc::Global;
 
@@ -33,70 +33,67 @@ fn offset_of(alloc: Global, digits: &[u8]) -> Result<UnsignedDecimal, DecimalErr
 }
 
 // A plural of a number, by the number less an offset.
-fn counted_by<'s, 'p: 's>(
+fn counted_by<'s, 'p, P: MessageParts<'p>>(
     alloc: Global,
     rules: &PluralRules<'_>,
     name: &'p [u8],
     offset: &UnsignedDecimal,
-    depth: usize,
-    rest: &'s [Part<'p>],
+    argument: P,
     number: &CompactDecimal,
-) -> Result<(Shown<'s>, Found<'s, 'p>), FormatError<'p>>
+) -> Result<(Shown<'s>, Found<P>), FormatError<'p>>
     requires number { IsWithinLimit number.now.significand.absolute }
     requires offset { IsWithinLimit offset.now }
-    ensures step { GivesStep (λ step. (less : SignedNumber) × IsDifference number.now.significand offset.now less × IsCountedBy rules.now name.now (branches_of depth (parts_view rest.now)) number.now less step) result }
-    ensures left { ChoosesWithin depth rest.now result }
+    ensures step { GivesStep P.parts (λ step. (less : SignedNumber) × IsDifference number.now.significand offset.now less × IsCountedBy rules.now name.now (branches_at (P.parts argument)) number.now less step) result }
+    ensures within { ChoosesWithin P.parts (P.parts argument) result }
 {
     numbers_are_read_again();
     texts_write_one_number();
     let text = difference(alloc, number.significand(), offset)?;
     match number_of_text(alloc, &text) {
         Ok(less) => {
-            let branch = branch_of_number(alloc, rules, number, &less, depth, rest, rest)?;
-            Ok((Shown::Less(text), Found { branch, left: rest }))
+            let found = branch_of_number(alloc, rules, number, &less, argument)?;
+            Ok((Shown::Less(text), found))
         }
         Err(error) => Err(FormatError::of_number(name, error)),
     }
 }
 
 // A plural of a number, with the digits of an offset.
-fn less<'s, 'p: 's>(
+fn less<'s, 'p, P: MessageParts<'p>>(
     alloc: Global,
     rules: &PluralRules<'_>,
     name: &'p [u8],
     digits: &[u8],
-    depth: usize,
-    rest: &'s [Part<'p>],
+    argument: P,
     number: &CompactDecimal,
-) -> Result<(Shown<'s>, Found<'s, 'p>), FormatError<'p>>
+) -> Result<(Shown<'s>, Found<P>), FormatError<'p>>
     requires { IsWithinLimit number.now.significand.absolute }
-    ensures step { GivesStep (λ step. IsLess rules.now name.now (branches_of depth (parts_view rest.now)) digits.now number.now step) result }
-    ensures left { ChoosesWithin depth rest.now result }
+    ensures step { GivesStep P.parts (λ step. IsLess rules.now name.now (branches_at (P.parts argument)) digits.now number.now step) result }
+    ensures within { ChoosesWithin P.parts (P.parts argument) result }
 {
     if number.exponent() != 0 {
         return Err(FormatError::Argument(ArgumentFault::CompactOffset, name));
     }
     match offset_of(alloc, digits) {
-        Ok(offset) => counted_by(alloc, rules, name, &offset, depth, rest, number),
+        Ok(offset) => counted_by(alloc, rules, name, &offset, argument, number),
         Err(error) => Err(FormatError::of_number(name, error)),
     }
 }
 
 // A plural with an offset, of the text of a number.
-pub(crate) fn counted_less<'s, 'p: 's>(
+pub(crate) fn counted_less<'s, 'p, P: MessageParts<'p>>(
     alloc: Global,
     rules: &PluralRules<'_>,
     name: &'p [u8],
     digits: &[u8],
-    depth: usize,
-    rest: &'s [Part<'p>],
+    argument: P,
     text: &str,
-) -> Result<(Shown<'s>, Found<'s, 'p>), FormatError<'p>>
-    ensures step { GivesStep (λ step. IsCountedLess rules.now name.now (branches_of depth (parts_view rest.now)) digits.now text.now step) result }
-    ensures left { ChoosesWithin depth rest.now result }
+) -> Result<(Shown<'s>, Found<P>), FormatError<'p>>
+    ensures step { GivesStep P.parts (λ step. IsCountedLess rules.now name.now (branches_at (P.parts argument)) digits.now text.now step) result }
+    ensures within { ChoosesWithin P.parts (P.parts argument) result }
 {
     match CompactDecimal::from_str(alloc, text) {
-        Ok(number) => less(alloc, rules, name, digits, depth, rest, &number),
+        Ok(number) => less(alloc, rules, name, digits, argument, &number),
         Err(error) => Err(FormatError::of_number(name, error)),
     }
 }

@@ -6,7 +6,7 @@ ghost use Rattle.std.specs.List.{list_all};
 ghost use Rattle.message_format.specs.FormatBranches.{Equals, EqualsWritten};
 ghost use Rattle.message_format.specs.Inner.FormatPlain.{is_zero, IsNumeral, IsPlain, ArePlain, plain_number};
 
-use crate::walks::Chooser;
+use crate::source::Chooser;
 use fixed_decimal::laws::texts_write_one_number;
 use message_pattern::Selector;
 use plural_operands::KEPT_PLACES;

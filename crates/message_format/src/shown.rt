@@ -2,12 +2,12 @@
 
 ghost use Rattle.std.specs.Prelude.{◌≡◌};
 
-// The text of `#` in a branch.
+/// The text of `#` in a branch.
 #[derive(Drop)]
-pub(crate) enum Shown<'s> {
-    // As it is given.
+pub enum Shown<'s> {
+    /// As it is given.
     Given(&'s [u8]),
-    // Of a number less an offset.
+    /// Of a number less an offset.
     Less(Vec<u8>),
 }
 

@@ -1,51 +1,27 @@
-//! A walk over the branches of an argument.
+//! Walks over the branches of an argument in a list of parts.
 
-ghost use Rattle.std.specs.Prelude.{◌≡◌, ◌≤◌, ◌↔◌, length, IsTrue, IfOk, IfErr, IfSome};
-ghost use Rattle.message_pattern.specs.PatternParts.{Selector as SpecSelector, parts_view, selector_view, branches_of};
-ghost use Rattle.message_format.specs.FormatBranches.{behind_end};
+ghost use Rattle.std.specs.Prelude.{◌≡◌, ◌≤◌, ◌↔◌, length, IsTrue, IfOk, IfSome};
+ghost use Rattle.message_pattern.specs.PatternParts.{parts_view, branches_of};
+ghost use Rattle.message_format.specs.FormatBranches.{behind_end, is_keyword, branch_of_keyword, branch_or_other};
+ghost use Rattle.message_format.specs.FormatParts.{IsFirst};
 ghost use Rattle.message_format.specs.Inner.FormatViews.{any_parts};
-ghost use Rattle.message_format.specs.Inner.FormatWalks.{IsFirst, ArePassed};
 
+use crate::source::{Chooser, Found, Seen};
 use message_pattern::{Part, Piece, Selector};
+use std::convert::Infallible;
 
-// What chooses a branch by its selector.
-pub(crate) trait Chooser {
-    // Why a selector isn't compared.
-    type Stop;
-
-    ghost IsReady: { Self → Type 0 };
-
-    ghost IsChosen: { Self → SpecSelector → Type 0 };
-
-    // Whether the selector is chosen.
-    fn chooses(&self, selector: Selector<'_>) -> Result<bool, Self::Stop>
-        requires { IsReady self.now }
-        ensures { IfOk result (λ chosen. IsTrue chosen ↔ IsChosen self.now (selector_view selector.entry)) };
-}
-
-// What is seen of the branches: one of them, if it is there, and the parts from which the end of the
-// argument is sought: what follows it is the same as from all parts on.
-#[derive(Clone, Copy)]
-pub(crate) struct Seen<'s, 'p> {
-    pub(crate) branch: Option<&'s [Part<'p>]>,
-    pub(crate) left: &'s [Part<'p>],
-}
-
-// The first branch that is chosen; the error is why a selector isn't compared, and the parts from it
-// on: no branch before them is chosen.
+// The first branch that is chosen; the error is why a selector isn't compared.
 #[inline(always)]
 pub(crate) fn first_chosen<'s, 'p, C: Chooser>(
     chooser: &C,
     depth: usize,
     parts: &'s [Part<'p>],
-) -> Result<Seen<'s, 'p>, (C::Stop, &'s [Part<'p>])>
+) -> Result<Seen<&'s [Part<'p>]>, C::Stop>
     requires { C.IsReady chooser.now }
     ensures first { IfOk result (λ seen. IsFirst (C.IsChosen chooser.now) (branches_of depth (parts_view parts.now)) (any_parts seen.branch)) }
     ensures left { IfOk result (λ seen. behind_end depth (parts_view seen.left.now) ≡ behind_end depth (parts_view parts.now)) }
     ensures shorter { IfOk result (λ seen. IfSome seen.branch (λ x. length x.now ≤ length parts.now)) }
     ensures fewer { IfOk result (λ seen. length seen.left.now ≤ length parts.now) }
-    ensures passed { IfErr result (λ stop. ArePassed (C.IsChosen chooser.now) depth (parts_view parts.now) (parts_view stop.1.now)) }
-    ensures unread { IfErr result (λ stop. length stop.1.now ≤ length parts.now) }
 {
     let mut left = parts;
     while let [part, rest @ ..] = left {
@@ -55,7 +31,7 @@ pub(crate) fn first_chosen<'s, 'p, C: Chooser>(
             };
             let chosen = match chooser.chooses(selector) {
                 Ok(chosen) => chosen,
-                Err(stop) => return Err((stop, left)),
+                Err(stop) => return Err(stop),
             };
             if chosen {
                 return Ok(Seen {
@@ -67,4 +43,66 @@ pub(crate) fn first_chosen<'s, 'p, C: Chooser>(
         left = rest;
     }
     Ok(Seen { branch: None, left })
+}
+
+// A keyword, which chooses a branch of its own.
+#[derive(Clone, Copy)]
+struct Word<'s>(&'s [u8]);
+
+impl<'s> Chooser for Word<'s> {
+    type Stop = Infallible;
+
+    ghost IsReady = { λ _. Unit {0} };
+
+    ghost IsChosen = { λ keyword selector. IsTrue (is_keyword keyword.0.now selector) };
+
+    #[inline(always)]
+    fn chooses(&self, selector: Selector<'_>) -> Result<bool, Infallible> {
+        match selector {
+            Selector::Exactly(_) => Ok(false),
+            Selector::Keyword(word) => Ok(word == self.0),
+        }
+    }
+}
+
+// The first branch of a keyword.
+#[inline(always)]
+fn branch_of_keyword<'s, 'p>(
+    word: &[u8],
+    depth: usize,
+    parts: &'s [Part<'p>],
+) -> Seen<&'s [Part<'p>]>
+    ensures branch { any_parts result.branch ≡ branch_of_keyword word.now (branches_of depth (parts_view parts.now)) }
+    ensures left { behind_end depth (parts_view result.left.now) ≡ behind_end depth (parts_view parts.now) }
+    ensures shorter { IfSome result.branch (λ x. length x.now ≤ length parts.now) }
+    ensures fewer { length result.left.now ≤ length parts.now }
+{
+    match first_chosen(&Word(word), depth, parts) {
+        Ok(seen) => seen,
+        Err(never) => match never {},
+    }
+}
+
+// The branch of a keyword, or of `other` if there is none.
+pub(crate) fn branch_or_other<'s, 'p>(
+    word: &[u8],
+    depth: usize,
+    parts: &'s [Part<'p>],
+) -> Found<&'s [Part<'p>]>
+    ensures branch { parts_view result.branch.now ≡ branch_or_other word.now (branches_of depth (parts_view parts.now)) }
+    ensures left { behind_end depth (parts_view result.left.now) ≡ behind_end depth (parts_view parts.now) }
+    ensures shorter { length result.branch.now ≤ length parts.now }
+    ensures fewer { length result.left.now ≤ length parts.now }
+{
+    let Seen { branch, left } = branch_of_keyword(word, depth, parts);
+    if let Some(branch) = branch {
+        return Found { branch, left };
+    }
+    if let Some(branch) = branch_of_keyword(b"other", depth, parts).branch {
+        return Found { branch, left };
+    }
+    Found {
+        branch: &parts[parts.len()..],
+        left,
+    }
 }

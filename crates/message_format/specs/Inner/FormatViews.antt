@@ -1,5 +1,5 @@
 -- What private functions return, without where it lies in memory.
-use Rattle.std.specs.Prelude.{◌≡◌, ◌≤◌, ◌<◌, ◌<ℤ◌, ◌≤ℤ◌, ℤ, pos, neg_ℤ, ℕ, List, Vec, length, Option, Some, None, Result, Ok, Err}
+use Rattle.std.specs.Prelude.{◌≡◌, ◌≤◌, ◌<◌, ◌<ℤ◌, ◌≤ℤ◌, ℤ, pos, neg_ℤ, ℕ, List, Vec, drop, length, Option, Some, None, option_map, Result, Ok, Err}
 use Rattle.std.specs.Borrow.{Bor}
 use Rattle.std.specs.declared.alloc.Global.{Global}
 use Rattle.fixed_decimal.specs.Written.{CompactNumber}
@@ -8,26 +8,27 @@ use Rattle.fixed_decimal.specs.declared.error.DecimalError.TheVariants as number
 use Rattle.message_pattern.specs.declared.part.Part as parts
 use Rattle.message_pattern.specs.PatternParts.{Part, parts_view}
 use Rattle.message_format.specs.declared.arguments.Value as values
-use Rattle.message_format.specs.declared.branches.Found as found
+use Rattle.message_format.specs.declared.source.Found as found
 use Rattle.message_format.specs.declared.error.ArgumentFault.TheVariants.{NotANumber, OverLimit}
 use Rattle.message_format.specs.declared.error.FormatError.{FormatError}
 use Rattle.message_format.specs.declared.error.FormatError.TheVariants as error
 use Rattle.message_format.specs.declared.steps.Rules as rules
 use Rattle.message_format.specs.declared.shown.Shown as shown
+use Rattle.message_format.specs.declared.saying.Next as next
 use Rattle.message_format.specs.declared.shown.Shown.TheVariants as shows
 use Rattle.message_format.specs.FormatArguments.{Argument, Value, value_view}
-use Rattle.message_format.specs.FormatBranches.{behind_end}
+use Rattle.message_format.specs.FormatParts.{AreLeftOf}
 use Rattle.message_format.specs.FormatNumbers.{digit_of}
 use Rattle.message_format.specs.FormatSteps.{Step, Prints, Chooses, Fails, TwoRules}
 use Rattle.message_format.specs.FormatMeaning.{PatternOutcome, Said, Faulty, Says}
+use Rattle.message_format.specs.FormatWalk.{GoesOn, GoesOnBehind}
 
 abbrev pub any_value : Option values.Value → Option Value
 any_value None = None
 any_value (Some value) = Some (value_view value)
 
 abbrev pub any_parts : Option (Bor (List parts.Part)) → Option (List Part)
-any_parts None = None
-any_parts (Some ps) = Some (parts_view ps.now)
+any_parts found = option_map (λ (ps : Bor (List parts.Part)). parts_view ps.now) found
 
 -- the text of `#`
 abbrev pub shown_view : shown.Shown → List ℕ
@@ -35,22 +36,26 @@ shown_view (shows.Given given) = given.now
 shown_view (shows.Less less) = less.items
 
 -- the text of `#`, and the branch that is chosen
-abbrev pub Choice : Type 0
-Choice = shown.Shown × found.Found
+abbrev pub Choice : Type 0 → Type 0
+Choice P = shown.Shown × found.Found P
 
-abbrev pub step_view : Choice → Step
-step_view c = Chooses (shown_view c.0) (parts_view c.1.branch.now)
+abbrev pub step_view : {P : Type 0} → (P → List Part) → Choice P → Step
+step_view parts c = Chooses (shown_view c.0) (parts c.1.branch)
+
+-- an error is a fault, which meets the relation of steps, or memory ran out
+abbrev pub GivesFault : (Step → Type 0) → FormatError → Type 0
+GivesFault IsStep (error.Argument fault name) = IsStep (Fails fault name.now)
+GivesFault IsStep error.Memory = Unit {0}
 
 -- what a private call returns meets the relation of steps, unless memory ran out
-abbrev pub GivesStep : (Step → Type 0) → Result Choice FormatError → Type 0
-GivesStep IsStep (Ok c) = IsStep (step_view c)
-GivesStep IsStep (Err (error.Argument fault name)) = IsStep (Fails fault name.now)
-GivesStep IsStep (Err error.Memory) = Unit {0}
+abbrev pub GivesStep : {P : Type 0} → (P → List Part) → (Step → Type 0) → Result (Choice P) FormatError → Type 0
+GivesStep parts IsStep (Ok c) = IsStep (step_view parts c)
+GivesStep parts IsStep (Err f) = GivesFault IsStep f
 
 -- the same of a call that returns a text to print
 abbrev pub GivesText : (Step → Type 0) → Result (Bor (List ℕ)) FormatError → Type 0
 GivesText IsStep (Ok text) = IsStep (Prints text.now)
-GivesText IsStep (Err f) = GivesStep IsStep (Err f)
+GivesText IsStep (Err f) = GivesFault IsStep f
 
 -- what an error does, or none if memory ran out
 abbrev pub fault_step : FormatError → Option Step
@@ -63,26 +68,39 @@ number_step name number.Syntax = Some (Fails NotANumber name)
 number_step name number.Limit = Some (Fails OverLimit name)
 number_step name number.Memory = None
 
--- a branch that is chosen is no longer than the parts that it is chosen from, the parts that are left
--- neither; and behind the end of the argument the same parts follow these
-pub record IsWithin (depth : ℕ) (ps branch left : List parts.Part) : Type 0 where
-  pub shorter : length branch ≤ length ps
-  pub fewer : length left ≤ length ps
-  pub behind : behind_end depth (parts_view left) ≡ behind_end depth (parts_view ps)
+-- a branch that is chosen, and the parts that are left of its argument
+pub record IsWithin (ps branch others : List Part) : Type 0 where
+  pub shorter : length branch ≤ length (drop 1 ps)
+  pub left : AreLeftOf ps others
 
-abbrev pub ChoosesWithin : ℕ → List parts.Part → Result Choice FormatError → Type 0
-ChoosesWithin depth ps (Ok c) = IsWithin depth ps c.1.branch.now c.1.left.now
-ChoosesWithin depth ps (Err f) = Unit {0}
+abbrev pub ChoosesWithin : {P : Type 0} → (P → List Part) → List Part → Result (Choice P) FormatError → Type 0
+ChoosesWithin parts ps (Ok c) = IsWithin ps (parts c.1.branch) (parts c.1.left)
+ChoosesWithin parts ps (Err f) = Unit {0}
 
 -- the rules, as contracts see them
 abbrev pub two_rules : rules.Rules → TwoRules
 two_rules r = record { cardinal = r.cardinal.now; ordinal = r.ordinal.now }
 
--- what a private call returns, with the text before and after it: the outcome, or out of memory
-abbrev pub GivesOutcome : List Argument → TwoRules → List ℕ → List Part → List ℕ → List ℕ → Result (Unit {0}) FormatError → Type 0
-GivesOutcome arguments rules hash parts old new (Ok x) = Says arguments rules hash old parts (Said new)
-GivesOutcome arguments rules hash parts old new (Err (error.Argument fault name)) = Says arguments rules hash old parts (Faulty fault name.now)
-GivesOutcome arguments rules hash parts old new (Err error.Memory) = Unit {0}
+-- what an error says of parts, or nothing if memory ran out
+abbrev pub IsFaultOf : List Argument → TwoRules → List ℕ → List Part → List ℕ → FormatError → Type 0
+IsFaultOf arguments rules hash parts old (error.Argument fault name) = Says arguments rules hash old parts (Faulty fault name.now)
+IsFaultOf arguments rules hash parts old error.Memory = Unit {0}
+
+-- what a call returns, with the text before and after it: the outcome, or out of memory
+abbrev pub GivesOutcome : {F : Type 0} → (F → FormatError) → List Argument → TwoRules → List ℕ → List Part → List ℕ → List ℕ → Result (Unit {0}) F → Type 0
+GivesOutcome error arguments rules hash parts old new (Ok x) = Says arguments rules hash old parts (Said new)
+GivesOutcome error arguments rules hash parts old new (Err f) = IsFaultOf arguments rules hash parts old (error f)
+
+-- how the parts go on behind a part: by way of a branch, or not
+abbrev pub GoesTo : {P : Type 0} → (P → List Part) → List Argument → TwoRules → List ℕ → List Part → List ℕ → List ℕ → List Part → Option (shown.Shown × P) → Type 0
+GoesTo parts arguments rules hash ps old new rest None = GoesOn arguments rules hash old new ps rest
+GoesTo parts arguments rules hash ps old new rest (Some b) = GoesOnBehind arguments rules hash (shown_view b.0) old new ps (parts b.1) rest
+
+-- what a step returns: how the parts go on, that they end, or a fault
+abbrev pub StepsTo : {P F : Type 0} → (P → List Part) → (F → FormatError) → List Argument → TwoRules → List ℕ → List Part → List ℕ → List ℕ → Result (Option (next.Next P)) F → Type 0
+StepsTo parts error arguments rules hash ps old new (Ok None) = Says arguments rules hash old ps (Said new)
+StepsTo parts error arguments rules hash ps old new (Ok (Some n)) = GoesTo parts arguments rules hash ps old new (parts n.rest) n.branch
+StepsTo parts error arguments rules hash ps old new (Err f) = IsFaultOf arguments rules hash ps old (error f)
 
 -- the outcome that a result has, or none if memory ran out
 abbrev pub outcome_of : Result (Vec ℕ Global) FormatError → Option PatternOutcome

@@ -2,6 +2,8 @@
 
 use message_format::{Argument, FormatError, Rules, Value, format};
 use message_pattern::Pattern;
+use packed_format::format_packed;
+use packed_pattern::{PackedPattern, pack};
 use row_calls::call::Call;
 use std::fmt::Write;
 
@@ -60,14 +62,60 @@ fn add_texts<'a>(call: &mut Call, arguments: &mut Vec<Argument<'a>>, pairs: &'a 
     }
 }
 
-// Prints what a pattern says.
+// Prints what a pattern says, if it says the same when it is packed.
 fn print_said(
     call: &mut Call,
     pattern: &Pattern<'_>,
     arguments: &[Argument<'_>],
     rules: &Rules<'_, '_>,
 ) {
-    match format(call.alloc, pattern, arguments, rules) {
+    let said = format(call.alloc, pattern, arguments, rules);
+    match pack(call.alloc, pattern) {
+        Ok(bytes) => {
+            if !is_said_packed(call, &bytes, arguments, rules, &said) {
+                call.print("otherwise when packed: ");
+            }
+        }
+        Err(error) => call.print_error(&error),
+    }
+    print_outcome(call, said);
+}
+
+// Whether a block says this outcome.
+fn is_said_packed(
+    call: &Call,
+    bytes: &[u8],
+    arguments: &[Argument<'_>],
+    rules: &Rules<'_, '_>,
+    said: &Result<Vec<u8>, FormatError<'_>>,
+) -> bool {
+    match PackedPattern::parse_bytes(bytes) {
+        Ok(pattern) => are_same(
+            said,
+            &format_packed(call.alloc, &pattern, arguments, rules),
+        ),
+        Err(_) => false,
+    }
+}
+
+// Whether two outcomes are the same.
+fn are_same(
+    said: &Result<Vec<u8>, FormatError<'_>>,
+    other: &Result<Vec<u8>, FormatError<'_>>,
+) -> bool {
+    match (said, other) {
+        (Ok(said), Ok(other)) => said.as_slice() == other.as_slice(),
+        (Err(FormatError::Argument(a, name)), Err(FormatError::Argument(b, other))) => {
+            a == b && name == other
+        }
+        (Err(FormatError::Memory), Err(FormatError::Memory)) => true,
+        _ => false,
+    }
+}
+
+// Prints an outcome.
+fn print_outcome(call: &mut Call, outcome: Result<Vec<u8>, FormatError<'_>>) {
+    match outcome {
         Ok(said) => call.print_quoted(shown(&said)),
         Err(FormatError::Argument(fault, name)) => {
             let _ = write!(call, "error {fault:?} ");

@@ -1,12 +1,12 @@
-use Rattle.std.proofs.Common.{subst}
+use Rattle.std.proofs.Common.{subst, Ok, Err}
+use Rattle.std.specs.Prelude.{option_map, IfOk}
 use Rattle.fixed_decimal.specs.Written.{CompactNumber}
-use Rattle.message_pattern.specs.PatternParts.{parts_view, branches_of}
 use Rattle.message_format.specs.FormatBranches.{Equals}
-use Rattle.message_format.specs.Inner.FormatViews.{any_parts}
-use Rattle.message_format.specs.Inner.FormatWalks.{IsFirst}
+use Rattle.message_format.specs.FormatParts.{branches_at, IsFirst}
 use Rattle.message_format.proofs.branches.branch_of_value.Goals as goal
 
-pub returns-in-Ok-clause-branch : goal.returns-in-Ok-clause-branch
-returns-in-Ok-clause-branch c =
-    subst (λ (x : CompactNumber). IsFirst (λ s. Equals x s) (branches_of c.args.depth (parts_view c.args.parts.now)) (any_parts c.in-Ok.seen.branch)) c.of.ensures.number
-    c.in-Ok.ensures.first
+pub returns-clause-branch : goal.returns-clause-branch
+returns-clause-branch g c =
+    subst
+    (λ (x : CompactNumber). IfOk c.first_chosen.result (λ seen. IsFirst (λ s. Equals x s) (branches_at (g.P.MessageParts.parts c.args.argument)) (option_map g.P.MessageParts.parts seen.branch)))
+    c.of.ensures.number c.first_chosen.ensures.first

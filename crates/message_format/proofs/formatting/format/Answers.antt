@@ -12,17 +12,17 @@ returns-in-Err c =
     exactly (record { unsigned = c.texts_write_one_number.ensures.unsigned; compact = c.texts_write_one_number.ensures.compact }) (arguments_view c.args.arguments.now) (two_rules c.args.rules.now) c.args.pattern.now _
     (λ o e. cc)
 
-pub returns-in_err-message : goal.returns-in_err-message
-returns-in_err-message c =
+pub returns-in_err-say : goal.returns-in_err-say
+returns-in_err-say c =
     let p = err_from_is_err_and c.from_residual.result c.from_residual.ensures.1 in
     rw (p.1, p.2)
-    (exactly (record { unsigned = c.texts_write_one_number.ensures.unsigned; compact = c.texts_write_one_number.ensures.compact }) (arguments_view c.args.arguments.now) (two_rules c.args.rules.now) c.args.pattern.now (outcome_of (Err c.in_err-message.field-0.0))
+    (exactly (record { unsigned = c.texts_write_one_number.ensures.unsigned; compact = c.texts_write_one_number.ensures.compact }) (arguments_view c.args.arguments.now) (two_rules c.args.rules.now) c.args.pattern.now (outcome_of (Err c.in_err-say.field-0.0))
     (λ o e.
-    whole_error (arguments_view c.args.arguments.now) (two_rules c.args.rules.now) (parts_view c.parts.result.now) c.args.pattern.now c.in-Ok.said.items c.message.new.said.items c.in_err-message.field-0.0 o
-    c.parts.ensures c.in-Ok.ensures.items c.in_err-message.ensures e))
+    whole_error (arguments_view c.args.arguments.now) (two_rules c.args.rules.now) (parts_view c.parts.result.now) c.args.pattern.now c.in-Ok.said.items c.say.new.said.items c.in_err-say.field-0.0 o
+    c.parts.ensures c.in-Ok.ensures.items c.in_err-say.ensures e))
 
 pub returns : goal.returns
 returns c =
-    let says = rw (c.in-Ok.ensures.items, c.parts.ensures) at c.in_ok-message.ensures in
-    exactly (record { unsigned = c.texts_write_one_number.ensures.unsigned; compact = c.texts_write_one_number.ensures.compact }) (arguments_view c.args.arguments.now) (two_rules c.args.rules.now) c.args.pattern.now (Some (Said c.message.new.said.items))
-    (λ o e. whole (arguments_view c.args.arguments.now) (two_rules c.args.rules.now) c.args.pattern.now (Said c.message.new.said.items) o says e)
+    let says = rw (c.in-Ok.ensures.items, c.parts.ensures) at c.in_ok-say.ensures in
+    exactly (record { unsigned = c.texts_write_one_number.ensures.unsigned; compact = c.texts_write_one_number.ensures.compact }) (arguments_view c.args.arguments.now) (two_rules c.args.rules.now) c.args.pattern.now (Some (Said c.say.new.said.items))
+    (λ o e. whole (arguments_view c.args.arguments.now) (two_rules c.args.rules.now) c.args.pattern.now (Said c.say.new.said.items) o says e)

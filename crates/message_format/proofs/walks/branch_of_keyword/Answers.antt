@@ -1,7 +1,7 @@
 use Rattle.message_pattern.specs.PatternParts.{parts_view, branches_of}
 use Rattle.message_format.specs.Inner.FormatViews.{any_parts}
 use Rattle.message_format.proofs.Passes.{of_keyword}
-use Rattle.message_format.proofs.branches.branch_of_keyword.Goals as goal
+use Rattle.message_format.proofs.walks.branch_of_keyword.Goals as goal
 
 pub returns-clause-branch : goal.returns-clause-branch
 returns-clause-branch c =

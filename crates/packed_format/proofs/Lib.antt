@@ -1,0 +1,5 @@
+pub mod BehindParts
+pub mod FirstNumbers
+pub mod PlacesRead
+pub mod Walked
+pub mod Begun

@@ -1,0 +1,67 @@
+use Rattle.std.proofs.Common.{◌≡◌, ◌∙◌, ◌+◌, ◌∷◌, length, drop, refl, sym, ap, arith, true, false, bytes_eq, List, Some, None}
+use Rattle.message_pattern.specs.PatternParts.{Branching, branches_of, selector_view}
+use Rattle.message_format.specs.FormatBranches.{branch_of_keyword, is_keyword}
+use Rattle.packed_format.proofs.BehindParts.{no_place}
+use Rattle.packed_format.proofs.PlacesRead.{within}
+use Rattle.packed_format.proofs.Walked.{deeper_there, selector_there, none_there, no_keyword}
+use Rattle.packed_format.proofs.branches.branch_of_keyword.Goals.{then-part-depth+in-Branch+in-Keyword+else-eq, then-part-depth+in-Branch+in_default-selector, else-part-depth}
+use Rattle.packed_format.proofs.branches.branch_of_keyword.Goals as goal
+
+pub returns-in_default-piece : goal.returns-in_default-piece
+returns-in_default-piece c = record {
+  branch = sym (ap (branch_of_keyword c.args.word.now)
+      (none_there c.in-Some.placed c.args.pattern.now c.loop-placed.at c.part-part.result c.in-Some.ensures c.part-part.ensures c.args.depth c.if-part-depth.true c.in_default-piece.not-Branch))
+      ∙ c.loop-placed.invariant.same;
+  behind = tt;
+}
+
+pub overflow_add-result : goal.overflow_add-result
+overflow_add-result c =
+    let there = within c.in-Some.placed c.args.pattern.now c.loop-placed.at c.in-Some.ensures in
+    omega (arith, there, c.requires.few)
+
+pub returns-then-eq-clause-branch : goal.returns-then-eq-clause-branch
+returns-then-eq-clause-branch c =
+    let bs = branches_of c.args.depth (drop (c.loop-placed.at + 1) c.args.pattern.now) in
+    let there = selector_there c.in-Some.placed c.args.pattern.now c.loop-placed.at c.part-part.result c.in-Some.ensures c.part-part.ensures c.args.depth c.in-Branch.selector c.if-part-depth.true c.in-Branch.is in
+    let same : bytes_eq c.in-Keyword.other.now c.args.word.now ≡ true = sym c.eq.ensures ∙ c.if-eq.true in
+    let found : Some (drop (c.loop-placed.at + 1) c.args.pattern.now)
+    ≡ branch_of_keyword c.args.word.now (record { selector = selector_view c.in-Branch.selector; parts = drop (c.loop-placed.at + 1) c.args.pattern.now } ∷ bs) = rw (c.in-Keyword.is, same) refl in
+    found ∙ (sym (ap (branch_of_keyword c.args.word.now) there) ∙ c.loop-placed.invariant.same)
+
+pub next_selector-at-requires : goal.next_selector-at-requires
+next_selector-at-requires c =
+    let there = within c.in-Some.placed c.args.pattern.now c.loop-placed.at c.in-Some.ensures in
+    omega (arith, there, c.requires.few)
+
+pub loop-placed-smaller : goal.loop-placed-smaller
+loop-placed-smaller c =
+    let there = within c.in-Some.placed c.args.pattern.now c.loop-placed.at c.in-Some.ensures in
+    omega (arith, there, c.next_selector-at.ensures.behind)
+
+pub loop-placed-preserved : goal.loop-placed-preserved
+loop-placed-preserved c =
+    let word = c.args.word.now in
+    let bs = branches_of c.args.depth (drop (c.loop-placed.at + 1) c.args.pattern.now) in
+    let placed = c.in-Some.placed in
+    let next = c.next_selector-at.ensures.branches c.args.pattern.now c.in-Some.ensures in
+    let passed : branch_of_keyword word (branches_of c.args.depth (drop c.loop-placed.at c.args.pattern.now)) ≡ branch_of_keyword word bs = elim c.if-part-depth.branch [
+      | then-part-depth+in-Branch+in-Keyword+else-eq w ↦
+          let there = selector_there placed c.args.pattern.now c.loop-placed.at c.part-part.result c.in-Some.ensures c.part-part.ensures c.args.depth w.in-Branch.selector w.if-part-depth.true w.in-Branch.is in
+          let other : bytes_eq w.in-Keyword.other.now word ≡ false = sym w.eq.ensures ∙ w.if-eq.false in
+          ap (branch_of_keyword word) there ∙ rw (w.in-Keyword.is, other) refl
+      | then-part-depth+in-Branch+in_default-selector w ↦
+          let there = selector_there placed c.args.pattern.now c.loop-placed.at c.part-part.result c.in-Some.ensures c.part-part.ensures c.args.depth w.in-Branch.selector w.if-part-depth.true w.in-Branch.is in
+          let other : is_keyword word (selector_view w.in-Branch.selector) ≡ false = no_keyword word w.in-Branch.selector w.in_default-selector.not-Keyword in
+          ap (branch_of_keyword word) there ∙ rw other refl
+      | else-part-depth w ↦
+          ap (branch_of_keyword word) (deeper_there placed c.args.pattern.now c.loop-placed.at c.part-part.result c.in-Some.ensures c.part-part.ensures c.args.depth w.if-part-depth.false)
+    ] in
+    record {
+      same = ap (branch_of_keyword word) next ∙ (sym passed ∙ c.loop-placed.invariant.same);
+      behind = omega (arith, c.loop-placed.invariant.behind, c.next_selector-at.ensures.behind);
+    }
+
+pub returns-clause-branch : goal.returns-clause-branch
+returns-clause-branch c =
+    sym (ap (λ ps. branch_of_keyword c.args.word.now (branches_of c.args.depth ps)) (no_place c.args.pattern.now c.loop-placed.at c.in_default.ensures)) ∙ c.loop-placed.invariant.same

@@ -1,0 +1,98 @@
+use Rattle.std.proofs.Common.{◌≡◌, ◌∙◌, ◌+◌, ◌<◌, ℕ, List, drop, length, refl, sym, ap, subst, inl, inr, arith, true, false, Option, Some, None}
+use Rattle.std.specs.Prelude.{IfSome}
+use Rattle.message_pattern.specs.PatternParts.{Part, Branching, branches_of, selector_view}
+use Rattle.message_format.specs.FormatParts.{IsFirst}
+use Rattle.packed_format.proofs.BehindParts.{no_place}
+use Rattle.packed_format.proofs.FirstNumbers.{FirstFrom, left_from, first_behind, next_behind, further, fewer_left}
+use Rattle.packed_format.proofs.PlacesRead.{within}
+use Rattle.packed_format.proofs.Walked.{deeper_there, selector_there, none_there}
+use Rattle.packed_format.proofs.branches.first_chosen.Goals.{then-part-depth+in-Branch+in-Ok+else-chosen, else-part-depth}
+use Rattle.packed_format.proofs.branches.first_chosen.Goals as goal
+
+pub loop-next-init : goal.loop-next-init
+loop-next-init g c =
+    let P = g.C.Chooser.IsChosen c.args.chooser.now in
+    let depth = c.part-depth.result.depth in
+    let next = c.next_number-next.ensures c.args.pattern.now c.requires.placed in
+    record {
+      passed = λ found k. first_behind P c.requires.numbers depth c.args.pattern.now c.args.index c.next_number-next.result found next k;
+      behind = next_behind depth c.args.pattern.now c.args.index c.next_number-next.result next;
+    }
+
+pub returns-in_default-placed-clause-first : goal.returns-in_default-placed-clause-first
+returns-in_default-placed-clause-first g c =
+    let P = g.C.Chooser.IsChosen c.args.chooser.now in
+    let ps = c.args.pattern.now in
+    let depth = c.part-depth.result.depth in
+    let none = no_place ps c.in-Some.at c.in_default-placed.ensures in
+    let here = subst (λ (l : List Part). IsFirst P (branches_of depth l) None) (sym none) refl in
+    subst (λ (d : ℕ). IsFirst P (branches_of d (drop (c.args.index + 1) ps)) None) (ap (λ (p : Part). p.depth) c.part-depth.ensures)
+    (c.loop-next.invariant.passed None (rw c.in-Some.is here))
+
+pub returns-in_default-piece : goal.returns-in_default-piece
+returns-in_default-piece g c =
+    let P = g.C.Chooser.IsChosen c.args.chooser.now in
+    let ps = c.args.pattern.now in
+    let depth = c.part-depth.result.depth in
+    let none = none_there c.in-Some-placed.placed ps c.in-Some.at c.part-part.result c.in-Some-placed.ensures c.part-part.ensures depth c.if-part-depth.true c.in_default-piece.not-Branch in
+    let here = subst (λ (bs : List Branching). IsFirst P bs None) (sym none) refl in
+    record {
+      first = subst (λ (d : ℕ). IsFirst P (branches_of d (drop (c.args.index + 1) ps)) None) (ap (λ (p : Part). p.depth) c.part-depth.ensures)
+          (c.loop-next.invariant.passed None (rw c.in-Some.is here));
+      behind = tt;
+    }
+
+pub overflow_add-result : goal.overflow_add-result
+overflow_add-result g c =
+    let there = within c.in-Some-placed.placed c.args.pattern.now c.in-Some.at c.in-Some-placed.ensures in
+    omega (arith, there, c.requires.few)
+
+pub returns-then-chosen-clause-first : goal.returns-then-chosen-clause-first
+returns-then-chosen-clause-first g c =
+    let P = g.C.Chooser.IsChosen c.args.chooser.now in
+    let ps = c.args.pattern.now in
+    let depth = c.part-depth.result.depth in
+    let found = drop (c.in-Some.at + 1) ps in
+    let there = selector_there c.in-Some-placed.placed ps c.in-Some.at c.part-part.result c.in-Some-placed.ensures c.part-part.ensures depth c.in-Branch.selector c.if-part-depth.true c.in-Branch.is in
+    let here = subst (λ (bs : List Branching). IsFirst P bs (Some found)) (sym there) (inl (c.in-Ok.ensures.0 c.if-chosen.true, refl)) in
+    subst (λ (d : ℕ). IsFirst P (branches_of d (drop (c.args.index + 1) ps)) (Some found)) (ap (λ (p : Part). p.depth) c.part-depth.ensures)
+    (c.loop-next.invariant.passed (Some found) (rw c.in-Some.is here))
+
+pub next_number-next-requires-in-Some : goal.next_number-next-requires-in-Some
+next_number-next-requires-in-Some g c =
+    let there = within c.in-Some-placed.placed c.args.pattern.now c.in-Some.at c.in-Some-placed.ensures in
+    omega (arith, there, c.requires.few)
+
+pub loop-next-smaller : goal.loop-next-smaller
+loop-next-smaller g c =
+    let ps = c.args.pattern.now in
+    let there = within c.in-Some-placed.placed ps c.in-Some.at c.in-Some-placed.ensures in
+    let next = c.next_number-next-in-Some.ensures ps c.in-Some-placed.ensures in
+    let less = fewer_left (length ps) c.in-Some.at c.next_number-next-in-Some.result there (next_behind c.part-depth.result.depth ps c.in-Some.at c.next_number-next-in-Some.result next) in
+    subst (λ (n : Option ℕ). left_from (length ps) c.next_number-next-in-Some.result < left_from (length ps) n) (sym c.in-Some.is) less
+
+pub loop-next-preserved : goal.loop-next-preserved
+loop-next-preserved g c =
+    let P = g.C.Chooser.IsChosen c.args.chooser.now in
+    let ps = c.args.pattern.now in
+    let depth = c.part-depth.result.depth in
+    let at = c.in-Some.at in
+    let placed = c.in-Some-placed.placed in
+    let next = c.next_number-next-in-Some.ensures ps c.in-Some-placed.ensures in
+    let passed : (found : Option (List Part)) → IsFirst P (branches_of depth (drop (at + 1) ps)) found → IsFirst P (branches_of depth (drop at ps)) found = λ found k. elim c.if-part-depth.branch [
+      | then-part-depth+in-Branch+in-Ok+else-chosen w ↦
+          let there = selector_there placed ps at c.part-part.result c.in-Some-placed.ensures c.part-part.ensures depth w.in-Branch.selector w.if-part-depth.true w.in-Branch.is in
+          let other : P (selector_view w.in-Branch.selector) → ⊥ = λ e.
+          let yes : w.in-Ok.chosen ≡ true = w.in-Ok.ensures.1 e in
+          let not : w.in-Ok.chosen ≡ false = w.if-chosen.false in
+          cc
+          in
+          subst (λ (bs : List Branching). IsFirst P bs found) (sym there) (inr (other, k))
+      | else-part-depth w ↦
+          subst (λ (bs : List Branching). IsFirst P bs found) (sym (deeper_there placed ps at c.part-part.result c.in-Some-placed.ensures c.part-part.ensures depth w.if-part-depth.false)) k
+    ] in
+    let behind : c.args.index < at = rw c.in-Some.is at c.loop-next.invariant.behind in
+    record {
+      passed = λ found k. c.loop-next.invariant.passed found (rw c.in-Some.is (passed found (first_behind P c.requires.numbers depth ps at c.next_number-next-in-Some.result found next k)));
+      behind = further c.args.index at c.next_number-next-in-Some.result behind (next_behind depth ps at c.next_number-next-in-Some.result next);
+    }

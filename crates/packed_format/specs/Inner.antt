@@ -1,0 +1,2 @@
+-- No definitions of the subject: what private functions find, for private contracts.
+pub mod PackedSteps

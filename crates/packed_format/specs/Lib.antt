@@ -1,0 +1,2 @@
+-- not definitions of the subject
+pub mod Inner

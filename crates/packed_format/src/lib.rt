@@ -1,0 +1,9 @@
+//! What a packed pattern says with its arguments, read in place.
+#![tactic(auto)]
+
+mod branches;
+mod formatting;
+mod parts;
+mod steps;
+
+pub use formatting::format_packed;

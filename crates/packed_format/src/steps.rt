@@ -1,0 +1,108 @@
+//! Steps from a part of a block to what stands behind it.
+
+ghost use Rattle.std.specs.Prelude.{◌≡◌, ◌≤◌, ◌<◌, ◌+◌, ℕ, List, drop, length, slice_index};
+ghost use Rattle.plural_base.specs.Categories.{name_of};
+ghost use Rattle.message_pattern.specs.PatternParts.{Part as SpecPart, piece_view, branches_of};
+ghost use Rattle.message_pattern.specs.declared.part.ArgumentKind.TheVariants.{Plural};
+ghost use Rattle.message_format.specs.FormatBranches.{behind_end};
+ghost use Rattle.packed_pattern.specs.PartPlaces.{IsPlaced, argument_places, place_or_other};
+ghost use Rattle.packed_format.specs.Inner.PackedSteps.{AreNext, has_next_number, is_plural, parts_behind};
+
+use message_pattern::{ArgumentKind, Piece, Selector};
+use packed_pattern::{PackedPattern, PlacedPart};
+use plural_base::PluralCategory;
+
+// Where the next selector of this depth is sought, behind a part. It is behind the branch of a
+// selector.
+pub(crate) fn next_selector(index: usize, placed: &PlacedPart<'_>, depth: usize) -> usize
+    requires { index ≤ 65535 }
+    ensures branches { (parts : List SpecPart) → IsPlaced placed.now parts index → branches_of depth (drop result parts) ≡ branches_of depth (drop (index + 1) parts) }
+    ensures behind { index < result }
+    ensures few { result ≤ index + 65536 }
+{
+    let part = placed.part();
+    match part.piece {
+        Piece::Branch(_) if part.depth == depth => index + 1 + placed.place(0),
+        _ => index + 1,
+    }
+}
+
+// Whether a piece begins a plural or an ordinal.
+pub(crate) fn is_plural(piece: Piece<'_>) -> bool
+    ensures { result ≡ is_plural (piece_view piece.entry) }
+{
+    match piece {
+        Piece::Begin(ArgumentKind::Plural, _, _) => true,
+        Piece::Begin(ArgumentKind::Ordinal, _, _) => true,
+        _ => false,
+    }
+}
+
+// Whether a part has the place of the first branch by a number, or of the next.
+fn has_next_number(piece: Piece<'_>) -> bool
+    ensures { result ≡ has_next_number (piece_view piece.entry) }
+{
+    match piece {
+        Piece::Branch(Selector::Exactly(_)) => true,
+        _ => is_plural(piece),
+    }
+}
+
+// Where the next selector of this depth is sought that is a number, behind a part.
+pub(crate) fn next_number(index: usize, placed: &PlacedPart<'_>, depth: usize) -> Option<usize>
+    requires { index ≤ 65535 }
+    ensures { (parts : List SpecPart) → IsPlaced placed.now parts index → AreNext depth parts index result }
+{
+    let part = placed.part();
+    if part.depth != depth || !has_next_number(part.piece) {
+        return Some(next_selector(index, placed, depth));
+    }
+    let place = placed.place(1);
+    if place == 0 {
+        None
+    } else {
+        Some(index + place)
+    }
+}
+
+// From where on the end of an argument is sought.
+pub(crate) fn left_place(index: usize, begin: &PlacedPart<'_>) -> usize
+    requires { index ≤ 65535 }
+    ensures end { (parts : List SpecPart) → IsPlaced begin.now parts index → behind_end begin.now.part.depth (drop result parts) ≡ behind_end begin.now.part.depth (drop (index + 1) parts) }
+    ensures behind { index < result }
+{
+    match begin.part().piece {
+        Piece::Begin(_, _, _) => index + 1 + begin.place(0),
+        _ => index + 1,
+    }
+}
+
+// Where the parts from a branch on are, so many behind the part at a place. Behind all parts, if
+// there is none.
+pub(crate) fn place_behind(pattern: &PackedPattern<'_>, index: usize, place: usize) -> usize
+    requires index { index < length pattern.now }
+    requires few { index ≤ 65535 }
+    requires place { place ≤ 65535 }
+    ensures parts { drop result pattern.now ≡ parts_behind place (drop (index + 1) pattern.now) }
+    ensures behind { index < result }
+{
+    if place == 0 {
+        pattern.len()
+    } else {
+        index + 1 + place
+    }
+}
+
+// Which of the places of a plural is that of a category.
+pub(crate) fn category_index(category: PluralCategory) -> usize
+    ensures { (depth : ℕ) (rest : List SpecPart) → slice_index (argument_places Plural depth rest) result ≡ place_or_other (name_of category) depth rest }
+{
+    match category {
+        PluralCategory::Zero => 2,
+        PluralCategory::One => 3,
+        PluralCategory::Two => 4,
+        PluralCategory::Few => 5,
+        PluralCategory::Many => 6,
+        PluralCategory::Other => 7,
+    }
+}
