@@ -1,19 +1,22 @@
 //! The answer to a query of a document.
 
 ghost use Rattle.plural_commands.specs.Answer.{AnswersLookup};
-ghost use Rattle.plural_commands.specs.Input.{document_of};
+ghost use Rattle.plural_commands.specs.Input.{document_of, document_of_value};
 ghost use Rattle.plural_commands.specs.Inner.CallAnswers.{GivesText};
 ghost use Rattle.plural_commands.specs.Inner.PrivateViews.{document_view, lookup_view};
+ghost use Rattle.plural_documents.specs.Outlines.{IsHeld};
 ghost use Rattle.plural_documents.specs.Steps.{After};
+ghost use Rattle.serde_json.specs.Data.{Data};
 
 use crate::category_command::category_line;
-use crate::document::{Document, document_of};
+use crate::document::{Document, document_for, json_text};
 use crate::error::RunError;
 use crate::message_command::message_line;
 use crate::print_command::rule_lines;
 use crate::query::Lookup;
 use crate::range_command::range_line;
 use crate::select_command::element_line;
+use plural_documents::{JsonTokens, Scratch};
 use std::alloc::Global;
 use std::borrow::CowStr;
 
@@ -25,7 +28,20 @@ pub(crate) fn text_in(
 ) -> Result<CowStr<'static>, RunError>
     ensures { GivesText (After (AnswersLookup (lookup_view lookup.now)) (document_of bytes.now)) result }
 {
-    let document = document_of(alloc, bytes)?;
+    let mut scratch = Scratch::new(alloc);
+    let text = json_text(alloc, bytes, &mut scratch)?;
+    text_by(alloc, &text, lookup)
+}
+
+// The answer to a query of the document that a text writes.
+fn text_by(
+    alloc: Global,
+    text: &JsonTokens<'_>,
+    lookup: &Lookup<'_>,
+) -> Result<CowStr<'static>, RunError>
+    ensures { (held : Data) → IsHeld text.now held → GivesText (After (AnswersLookup (lookup_view lookup.now)) (document_of_value held)) result }
+{
+    let document = document_for(alloc, text, lookup)?;
     text_of(alloc, &document, lookup)
 }
 

@@ -1,60 +1,102 @@
 //! The document that an input writes, and the rules and ranges that it has for a locale.
 
-ghost use Rattle.serde_json.specs.View.{view};
-ghost use Rattle.icu_plurals.specs.DocumentJson.{document_of_json};
+ghost use Rattle.icu_plurals.specs.DocumentJson as of_json;
 ghost use Rattle.icu_plurals.specs.FiveRules.{rules_of as data_of};
-ghost use Rattle.plural_commands.specs.Input.{document_of, or_bad, ranged_for, rules_for};
+ghost use Rattle.plural_commands.specs.Input.{document_of_value, or_bad, ranged_for, rules_for};
 ghost use Rattle.plural_commands.specs.Inner.CallAnswers.{GivesValue};
-ghost use Rattle.plural_commands.specs.Inner.PrivateViews.{document_view};
-ghost use Rattle.plural_documents.specs.Steps.{or_fault};
-ghost use Rattle.plural_commands.specs.declared.error.RunError.TheVariants.{Json};
-ghost use Rattle.plural_documents.specs.Inputs.{json_of};
+ghost use Rattle.plural_commands.specs.Inner.KeptDocuments.{GivesElements, GivesJsonText, GivesServing};
+ghost use Rattle.plural_commands.specs.Inner.PrivateViews.{document_view, lookup_view};
+ghost use Rattle.plural_documents.specs.Outlines.{IsHeld};
+ghost use Rattle.serde_json.specs.Data.{Data};
 
 use crate::error::RunError;
+use crate::query::Lookup;
 use icu_plurals::provider::PluralRulesData;
 use icu_plurals::{
     JsonError, JsonProvider, PluralRuleType, PluralRules, PluralRulesOptions,
     PluralRulesWithRanges, PluralsProvider,
 };
-use plural_documents::{JsonTextError, json_value};
+use plural_documents::{JsonTextError, JsonTokens, Portion, Scratch, Sieve, provider_of_locale};
 use serde_json::Value;
 use std::alloc::Global;
 
-// A document: its JSON value, and the maps of rules and of ranges in it.
+// What a query asks for of a document: its elements, and what the maps of rules and of ranges in it
+// have for a locale.
 #[derive(Drop)]
 pub(crate) struct Document {
     pub(crate) value: Value,
     maps: JsonProvider,
 }
 
-// The document that the bytes write.
-pub(crate) fn document_of(alloc: Global, bytes: &[u8]) -> Result<Document, RunError>
-    ensures { GivesValue document_view (document_of bytes.now) result }
-{
-    let value = value_of(alloc, bytes)?;
-    let maps = maps_of(alloc, &value)?;
-    Ok(Document { value, maps })
+// Of a document the elements.
+#[derive(Clone, Copy)]
+struct ElementsSieve;
+
+impl Sieve for ElementsSieve {
+    ghost use Rattle.plural_commands.specs.Inner.KeptDocuments.{keeps};
+
+    ghost keeps = { keeps };
+
+    fn kept(&self, key: &str) -> Portion<ElementsSieve> {
+        if key == "elements" {
+            Portion::Whole
+        } else {
+            Portion::Nothing
+        }
+    }
 }
 
-// The JSON value that the bytes write.
-fn value_of(alloc: Global, bytes: &[u8]) -> Result<Value, RunError>
-    ensures { GivesValue view (or_fault Json (json_of bytes.now)) result }
+// The JSON text of the bytes.
+pub(crate) fn json_text<'a>(
+    alloc: Global,
+    bytes: &'a [u8],
+    scratch: &'a mut Scratch,
+) -> Result<JsonTokens<'a>, RunError>
+    ensures { GivesJsonText bytes.now result }
 {
-    match json_value(alloc, bytes) {
-        Ok(value) => Ok(value),
+    match JsonTokens::read(alloc, bytes, scratch) {
+        Ok(text) => Ok(text),
         Err(JsonTextError::Json) => Err(RunError::Json),
         Err(JsonTextError::Memory) => Err(RunError::Memory),
     }
 }
 
-// The maps that a JSON value means.
-fn maps_of(alloc: Global, value: &Value) -> Result<JsonProvider, RunError>
-    ensures { GivesValue (λ maps. maps) (or_bad (document_of_json (view value.now))) result }
+// What a query asks for of the document that a text writes.
+pub(crate) fn document_for(
+    alloc: Global,
+    text: &JsonTokens<'_>,
+    lookup: &Lookup<'_>,
+) -> Result<Document, RunError>
+    ensures { (held : Data) → IsHeld text.now held → GivesServing (lookup_view lookup.now) (document_of_value held) result }
 {
-    match JsonProvider::from_value(alloc, value) {
+    let maps = maps_of(alloc, text, lookup.locale())?;
+    let value = value_for(alloc, text, lookup)?;
+    Ok(Document { value, maps })
+}
+
+// What the maps of a document have for a locale.
+fn maps_of(alloc: Global, text: &JsonTokens<'_>, locale: &str) -> Result<JsonProvider, RunError>
+    ensures { (held : Data) → IsHeld text.now held → GivesValue (λ maps. maps) (or_bad (of_json.document_for locale.now held)) result }
+{
+    match provider_of_locale(alloc, text, locale) {
         Ok(maps) => Ok(maps),
         Err(JsonError::Memory) => Err(RunError::Memory),
         Err(refusal) => Err(RunError::Document(refusal)),
+    }
+}
+
+// A value with the elements of a document, if they are asked for.
+fn value_for(alloc: Global, text: &JsonTokens<'_>, lookup: &Lookup<'_>) -> Result<Value, RunError>
+    ensures { GivesElements (lookup_view lookup.now) text.now result }
+{
+    match lookup {
+        Lookup::Select(_, _, _) | Lookup::Message(_, _, _, _) => {
+            match text.outline(alloc, ElementsSieve) {
+                Ok(value) => Ok(value),
+                Err(_) => Err(RunError::Memory),
+            }
+        }
+        _ => Ok(Value::Null),
     }
 }
 

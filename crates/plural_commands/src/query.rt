@@ -3,7 +3,8 @@
 ghost use Rattle.std.specs.Prelude.{◌≡◌, ◌↔◌, Err, None, Some, map};
 ghost use Rattle.plural_commands.specs.Commands.{command_of};
 ghost use Rattle.plural_commands.specs.Inner.CallAnswers.{GivesQuery};
-ghost use Rattle.plural_commands.specs.Inner.PrivateViews.{command_view};
+ghost use Rattle.plural_commands.specs.Inner.KeptDocuments.{locale_of};
+ghost use Rattle.plural_commands.specs.Inner.PrivateViews.{command_view, lookup_view};
 ghost use Rattle.plural_commands.specs.Queries.{ReadingTakesMemory};
 
 use crate::command::{Command, command_of};
@@ -37,6 +38,21 @@ pub(crate) enum Lookup<'a> {
     Select(&'a str, PluralRuleType, CompactDecimal),
     // Locale, type, number and the number's word.
     Message(&'a str, PluralRuleType, CompactDecimal, &'a str),
+}
+
+impl<'a> Lookup<'a> {
+    // The locale that is asked for.
+    pub(crate) fn locale(&self) -> &'a str
+        ensures { result.now ≡ locale_of (lookup_view self.now) }
+    {
+        match self {
+            Lookup::Category(locale, _, _)
+            | Lookup::Range(locale, _, _, _)
+            | Lookup::Print(locale, _)
+            | Lookup::Select(locale, _, _)
+            | Lookup::Message(locale, _, _, _) => locale,
+        }
+    }
 }
 
 // The query of the words.

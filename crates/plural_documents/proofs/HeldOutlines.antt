@@ -1,7 +1,7 @@
 -- Outlines of what is held of a value, which are those of the value where nothing else is kept.
-use Rattle.std.proofs.Common.{◌≡◌, ℕ, List, Bool, true, false, Some, refl, sym, ap}
+use Rattle.std.proofs.Common.{◌≡◌, ℕ, List, Bool, true, false, Some, refl, sym, ap, ◌∙◌}
 use Rattle.std.specs.Prelude.{if◌then◌else◌}
-use Rattle.plural_documents.specs.Outlines.{is_named, named, outline, outline_members, with_member}
+use Rattle.plural_documents.specs.Outlines.{HeldText, IsHeld, is_named, named, outline, outline_members, part_by_names, with_member}
 use Rattle.plural_documents.specs.declared.outline.Portion.{Portion}
 use Rattle.plural_documents.specs.declared.outline.Portion.TheVariants as kept
 use Rattle.plural_documents.proofs.OutlinedLemmas.{some_is}
@@ -32,3 +32,9 @@ module _ {C : Type 0} (keeps : C → List ℕ → Portion C) (choice : C) (names
   outline_held (object ms) held is =
       rw (← some_is (object (outline_members named names ms)) held is)
       (ap (λ found. Some (object found)) (sym (members_held ms)))
+
+-- a text holds one value
+pub held_same : (text : HeldText) (one other : Data) → IsHeld text one → IsHeld text other → one ≡ other
+held_same text one other (whole, reads, part) (whole', reads', part') =
+    let same : whole ≡ whole' = some_is whole whole' (sym reads ∙ reads') in
+    some_is one other (sym part ∙ ap (part_by_names text.names) same ∙ part')

@@ -8,6 +8,7 @@ pub mod HeldTokenLemmas
 pub mod HeldValues
 pub mod OutlineLemmas
 pub mod KindLemmas
+pub mod LocaleServes
 pub mod MemberSteps
 pub mod NumberLemmas
 pub mod OpenLemmas
@@ -16,6 +17,9 @@ pub mod OutputLemmas
 pub mod PassLemmas
 pub mod PlaceLemmas
 pub mod PrintedChars
+pub mod RangeNames
+pub mod RightTokens
+pub mod RulesMeant
 pub mod TokenValues
 pub mod TextValues
 pub mod WalkLemmas

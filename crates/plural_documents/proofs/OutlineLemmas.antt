@@ -34,7 +34,7 @@ before_all key next (member other value ms) less before =
     (nat_list_cmp_total.trans key next other less before.0, before_all key next ms less before.1)
 
 -- two keys that are ordered the same are the same
-same_key : (one other : List ℕ) → order one other ≡ Equal → one ≡ other
+pub same_key : (one other : List ℕ) → order one other ≡ Equal → one ≡ other
 same_key one other equal = (bytes_eq-Decides one other).0 (sym (is_eq-slice_cmp one other) ∙ ap is_eq equal)
 
 itself : (key : List ℕ) → order key key ≡ Equal
@@ -45,7 +45,7 @@ turned : (one other : List ℕ) → order one other ≡ Greater → order other 
 turned one other greater = nat_list_cmp_total.antisymm other one ∙ ap ordering_reverse greater
 
 -- the arms of `put`
-abbrev put_in : List ℕ → Data → List ℕ → Data → Members → Ordering → Members
+abbrev pub put_in : List ℕ → Data → List ℕ → Data → Members → Ordering → Members
 put_in key value next old ms o =
     match_ordering o (member key value (member next old ms)) (member next value ms) (member next old (put key value ms))
 

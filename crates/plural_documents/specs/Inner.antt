@@ -4,3 +4,4 @@ pub mod HeldTokens
 pub mod OpenBrackets
 pub mod HeldParts
 pub mod OutlineSteps
+pub mod RulesPlaces

@@ -2,6 +2,7 @@ pub mod Steps
 pub mod Numbers
 pub mod Texts
 pub mod Documents
+pub mod LocaleMaps
 pub mod RangeTables
 pub mod FoundKeys
 pub mod ElementTexts

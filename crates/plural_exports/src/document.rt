@@ -4,13 +4,14 @@ ghost use Rattle.std.specs.Prelude.{◌≡◌};
 ghost use Rattle.serde_json.specs.View.{view};
 ghost use Rattle.icu_plurals.specs.FiveRules.{rules_of};
 ghost use Rattle.icu_plurals.specs.DocumentJson.{rows_for};
-ghost use Rattle.plural_exports.specs.GivenDocuments.{HasRulesAt, MeansMaps, ReadsJson, type_numbered};
+ghost use Rattle.plural_exports.specs.GivenDocuments.{HasRulesAt, ReadsJson, type_numbered};
+ghost use Rattle.plural_exports.specs.Inner.GivenMaps.{HasMapsFor};
 ghost use Rattle.plural_exports.specs.Inner.GivenResults.{GivesSeen};
 
 use crate::fault::Fault;
 use icu_plurals::provider::PluralRulesData;
 use icu_plurals::{JsonProvider, PluralRuleType, PluralsProvider};
-use plural_documents::{JsonTextError, json_value};
+use plural_documents::{JsonTokens, Scratch, json_value, provider_of_locale};
 use serde_json::Value;
 use std::alloc::Global;
 
@@ -29,18 +30,16 @@ pub(crate) fn rule_type_of(number: u8) -> Result<PluralRuleType, Fault>
 pub(crate) fn value_in(alloc: Global, bytes: &[u8]) -> Result<Value, Fault>
     ensures { GivesSeen view (ReadsJson bytes.now) result }
 {
-    match json_value(alloc, bytes) {
-        Ok(value) => Ok(value),
-        Err(JsonTextError::Json) => Err(Fault::Json),
-        Err(JsonTextError::Memory) => Err(Fault::Memory),
-    }
+    Ok(json_value(alloc, bytes)?)
 }
 
-// The maps that a JSON value means.
-pub(crate) fn maps_in(alloc: Global, value: &Value) -> Result<JsonProvider, Fault>
-    ensures { MeansMaps (view value.now) result }
+// What the maps of the document that the bytes write have for a locale.
+pub(crate) fn maps_in(alloc: Global, bytes: &[u8], locale: &str) -> Result<JsonProvider, Fault>
+    ensures { HasMapsFor bytes.now locale.now result }
 {
-    Ok(JsonProvider::from_value(alloc, value)?)
+    let mut scratch = Scratch::new(alloc);
+    let text = JsonTokens::read(alloc, bytes, &mut scratch)?;
+    Ok(provider_of_locale(alloc, &text, locale)?)
 }
 
 // The rules of a type that the maps have for a locale.

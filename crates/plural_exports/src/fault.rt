@@ -2,7 +2,7 @@
 
 ghost use Rattle.std.specs.Prelude.{◌≡◌};
 ghost use Rattle.plural_exports.specs.Faults.{argument_number, block_number, decimal_number, elements_number, fault_number, json_number, packed_number, packing_number, parse_number, pattern_number, rule_number};
-ghost use Rattle.plural_exports.specs.Inner.Conversions.{decimal_fault, format_fault, json_fault, rules_pack_fault, pattern_fault, text_fault};
+ghost use Rattle.plural_exports.specs.Inner.Conversions.{decimal_fault, format_fault, json_fault, json_text_fault, rules_pack_fault, pattern_fault, text_fault};
 ghost use Rattle.plural_exports.specs.declared.fault.Fault.TheVariants.{Elements, Rules};
 
 use icu_plurals::provider::rules::reference::ParseError;
@@ -13,6 +13,7 @@ use icu_plurals::{
 };
 use message_format::{ArgumentFault, FormatError};
 use message_pattern::{FaultKind, PatternError};
+use plural_documents::JsonTextError;
 
 // Why there is no result. A fault of memory is always `Memory`, whatever it was wanted for.
 #[derive(Clone, Copy)]
@@ -123,6 +124,17 @@ impl From<ElementsBytesError> for Fault {
 
     fn from(error: ElementsBytesError) -> Fault {
         Fault::Elements(error)
+    }
+}
+
+impl From<JsonTextError> for Fault {
+    ghost from_gives = { λ error fault. fault ≡ json_text_fault error };
+
+    fn from(error: JsonTextError) -> Fault {
+        match error {
+            JsonTextError::Json => Fault::Json,
+            JsonTextError::Memory => Fault::Memory,
+        }
     }
 }
 

@@ -7,7 +7,7 @@ ghost use Rattle.plural_exports.specs.Inner.GivenResults.{GivesSeen};
 ghost use Rattle.plural_exports.specs.Results.{Written};
 
 use crate::buffer::put;
-use crate::document::{maps_in, value_in};
+use crate::document::maps_in;
 use crate::fault::Fault;
 use crate::given::text_in;
 use icu_plurals::provider::{PluralRanges, RawPluralCategory};
@@ -44,8 +44,7 @@ fn ranges_of_document(alloc: Global, json: &[u8], locale: &[u8]) -> Result<Vec<u
 fn ranges_in(alloc: Global, json: &[u8], locale: &str) -> Result<PluralRanges, Fault>
     ensures { HasRangesFor json.now locale.now result }
 {
-    let value = value_in(alloc, json)?;
-    let maps = maps_in(alloc, &value)?;
+    let maps = maps_in(alloc, json, locale)?;
     ranges_for(&maps, locale)
 }
 

@@ -11,7 +11,7 @@ ghost use Rattle.plural_exports.specs.Inner.GivenResults.{GivesSeen, lent_bytes,
 ghost use Rattle.plural_exports.specs.Results.{Answered, Written};
 
 use crate::buffer::put;
-use crate::document::{maps_in, rule_type_of, rules_for, value_in};
+use crate::document::{maps_in, rule_type_of, rules_for};
 use crate::fault::Fault;
 use crate::given::{rules_in, text_in};
 use icu_plurals::Five;
@@ -92,8 +92,7 @@ fn rules_of_document(
 {
     let rule_type = rule_type_of(rule_type)?;
     let locale = text_in(locale)?;
-    let value = value_in(alloc, json)?;
-    let maps = maps_in(alloc, &value)?;
+    let maps = maps_in(alloc, json, locale)?;
     let rules = rules_for(&maps, locale, rule_type)?;
     packed(alloc, &rules)
 }

@@ -12,8 +12,10 @@ use Rattle.message_format.specs.declared.error.FormatError.{FormatError}
 use Rattle.message_format.specs.declared.error.FormatError.TheVariants as format
 use Rattle.message_pattern.specs.declared.error.PatternError.{PatternError}
 use Rattle.message_pattern.specs.declared.error.PatternError.TheVariants as pattern
+use Rattle.plural_documents.specs.declared.JsonTextError.{JsonTextError}
+use Rattle.plural_documents.specs.declared.JsonTextError.TheVariants as text
 use Rattle.plural_exports.specs.declared.fault.Fault.{Fault}
-use Rattle.plural_exports.specs.declared.fault.Fault.TheVariants.{Memory, Number, Text, RulesLimit, Document, Pattern, Argument}
+use Rattle.plural_exports.specs.declared.fault.Fault.TheVariants.{Memory, Number, Text, RulesLimit, Json, Document, Pattern, Argument}
 
 -- of a number's text
 abbrev pub decimal_fault : DecimalError → Fault
@@ -31,6 +33,11 @@ text_fault rule.Memory = Memory
 abbrev pub rules_pack_fault : RulesPackError → Fault
 rules_pack_fault packing.StartLimit = RulesLimit
 rules_pack_fault packing.Memory = Memory
+
+-- of a JSON text
+abbrev pub json_text_fault : JsonTextError → Fault
+json_text_fault text.Json = Json
+json_text_fault text.Memory = Memory
 
 -- of a JSON value
 abbrev pub json_fault : JsonError → Fault

@@ -1,31 +1,13 @@
-use Rattle.std.proofs.Common.{Ok, Err}
+use Rattle.std.proofs.Common.{Err}
 use Rattle.std.proofs.lemmas.Result.{err_from_is_err_and}
-use Rattle.serde_json.specs.View.{view}
+use Rattle.plural_exports.proofs.LocaleMaps.{ranges_found, ranges_refused}
 use Rattle.plural_exports.proofs.Steps.{passed_on}
 use Rattle.plural_exports.proofs.ranges.ranges_in.Goals as goal
 
-pub returns-in_err-value : goal.returns-in_err-value
-returns-in_err-value c = (
-  Err c.in_err-value.field-0.0,
-  c.in_err-value.ensures,
-  passed_on _ _ (err_from_is_err_and c.from_residual.result c.from_residual.ensures.1),
-)
-
 pub returns-in_err-maps : goal.returns-in_err-maps
 returns-in_err-maps c =
-    let r = c.from_residual-in_err-maps.result in (
-      Ok (view c.in_ok-value.value),
-      c.in_ok-value.ensures,
-      (
-        Err c.in_err-maps.field-0.0,
-        c.in_err-maps.ensures,
-        passed_on _ _ (err_from_is_err_and r c.from_residual-in_err-maps.ensures.1),
-      ),
-    )
+    rw (passed_on c.from_residual.result c.in_err-maps.field-0.0 (err_from_is_err_and c.from_residual.result c.from_residual.ensures.1))
+    (ranges_refused c.args.json.now c.args.locale.now c.in_err-maps.field-0.0 c.in_err-maps.ensures)
 
 pub returns : goal.returns
-returns c = (
-  Ok (view c.in_ok-value.value),
-  c.in_ok-value.ensures,
-  (Ok c.in_ok-maps.maps, c.in_ok-maps.ensures, c.ranges_for.ensures),
-)
+returns c = ranges_found c.args.json.now c.args.locale.now c.in_ok-maps.maps c.in_ok-maps.ensures c.ranges_for.result c.ranges_for.ensures
