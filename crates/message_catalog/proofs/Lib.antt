@@ -1,0 +1,2 @@
+mod HeldMessages
+mod MessagesRefused

@@ -1,0 +1,6 @@
+-- catalogues of messages
+pub mod CatalogMessages
+pub mod MessageFaults
+pub mod MessageTexts
+-- not a definition of the subject
+pub mod Inner
