@@ -1,5 +1,5 @@
 -- Entries, and the messages that they hold.
-use Rattle.std.proofs.Common.{◌≡◌, ◌∙◌, ◌⊎◌, ℕ, zero, suc, List, [], ◌∷◌, refl, ap, subst, sym, tt, inl, inr, true, false, Bool, Some, None}
+use Rattle.std.proofs.Common.{◌≡◌, ◌∙◌, ◌⊎◌, ℕ, zero, suc, List, [], ◌∷◌, refl, ap, subst, sym, inl, inr, true, false, Bool, Some, None}
 use Rattle.std.specs.Prelude.{Option, bytes_eq, option_map, slice_get, if◌then◌else◌}
 use Rattle.std.proofs.lemmas.Option.{slice_get-map}
 use Rattle.message_pattern.specs.PatternParts.{Part}
@@ -29,17 +29,17 @@ messages_again law (entry ∷ entries) [] h = absurd h
 messages_again law (entry ∷ entries) (message ∷ messages) h =
     ap (λ x. x ∷ messages_in entries) (message_again law entry message h.0) ∙ ap (λ xs. message ∷ xs) (messages_again law entries messages h.1)
 
--- the value of an entry that holds a message is a packed pattern
-value_held : BlocksAgain → (entry : Entry) (message : Message) → HoldsMessage entry message → IsPatternBlock entry.value
-value_held law entry message h =
-    subst (λ (parts : List Part). PatternBlock parts entry.value) (sym (law message.parts entry.value h.value)) h.value
+-- the block of some parts is a packed pattern
+pub is_pattern_block : BlocksAgain → (parts : List Part) (value : List ℕ) → PatternBlock parts value → IsPatternBlock value
+is_pattern_block law parts value h = subst (λ (ps : List Part). PatternBlock ps value) (sym (law parts value h)) h
 
+-- the values of entries that hold messages are packed patterns
 pub values_held : BlocksAgain → (entries : List Entry) (messages : List Message) → HoldMessages entries messages → ArePatterns entries
 values_held law [] messages h index value there = cc
 values_held law (entry ∷ entries) [] h index value there = absurd h
 values_held law (entry ∷ entries) (message ∷ messages) h zero value there =
     let same : entry.value ≡ value = cc in
-    subst IsPatternBlock same (value_held law entry message h.0)
+    subst IsPatternBlock same (is_pattern_block law message.parts entry.value h.0.value)
 values_held law (entry ∷ entries) (message ∷ messages) h (suc index) value there = values_held law entries messages h.1 index value there
 
 -- entries whose values are packed patterns hold the messages that are read from them

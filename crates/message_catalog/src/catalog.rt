@@ -97,8 +97,10 @@ impl<'a> MessageCatalog<'a> {
         ensures { result ≡ parts_under key.now self.now }
     {
         read_again();
-        let value = self.catalog.get(key)?;
-        Some(PackedPattern::from_checked(value))
+        match self.catalog.get(key) {
+            Some(value) => Some(PackedPattern::from_checked(value)),
+            None => None,
+        }
     }
 
     /// Returns what the message under a key says with its arguments, under the rules of a language,

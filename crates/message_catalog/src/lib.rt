@@ -4,6 +4,10 @@
 mod catalog;
 mod checking;
 mod error;
+mod packing;
+mod text;
 
 pub use catalog::MessageCatalog;
-pub use error::{MessageCatalogError, SayError};
+pub use error::{MessageCatalogError, PackMessagesError, SayError, TextFault};
+pub use packing::pack;
+pub use text::MessageText;

@@ -8,7 +8,7 @@ use Rattle.packed_pattern.proofs.laws.one_encoding.Goals as goal
 
 pub returns : goal.returns
 returns c = λ parts others a b h g. (
-  (λ e. sym (parts_in_one c.items_again.ensures parts a h) ∙ ap (λ bytes. map part_in (items_in bytes)) e
-      ∙ parts_in_one c.items_again.ensures others b g),
+  (λ e. sym (parts_in_one c.read_again.ensures parts a h) ∙ ap (λ bytes. map part_in (items_in bytes)) e
+      ∙ parts_in_one c.read_again.ensures others b g),
   (λ e. h.packed.spelled ∙ ap (λ ps. list_bytes (items_of ps)) e ∙ sym g.packed.spelled),
 )

@@ -2,7 +2,7 @@ use Rattle.std.proofs.Common.{◌≡◌, ◌∙◌, List, sym, ap, subst}
 use Rattle.std.specs.Prelude.{Ok, Err}
 use Rattle.packed_catalog.specs.CatalogBytes.{CatalogBytes, Entry}
 use Rattle.message_catalog.specs.CatalogMessages.{HoldMessages}
-use Rattle.message_catalog.specs.Inner.MessageReading.{messages_in}
+use Rattle.message_catalog.specs.Inner.MessageReading.{ArePatterns, messages_in}
 use Rattle.message_catalog.proofs.HeldMessages.{held_again, messages_again, values_held}
 use Rattle.message_catalog.proofs.MessagesRefused.{catalog_refused, entry_refused, none_refused}
 use Rattle.message_catalog.proofs.catalog.MessageCatalog.parse_bytes.Goals as goal
@@ -23,8 +23,8 @@ returns-in-Err-clause-refused c = λ fault.
 pub returns-in-Some-clause-accepted : goal.returns-in-Some-clause-accepted
 returns-in-Some-clause-accepted c = λ messages h.
     let list = c.in-Ok.ensures.accepted h.entries h.packed in
-    let same : c.in-Ok.catalog ≡ h.entries = cc in
-    absurd cc
+    let same : h.entries ≡ c.in-Ok.catalog = cc in
+    absurd (c.in-Some.ensures.bad (subst ArePatterns same (values_held c.read_again.ensures h.entries messages h.held)))
 
 pub returns-in-Some-clause-refused : goal.returns-in-Some-clause-refused
 returns-in-Some-clause-refused c = λ fault.
