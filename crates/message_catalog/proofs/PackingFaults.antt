@@ -1,5 +1,5 @@
 -- Why messages aren't packed: one fault at most, out of memory aside.
-use Rattle.std.proofs.Common.{◌≡◌, ◌∙◌, ◌↔◌, ◌⊎◌, ◌++◌, ◌+◌, ◌<◌, ◌≤◌, ◌^◌, ℕ, List, [], ◌∷◌, drop, length, get_or, ap, subst, sym, refl, arith, inl, inr, Some, None, Result}
+use Rattle.std.proofs.Common.{◌≡◌, ◌∙◌, ◌↔◌, ◌⊎◌, ◌++◌, ◌+◌, ◌<◌, ◌≤◌, ◌^◌, ℕ, suc, List, [], ◌∷◌, drop, length, get_or, ap, subst, sym, refl, arith, inl, inr, Some, None, Result}
 use Rattle.std.proofs.lemmas.Bool.{cases_lt}
 use Rattle.std.proofs.lemmas.Option.{slice_get-get_or, slice_get-map}
 use Rattle.std.specs.Prelude.{Err, IsTrue, option_map, slice_get}
@@ -15,7 +15,8 @@ use Rattle.packed_pattern.specs.PackedParts.{items_of}
 use Rattle.packed_pattern.specs.PatternBlocks.{first_unpackable}
 use Rattle.packed_pattern.specs.declared.error.PackPatternError.{PackPatternError}
 use Rattle.packed_pattern.specs.declared.error.PackPatternError.TheVariants as parts
-use Rattle.packed_catalog.specs.CatalogBytes.{AreSorted, Entry, pieces_of}
+use Rattle.packed_catalog.specs.CatalogBytes.{AreSorted, Entry, lent, pieces_of}
+use Rattle.packed_catalog.specs.declared.entry.CatalogEntry.{CatalogEntry}
 use Rattle.packed_catalog.specs.CatalogFaults.{IsFirstLow}
 use Rattle.packed_catalog.specs.declared.error.PackCatalogError.{PackCatalogError}
 use Rattle.packed_catalog.specs.declared.error.PackCatalogError.TheVariants as catalog
@@ -113,25 +114,37 @@ parts_are_exact law index bytes ps parts.Memory read told fault h = inr refl
 
 -- ---- entries
 
+length-lent : (lending : List CatalogEntry) → length (lent lending) ≡ length lending
+length-lent [] = refl
+length-lent (entry ∷ lending) = ap suc (length-lent lending)
+
 -- what the clauses of packed_catalog::pack say of a result
-pub record TellsEntries {A : Type 0} (r : Result A PackCatalogError) (entries : List Entry) : Type 0 where
-  pub too_many : (r ≡ Err catalog.TooMany) ↔ (2 ^ 32 ≤ length entries)
-  pub order : (index : ℕ) → (r ≡ Err (catalog.Order index)) ↔ ((length entries < 2 ^ 32) × IsFirstLow entries index)
-  pub too_long : (r ≡ Err catalog.TooLong) ↔ ((length entries < 2 ^ 32) × AreSorted entries × (2 ^ 32 ≤ length (concat (pieces_of entries))))
+pub record TellsEntries {A : Type 0} (r : Result A PackCatalogError) (lending : List CatalogEntry) : Type 0 where
+  pub too_many : (r ≡ Err catalog.TooMany) ↔ (2 ^ 32 ≤ length lending)
+  pub order : (index : ℕ) → (r ≡ Err (catalog.Order index)) ↔ ((length lending < 2 ^ 32) × IsFirstLow (lent lending) index)
+  pub too_long : (r ≡ Err catalog.TooLong)
+      ↔ ((length lending < 2 ^ 32) × AreSorted (lent lending) × (2 ^ 32 ≤ length (concat (pieces_of (lent lending)))))
 
-pub entries_refused : {A : Type 0} → (r : Result A PackCatalogError) (entries : List Entry) → TellsEntries r entries
-    → (error : PackCatalogError) → r ≡ Err error → (error ≡ catalog.Memory) ⊎ HasEntriesFault entries error
-entries_refused r entries told catalog.TooMany h = inr (told.too_many.0 h)
-entries_refused r entries told (catalog.Order index) h = inr ((told.order index).0 h)
-entries_refused r entries told catalog.TooLong h = inr (told.too_long.0 h)
-entries_refused r entries told catalog.Memory h = inl refl
+-- few entries, and few that are lent
+few : (lending : List CatalogEntry) → length lending < 2 ^ 32 → length (lent lending) < 2 ^ 32
+few lending h = subst (λ n. n < 2 ^ 32) (sym (length-lent lending)) h
 
-pub entries_exact : {A : Type 0} → (r : Result A PackCatalogError) (entries : List Entry) → TellsEntries r entries
-    → (error : PackCatalogError) → HasEntriesFault entries error → r ≡ Err error
-entries_exact r entries told catalog.TooMany h = told.too_many.1 h
-entries_exact r entries told (catalog.Order index) h = (told.order index).1 h
-entries_exact r entries told catalog.TooLong h = told.too_long.1 h
-entries_exact r entries told catalog.Memory h = absurd h
+few_lent : (lending : List CatalogEntry) → length (lent lending) < 2 ^ 32 → length lending < 2 ^ 32
+few_lent lending h = subst (λ n. n < 2 ^ 32) (length-lent lending) h
+
+pub entries_refused : {A : Type 0} → (r : Result A PackCatalogError) (lending : List CatalogEntry) → TellsEntries r lending
+    → (error : PackCatalogError) → r ≡ Err error → (error ≡ catalog.Memory) ⊎ HasEntriesFault (lent lending) error
+entries_refused r lending told catalog.TooMany h = inr (subst (λ n. 2 ^ 32 ≤ n) (sym (length-lent lending)) (told.too_many.0 h))
+entries_refused r lending told (catalog.Order index) h = let t = (told.order index).0 h in inr (few lending t.0, t.1)
+entries_refused r lending told catalog.TooLong h = let t = told.too_long.0 h in inr (few lending t.0, t.1, t.2)
+entries_refused r lending told catalog.Memory h = inl refl
+
+pub entries_exact : {A : Type 0} → (r : Result A PackCatalogError) (lending : List CatalogEntry) → TellsEntries r lending
+    → (error : PackCatalogError) → HasEntriesFault (lent lending) error → r ≡ Err error
+entries_exact r lending told catalog.TooMany h = told.too_many.1 (subst (λ n. 2 ^ 32 ≤ n) (length-lent lending) h)
+entries_exact r lending told (catalog.Order index) h = (told.order index).1 (few_lent lending h.0, h.1)
+entries_exact r lending told catalog.TooLong h = told.too_long.1 (few_lent lending h.0, h.1, h.2)
+entries_exact r lending told catalog.Memory h = absurd h
 
 -- ---- messages
 

@@ -21,8 +21,8 @@ returns-in-Err-clause-exact c =
 pub loop-index-preserved : goal.loop-index-preserved
 loop-index-preserved c = record {
   behind = pushed c.args.messages.now c.loop-index.index _ c.loop-index.packed.items c.push.new.self.items _ c.loop-index-test.true
-      c.in_ok-push.ensures.items c.in-Ok-block_of.ensures.packed refl c.loop-index.invariant.behind;
-  good = good_more c.args.messages.now c.loop-index.index _ c.loop-index-test.true c.loop-index.invariant.good c.in-Ok-block_of.ensures.good;
+      c.in_ok-push.ensures.items c.in-Ok.ensures.packed refl c.loop-index.invariant.behind;
+  good = good_more c.args.messages.now c.loop-index.index _ c.loop-index-test.true c.loop-index.invariant.good c.in-Ok.ensures.good;
 }
 
 pub returns-clause-packed : goal.returns-clause-packed
