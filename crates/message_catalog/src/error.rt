@@ -109,17 +109,6 @@ impl fmt::Display for PackMessagesError {
 
 impl Error for PackMessagesError {}
 
-impl From<AllocError> for PackMessagesError {
-    ghost use Rattle.std.specs.Prelude.{◌≡◌};
-    ghost use Rattle.message_catalog.specs.declared.error.PackMessagesError.TheVariants.{Memory};
-
-    ghost from_gives = { λ _ error. error ≡ Memory };
-
-    fn from(_error: AllocError) -> Self {
-        PackMessagesError::Memory
-    }
-}
-
 impl<T: Drop> From<AllocFailed<T>> for PackMessagesError {
     ghost use Rattle.std.specs.Prelude.{◌≡◌};
     ghost use Rattle.message_catalog.specs.declared.error.PackMessagesError.TheVariants.{Memory};
@@ -127,6 +116,17 @@ impl<T: Drop> From<AllocFailed<T>> for PackMessagesError {
     ghost from_gives = { λ _ error. error ≡ Memory };
 
     fn from(_error: AllocFailed<T>) -> Self {
+        PackMessagesError::Memory
+    }
+}
+
+impl From<AllocError> for PackMessagesError {
+    ghost use Rattle.std.specs.Prelude.{◌≡◌};
+    ghost use Rattle.message_catalog.specs.declared.error.PackMessagesError.TheVariants.{Memory};
+
+    ghost from_gives = { λ _ error. error ≡ Memory };
+
+    fn from(_error: AllocError) -> Self {
         PackMessagesError::Memory
     }
 }
