@@ -12,8 +12,8 @@ use Rattle.message_pattern.specs.PatternParts.{Part}
 use Rattle.packed_pattern.specs.declared.error.BlockError.{BlockError}
 use Rattle.packed_pattern.specs.PartOrder.{before_all, first_misplaced}
 use Rattle.packed_pattern.specs.PackedParts.{is_packable, item_bytes, items_of, place_bytes}
-use Rattle.packed_pattern.specs.PatternBlocks.{PatternBlock, first_item_fault, has_places, is_item_with, is_part_item, item_fault, items_fault, or_fault, order_fault}
-use Rattle.packed_pattern.specs.Inner.PartReading.{IsBlock, part_in, places_in}
+use Rattle.packed_pattern.specs.PatternBlocks.{IsPatternBlock, PatternBlock, first_item_fault, has_places, is_item_with, is_part_item, item_fault, items_fault, or_fault, order_fault}
+use Rattle.packed_pattern.specs.Inner.PartReading.{IsBlock, part_in, parts_in, places_in}
 use Rattle.packed_pattern.proofs.PartBytes.{bytes_same, length-place_bytes, part_again, places_again, same_bytes}
 use Rattle.packed_pattern.specs.declared.error.BlockError.TheVariants as errors
 
@@ -161,3 +161,16 @@ is_pattern items bytes block list = record {
   nested = block.nested;
   packed = subst (λ (xs : List (List ℕ)). ListBytes xs bytes) (sym block.packed) list;
 }
+
+-- the items of bytes that are known to be a block are those of their parts
+checked_items : PackedItems → (bytes : List ℕ) → IsPatternBlock bytes → items_of (parts_in bytes) ≡ items_in bytes
+checked_items law bytes h = sym (law (items_of (parts_in bytes)) bytes h.packed)
+
+-- such bytes are a packed list
+pub checked_list : PackedItems → (bytes : List ℕ) → IsPatternBlock bytes → ListBytes (items_in bytes) bytes
+checked_list law bytes h = subst (λ (xs : List (List ℕ)). ListBytes xs bytes) (checked_items law bytes h) h.packed
+
+-- whose items are a block
+pub checked_block : PackedItems → (items : List (List ℕ)) (bytes : List ℕ) → ListBytes items bytes → IsPatternBlock bytes → IsBlock items
+checked_block law items bytes list h =
+    subst IsBlock (law items bytes list) (record { packable = h.packable; nested = h.nested; packed = checked_items law bytes h })

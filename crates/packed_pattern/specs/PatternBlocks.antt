@@ -10,13 +10,17 @@ use Rattle.packed_pattern.specs.declared.error.PackPatternError.{PackPatternErro
 use Rattle.packed_pattern.specs.declared.error.PackPatternError.TheVariants as packing
 use Rattle.packed_pattern.specs.PartOrder.{before_all, first_misplaced}
 use Rattle.packed_pattern.specs.PackedParts.{item_bytes, items_of, place_bytes, is_packable}
-use Rattle.packed_pattern.specs.Inner.PartReading.{part_in, places_in}
+use Rattle.packed_pattern.specs.Inner.PartReading.{part_in, parts_in, places_in}
 
 -- the bytes encode the parts
 pub record PatternBlock (parts : List Part) (bytes : List ℕ) : Type 0 where
   pub packable : IsTrue (list_all is_packable parts)
   pub nested : first_misplaced 0 before_all parts ≡ None
   pub packed : ListBytes (items_of parts) bytes
+
+-- the bytes encode the parts that they hold
+abbrev pub IsPatternBlock : List ℕ → Type 0
+IsPatternBlock bytes = PatternBlock (parts_in bytes) bytes
 
 -- ---- What is wrong with the items of a packed list that is no pattern.
 

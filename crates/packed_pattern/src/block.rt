@@ -4,7 +4,7 @@ ghost use Rattle.std.specs.Prelude.{◌≡◌, ◌↔◌, ◌≤◌, ◌<◌, �
 ghost use Rattle.message_pattern.specs.PatternParts.{Part as SpecPart, part_view, parts_view};
 ghost use Rattle.message_pattern.specs.PatternPrinting.{PrintsExactly};
 ghost use Rattle.packed_pattern.specs.PartPlaces.{IsPlaced};
-ghost use Rattle.packed_pattern.specs.PatternBlocks.{HasBlockFault, PatternBlock, first_item_fault, item_fault, items_fault};
+ghost use Rattle.packed_pattern.specs.PatternBlocks.{HasBlockFault, IsPatternBlock, PatternBlock, first_item_fault, item_fault, items_fault};
 ghost use Rattle.packed_pattern.specs.Inner.PartReading.{part_in};
 
 use crate::error::BlockError;
@@ -60,6 +60,23 @@ impl<'a> PackedPattern<'a> {
             return Err(fault);
         }
         Ok(PackedPattern { list })
+    }
+
+    /// Returns the pattern in bytes that are known to be one, without reading them. Such bytes were
+    /// taken by [`parse_bytes`], or returned by [`as_bytes`] or [`pack`] ([`read_again`]).
+    ///
+    /// [`parse_bytes`]: PackedPattern::parse_bytes
+    /// [`as_bytes`]: PackedPattern::as_bytes
+    /// [`pack`]: crate::pack
+    /// [`read_again`]: crate::laws::read_again
+    #[inline]
+    pub fn from_checked(bytes: &'a [u8]) -> PackedPattern<'a>
+        requires { IsPatternBlock bytes.now }
+        ensures { PatternBlock result bytes.now }
+    {
+        read_again();
+        let list = PackedList::from_checked(bytes);
+        PackedPattern { list }
     }
 
     /// Returns the bytes of the block.

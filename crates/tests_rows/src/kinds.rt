@@ -11,6 +11,7 @@ mod five_rules;
 mod integer_categories;
 mod lists;
 mod locales;
+mod message_catalogs;
 mod messages;
 mod operands;
 mod packed_catalogs;
@@ -105,6 +106,7 @@ fn of_patterns(kind: &str, call: &mut Call) -> bool {
         || styled_patterns::make(kind, call)
         || pattern_texts::make(kind, call)
         || packed_patterns::make(kind, call)
+        || message_catalogs::make(kind, call)
         || plural_forms::make(kind, call)
         || catalogs::make(kind, call)
         || text_arguments::make(kind, call)

@@ -2,7 +2,7 @@
 -- the subject.
 use Rattle.std.specs.Prelude.{◌≡◌, ℕ, ◌*◌, ◌==◌, List, [], ◌∷◌, map, take, drop, IsTrue, Option, Some, None, if◌then◌else◌}
 use Rattle.std.specs.List.{list_all}
-use Rattle.packed_list.specs.Inner.ListReading.{numbers}
+use Rattle.packed_list.specs.Inner.ListReading.{items_in, numbers}
 use Rattle.message_pattern.specs.declared.part.ArgumentKind.{ArgumentKind}
 use Rattle.message_pattern.specs.declared.part.ArgumentKind.TheVariants.{Plural, Ordinal, Select}
 use Rattle.message_pattern.specs.PatternParts.{Part, PatternPiece, Exactly, Keyword, Text, Hash, Argument, Begin, Branch, End}
@@ -52,6 +52,10 @@ piece_in tag own =
 abbrev pub part_in : List ℕ → Part
 part_in (tag ∷ depth ∷ content) = record { depth = depth; piece = piece_in tag (drop (place_room tag) content) }
 part_in _ = record { depth = 0; piece = End }
+
+-- the parts that bytes hold, if they are a block
+abbrev pub parts_in : List ℕ → List Part
+parts_in bytes = map part_in (items_in bytes)
 
 -- the bytes of the places that an item has
 abbrev pub places_in : List ℕ → List ℕ

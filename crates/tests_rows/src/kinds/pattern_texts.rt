@@ -37,7 +37,7 @@ fn pattern_text(call: &mut Call) {
 }
 
 // Adds numbers under the names before them.
-fn add_numbers<'a>(call: &mut Call, arguments: &mut Vec<Argument<'a>>, pairs: &'a [String]) {
+pub fn add_numbers<'a>(call: &mut Call, arguments: &mut Vec<Argument<'a>>, pairs: &'a [String]) {
     for pair in pairs.chunks_exact(2) {
         if let [name, number] = pair {
             let argument = Argument {
@@ -50,7 +50,7 @@ fn add_numbers<'a>(call: &mut Call, arguments: &mut Vec<Argument<'a>>, pairs: &'
 }
 
 // Adds texts under the names before them.
-fn add_texts<'a>(call: &mut Call, arguments: &mut Vec<Argument<'a>>, pairs: &'a [String]) {
+pub fn add_texts<'a>(call: &mut Call, arguments: &mut Vec<Argument<'a>>, pairs: &'a [String]) {
     for pair in pairs.chunks_exact(2) {
         if let [name, text] = pair {
             let argument = Argument {
@@ -111,7 +111,7 @@ fn are_same(
 }
 
 // Prints an outcome.
-fn print_outcome(call: &mut Call, outcome: Result<Vec<u8>, FormatError<'_>>) {
+pub fn print_outcome(call: &mut Call, outcome: Result<Vec<u8>, FormatError<'_>>) {
     match outcome {
         Ok(said) => call.print_quoted(shown(&said)),
         Err(FormatError::Argument(fault, name)) => {

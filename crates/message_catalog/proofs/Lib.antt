@@ -1,0 +1,4 @@
+mod HeldMessages
+mod MessagesRefused
+mod TextsPacked
+mod PackingFaults
