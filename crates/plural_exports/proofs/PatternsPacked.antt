@@ -24,15 +24,15 @@ has_block : (parts : List Part) → IsError packing.Memory packing.CountLimit �
     → ((place : ℕ) → IsError packing.Memory (packing.Order place) ↔ HasNoBlock parts (packing.Order place))
     → IsError packing.Memory packing.StartLimit ↔ HasNoBlock parts packing.StartLimit
     → (reason : PackPatternError) → ¬ (HasNoBlock parts reason)
-has_block parts count part order start packing.CountLimit no =
-    (let same : IsError packing.Memory packing.CountLimit = count.1 no in absurd cc)
-has_block parts count part order start (packing.Part place) no =
-    (let same : IsError packing.Memory (packing.Part place) = (part place).1 no in absurd cc)
-has_block parts count part order start (packing.Order place) no =
-    (let same : IsError packing.Memory (packing.Order place) = (order place).1 no in absurd cc)
-has_block parts count part order start packing.StartLimit no =
-    (let same : IsError packing.Memory packing.StartLimit = start.1 no in absurd cc)
-has_block parts count part order start packing.Memory no = no
+has_block parts count part order start packing.CountLimit lacks =
+    (let same : IsError packing.Memory packing.CountLimit = count.1 lacks in absurd cc)
+has_block parts count part order start (packing.Part place) lacks =
+    (let same : IsError packing.Memory (packing.Part place) = (part place).1 lacks in absurd cc)
+has_block parts count part order start (packing.Order place) lacks =
+    (let same : IsError packing.Memory (packing.Order place) = (order place).1 lacks in absurd cc)
+has_block parts count part order start packing.StartLimit lacks =
+    (let same : IsError packing.Memory packing.StartLimit = start.1 lacks in absurd cc)
+has_block parts count part order start packing.Memory lacks = lacks
 
 -- the fault of parts that aren't packed
 pub parts_refused : (parts : List Part) (e : PackPatternError) (r : Block) → r ≡ Err (pattern_pack_fault e)
