@@ -99,6 +99,11 @@ static void pattern_of_the_page(void) {
     int64_t length = plurals_pattern_format(cardinal, cardinal_len, ordinal, ordinal_len, pattern, strlen(pattern),
                                             arguments, 2, out, sizeof out);
     CHECK(length == 19 && !memcmp(out, "Ann sent 1.0 files.", 19));
+    uint8_t block[128];
+    int64_t block_len = plurals_pattern_pack(pattern, strlen(pattern), block, sizeof block);
+    length = plurals_packed_format(cardinal, cardinal_len, ordinal, ordinal_len, block, block_len,
+                                   arguments, 2, out, sizeof out);
+    CHECK(length == 19 && !memcmp(out, "Ann sent 1.0 files.", 19));
 }
 
 /* Eight parameters, of which the compiler passes some in memory. */

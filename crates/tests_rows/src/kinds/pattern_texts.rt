@@ -90,10 +90,7 @@ fn is_said_packed(
     said: &Result<Vec<u8>, FormatError<'_>>,
 ) -> bool {
     match PackedPattern::parse_bytes(bytes) {
-        Ok(pattern) => are_same(
-            said,
-            &format_packed(call.alloc, &pattern, arguments, rules),
-        ),
+        Ok(pattern) => are_same(said, &format_packed(call.alloc, &pattern, arguments, rules)),
         Err(_) => false,
     }
 }
