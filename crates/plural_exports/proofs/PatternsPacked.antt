@@ -1,12 +1,8 @@
 -- Patterns that are packed.
-use Rattle.std.proofs.Common.{◌≡◌, ◌↔◌, ◌≤◌, ◌<◌, List, ℕ, length, Result, Some, None, Err, IsTrue, refl}
+use Rattle.std.proofs.Common.{◌≡◌, ◌↔◌, List, ℕ, Result, Err, refl}
 use Rattle.std.specs.Prelude.{Vec}
 use Rattle.std.specs.declared.alloc.Global.{Global}
-use Rattle.icu_plurals.specs.ListBytes.{has_high_start}
 use Rattle.message_pattern.specs.PatternParts.{Part}
-use Rattle.packed_pattern.specs.PackedParts.{items_of}
-use Rattle.packed_pattern.specs.PartOrder.{before_all, first_misplaced}
-use Rattle.packed_pattern.specs.PatternBlocks.{first_unpackable}
 use Rattle.packed_pattern.specs.declared.error.PackPatternError.{PackPatternError}
 use Rattle.packed_pattern.specs.declared.error.PackPatternError.TheVariants as packing
 use Rattle.plural_exports.specs.GivenPatterns.{HasNoBlock, PacksParts}
