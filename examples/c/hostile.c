@@ -106,6 +106,14 @@ static void add(enum kind kind, const void *bytes, size_t length) {
 
 static void add_text(enum kind kind, const char *text) { add(kind, text, strlen(text)); }
 
+/* The block of a pattern, if it isn't too long. */
+static void pack(struct text *text) {
+    static uint8_t block[MODEL_BYTES];
+    int64_t length = model_pattern_pack((struct slice){text->bytes, text->length}, block);
+    text->length = length < 0 || length > MOST_BYTES ? 0 : (size_t)length;
+    memcpy(text->bytes, block, text->length);
+}
+
 static struct slice slice_of(const char *text) { return (struct slice){(const uint8_t *)text, strlen(text)}; }
 
 static void add_rules(const char *zero, const char *one, const char *two, const char *few, const char *many) {
@@ -167,6 +175,10 @@ static void fill_pools(void) {
     add_text(PATTERN, "{n, selectordinal, one {#st} two {#nd} few {#rd} other {#th}}");
     add_text(PATTERN, "{s, select, a {{n, plural, offset:1 one {#} other {{m}}}} other {'{'#}}");
     add_text(PATTERN, "I don't ''say'' '{it''s}' }#");
+    for (size_t k = 0; k < pools[PATTERN].count; k++) {
+        struct text text = pools[PATTERN].texts[k];
+        pack(&text), add(PACKED, text.bytes, text.length);
+    }
     add_text(NAME, "n");
     add_text(NAME, "s");
     add_text(VALUE, "a");
@@ -332,14 +344,6 @@ static void good_elements(struct text *text) {
         append(text, "\":"), append(text, ONE_OF("[0,\"{} x\"]", "[1,\"{} x\"]", "[15,\"{}{}\"]", "[0,\"\"]", "null", "[ 3 , \"a{}b{\" ]"));
     }
     append(text, "}");
-}
-
-/* The block of a pattern, if it isn't too long. */
-static void pack(struct text *text) {
-    static uint8_t block[MODEL_BYTES];
-    int64_t length = model_pattern_pack((struct slice){text->bytes, text->length}, block);
-    text->length = length < 0 || length > MOST_BYTES ? 0 : (size_t)length;
-    memcpy(text->bytes, block, text->length);
 }
 
 /* Makes the input good, if there is a way for its kind. */
