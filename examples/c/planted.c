@@ -225,15 +225,15 @@ int64_t __wrap_plurals_pattern_format(const uint8_t *cardinal, size_t cardinal_l
 int64_t __wrap_plurals_pattern_pack(const char *pattern, size_t pattern_len, uint8_t *out, size_t out_len) {
     int bug = planted();
     int64_t result = __real_plurals_pattern_pack(pattern, pattern_len, out, out_len);
-    if (bug == 37 && result == PLURALS_PACKING_START_LIMIT) return PLURALS_PACKING_COUNT_LIMIT; /* two faults have one number */
-    if (bug == 38 && result > 100 && result <= (int64_t)out_len) out[result - 1] = 0; /* the last byte isn't written */
+    if (bug == 39 && result == PLURALS_PACKING_START_LIMIT) return PLURALS_PACKING_COUNT_LIMIT; /* two faults have one number */
+    if (bug == 40 && result > 100 && result <= (int64_t)out_len) out[result - 1] = 0; /* the last byte isn't written */
     return result;
 }
 
 int32_t __wrap_plurals_pattern_check(const uint8_t *block, size_t block_len) {
     int bug = planted();
     int32_t result = __real_plurals_pattern_check(block, block_len);
-    if (bug == 39 && result == PLURALS_PACKED_PLACE) return 0; /* places aren't compared */
+    if (bug == 41 && result == PLURALS_PACKED_PLACE) return 0; /* places aren't compared */
     return result;
 }
 
@@ -241,10 +241,10 @@ int64_t __wrap_plurals_packed_format(const uint8_t *cardinal, size_t cardinal_le
                                      const uint8_t *block, size_t block_len, const struct plurals_argument *arguments, size_t arguments_len,
                                      char *out, size_t out_len) {
     int bug = planted();
-    if (bug == 40 && ordinal_len) ordinal = cardinal, ordinal_len = cardinal_len; /* ordinal numbers are by the cardinal rules */
+    if (bug == 42 && ordinal_len) ordinal = cardinal, ordinal_len = cardinal_len; /* ordinal numbers are by the cardinal rules */
     int64_t result =
         __real_plurals_packed_format(cardinal, cardinal_len, ordinal, ordinal_len, block, block_len, arguments, arguments_len, out, out_len);
-    if (bug == 41 && result == PLURALS_PACKED_ORDER) return PLURALS_PACKED_PLACE; /* two faults have one number */
-    if (bug == 42 && result > 1 && result <= (int64_t)out_len && out[0] == '-') out[0] = '+'; /* a sign is turned */
+    if (bug == 43 && result == PLURALS_PACKED_ORDER) return PLURALS_PACKED_PLACE; /* two faults have one number */
+    if (bug == 44 && result > 1 && result <= (int64_t)out_len && out[0] == '-') out[0] = '+'; /* a sign is turned */
     return result;
 }
