@@ -324,7 +324,7 @@ int64_t plurals_pattern_format(const uint8_t *cardinal, size_t cardinal_len, con
                                const char *pattern, size_t pattern_len, const struct plurals_argument *arguments,
                                size_t arguments_len, char *out, size_t out_len);
 
-/* Writes the block of a pattern (docs/FORMATS.md), from which plurals_packed_format says it without reading its text again.
+/* Writes the block of a pattern (docs/FORMATS.md), from which plurals_packed_format says it without its text.
  * Faults, in the order in which they are looked for: that of the pattern, by its first place; PLURALS_PACKING_COUNT_LIMIT;
  * PLURALS_PACKING_PART; PLURALS_PACKING_ORDER; PLURALS_PACKING_START_LIMIT. Allocates in proportion to the pattern. */
 int64_t plurals_pattern_pack(const char *pattern, size_t pattern_len, uint8_t *out, size_t out_len);
@@ -335,8 +335,9 @@ int32_t plurals_pattern_check(const uint8_t *block, size_t block_len);
 
 /* Writes what the block of a pattern says, as plurals_pattern_format does of the pattern: of what plurals_pattern_pack wrote
  * it is the same, with the same faults, but none of the pattern. Faults, in the order in which they are looked for: that of
- * cardinal; of ordinal; of the block, which is checked at each call; of an argument, as there. The block is read in place.
- * Allocates in proportion to the arguments and the text, which is held also where out has no room for it. */
+ * cardinal; of ordinal; of the block, which is checked at each call, and takes more time than to read the text of most
+ * patterns; of an argument, as there. Allocates in proportion to the arguments and the text, which is held also where out has
+ * no room for it. */
 int64_t plurals_packed_format(const uint8_t *cardinal, size_t cardinal_len, const uint8_t *ordinal, size_t ordinal_len,
                               const uint8_t *block, size_t block_len, const struct plurals_argument *arguments,
                               size_t arguments_len, char *out, size_t out_len);

@@ -452,8 +452,7 @@ inline Result<Bytes> format(std::string_view pattern, std::initializer_list<Argu
     return format(pattern, arguments.begin(), arguments.size(), cardinal, ordinal);
 }
 
-/* A pattern as a block of bytes (docs/FORMATS.md), for who says it often: its text isn't read again. One that is moved from says
- * nothing. */
+/* A pattern as a block of bytes (docs/FORMATS.md), from which it is said without its text. One that is moved from says nothing. */
 class PackedPattern {
 public:
     /* The block of a pattern's text. */

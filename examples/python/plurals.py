@@ -417,7 +417,7 @@ def format_pattern(pattern: str, cardinal: Rules, ordinal: Optional[Rules] = Non
 
 
 class PackedPattern:
-    """A pattern as a block of bytes (docs/FORMATS.md), for who says it often: its text isn't read again.
+    """A pattern as a block of bytes (docs/FORMATS.md), from which it is said without its text.
 
     >>> english = Rules.of_locale("en")
     >>> pattern = PackedPattern("{n, plural, =0 {no files} one {# file} other {# files}}")

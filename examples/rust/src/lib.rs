@@ -386,7 +386,7 @@ pub fn format_pattern(
     Ok(String::from_utf8(text).expect("the library writes UTF-8"))
 }
 
-/// A pattern as a block of bytes (docs/FORMATS.md), for who says it often: its text isn't read again.
+/// A pattern as a block of bytes (docs/FORMATS.md), from which it is said without its text.
 ///
 /// ```
 /// use plurals::{Argument, PackedPattern, PluralRules, Value, CLDR};
