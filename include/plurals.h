@@ -38,9 +38,9 @@
  *
  * Stack
  *     The calls that read JSON, which are plurals_rules_from_document, plurals_find_locale, plurals_ranges_from_document and
- *     plurals_elements_from_json, and plurals_pattern_format take at most 131072 bytes of stack, which JSON that is nested
- *     127 deep needs, about 1 KB a level; deeper JSON is refused by PLURALS_JSON. All other calls take at most
- *     4096 bytes of stack. examples/c/run-stack runs each call with so much; no proof bounds it. It counts what malloc of
+ *     plurals_elements_from_json, and those of patterns but plurals_pattern_check take at most 131072 bytes of stack, which
+ *     JSON that is nested 127 deep needs, about 1 KB a level; deeper JSON is refused by PLURALS_JSON. All other calls take
+ *     at most 4096 bytes of stack. examples/c/run-stack runs each call with so much; no proof bounds it. It counts what malloc of
  *     glibc takes; it doesn't count what the loader takes where it binds a call at its first use.
  *
  * Threads
@@ -167,7 +167,21 @@ enum plurals_fault {
     PLURALS_ARGUMENT_NOT_A_NUMBER = -112,   /* the text of a number isn't one */
     PLURALS_ARGUMENT_OVER_LIMIT = -113,     /* it writes one over a limit, or less its offset it is */
     PLURALS_ARGUMENT_COMPACT_OFFSET = -114, /* a number with a compact exponent where there is an offset */
-    PLURALS_ARGUMENT_KIND = -115            /* the kind is neither PLURALS_NUMBER nor PLURALS_TEXT */
+    PLURALS_ARGUMENT_KIND = -115,           /* the kind is neither PLURALS_NUMBER nor PLURALS_TEXT */
+
+    /* of the block of a pattern */
+    PLURALS_PACKED_LIST_HEADER = -120,     /* the list's head is cut off */
+    PLURALS_PACKED_LIST_ZERO_COUNT = -121, /* the list counts no item, and isn't empty */
+    PLURALS_PACKED_LIST_START = -122,      /* an item starts before the one before it, or after the end */
+    PLURALS_PACKED_PART = -123,            /* an item isn't a part of a pattern */
+    PLURALS_PACKED_PLACE = -124,           /* a part ends, or has a branch, elsewhere than it says */
+    PLURALS_PACKED_ORDER = -125,           /* a part stands where it may not, or an argument isn't ended */
+
+    /* of a pattern that is packed */
+    PLURALS_PACKING_COUNT_LIMIT = -130, /* it has more than 65535 parts */
+    PLURALS_PACKING_PART = -131,        /* the name of an argument with branches has more than 255 bytes */
+    PLURALS_PACKING_ORDER = -132,       /* a part stands where it may not; no text has this fault */
+    PLURALS_PACKING_START_LIMIT = -133  /* a part would start after 65535 */
 };
 
 /* What an argument of a pattern is. */
@@ -309,6 +323,24 @@ int64_t plurals_message(const uint8_t *rules, size_t rules_len, const uint8_t *e
 int64_t plurals_pattern_format(const uint8_t *cardinal, size_t cardinal_len, const uint8_t *ordinal, size_t ordinal_len,
                                const char *pattern, size_t pattern_len, const struct plurals_argument *arguments,
                                size_t arguments_len, char *out, size_t out_len);
+
+/* Writes the block of a pattern (docs/FORMATS.md), from which plurals_packed_format says it without its text.
+ * Faults, in the order in which they are looked for: that of the pattern, by its first place; PLURALS_PACKING_COUNT_LIMIT;
+ * PLURALS_PACKING_PART; PLURALS_PACKING_ORDER; PLURALS_PACKING_START_LIMIT. Allocates in proportion to the pattern. */
+int64_t plurals_pattern_pack(const char *pattern, size_t pattern_len, uint8_t *out, size_t out_len);
+
+/* Returns 0 if the bytes are the block of a pattern, else their fault, which is from PLURALS_PACKED_LIST_HEADER to
+ * PLURALS_PACKED_ORDER. The block without bytes is that of the empty pattern. Allocates nothing. */
+int32_t plurals_pattern_check(const uint8_t *block, size_t block_len);
+
+/* Writes what the block of a pattern says, as plurals_pattern_format does of the pattern: of what plurals_pattern_pack wrote
+ * it is the same, with the same faults, but none of the pattern. Faults, in the order in which they are looked for: that of
+ * cardinal; of ordinal; of the block, which is checked at each call, and takes more time than to read the text of most
+ * patterns; of an argument, as there. Allocates in proportion to the arguments and the text, which is held also where out has
+ * no room for it. */
+int64_t plurals_packed_format(const uint8_t *cardinal, size_t cardinal_len, const uint8_t *ordinal, size_t ordinal_len,
+                              const uint8_t *block, size_t block_len, const struct plurals_argument *arguments,
+                              size_t arguments_len, char *out, size_t out_len);
 
 /* ---- What follows is in the installed library alone, and isn't proved. None of it allocates. */
 

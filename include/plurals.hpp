@@ -452,6 +452,49 @@ inline Result<Bytes> format(std::string_view pattern, std::initializer_list<Argu
     return format(pattern, arguments.begin(), arguments.size(), cardinal, ordinal);
 }
 
+/* A pattern as a block of bytes (docs/FORMATS.md), from which it is said without its text. One that is moved from says nothing. */
+class PackedPattern {
+public:
+    /* The block of a pattern's text. */
+    static Result<PackedPattern> of(std::string_view pattern) noexcept {
+        auto block = Bytes::written(
+            [&](std::uint8_t *out, std::size_t room) { return plurals_pattern_pack(pattern.data(), pattern.size(), out, room); });
+        if (!block) return block.fault();
+        return PackedPattern(*std::move(block));
+    }
+
+    /* A copy of bytes that are the block of a pattern. */
+    static Result<PackedPattern> from_bytes(std::string_view bytes) noexcept {
+        std::int32_t found = plurals_pattern_check(reinterpret_cast<const std::uint8_t *>(bytes.data()), bytes.size());
+        if (found < 0) return Fault(found);
+        auto block = Bytes::written([&](std::uint8_t *out, std::size_t room) {
+            if (bytes.size() != 0 && bytes.size() <= room) std::memcpy(out, bytes.data(), bytes.size());
+            return static_cast<std::int64_t>(bytes.size());
+        });
+        if (!block) return block.fault();
+        return PackedPattern(*std::move(block));
+    }
+
+    /* Returns what it says, as plurals::format does of the pattern's text. */
+    Result<Bytes> format(const Argument *arguments, std::size_t count, const Rules &cardinal, const Rules &ordinal) const noexcept {
+        return Bytes::written([&](std::uint8_t *out, std::size_t room) {
+            return plurals_packed_format(cardinal.block().data(), cardinal.block().size(), ordinal.block().data(),
+                                         ordinal.block().size(), block_.data(), block_.size(), arguments, count,
+                                         reinterpret_cast<char *>(out), room);
+        });
+    }
+    Result<Bytes> format(std::initializer_list<Argument> arguments, const Rules &cardinal, const Rules &ordinal) const noexcept {
+        return format(arguments.begin(), arguments.size(), cardinal, ordinal);
+    }
+
+    /* The block, as calls of plurals.h take it. */
+    const Bytes &block() const noexcept { return block_; }
+
+private:
+    explicit PackedPattern(Bytes block) noexcept : block_(std::move(block)) {}
+    Bytes block_;
+};
+
 }  // namespace plurals
 
 #endif

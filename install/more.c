@@ -87,6 +87,18 @@ const char *plurals_fault_text(int64_t fault) {
     case PLURALS_ARGUMENT_OVER_LIMIT: return "an argument is over a limit";
     case PLURALS_ARGUMENT_COMPACT_OFFSET: return "an offset from a compact number";
     case PLURALS_ARGUMENT_KIND: return "the kind of an argument is neither number nor text";
+
+    case PLURALS_PACKED_LIST_HEADER: return "the block of a pattern: its head is cut off";
+    case PLURALS_PACKED_LIST_ZERO_COUNT: return "the block of a pattern counts no item, and isn't empty";
+    case PLURALS_PACKED_LIST_START: return "the block of a pattern: an item has a wrong start";
+    case PLURALS_PACKED_PART: return "the block of a pattern: an item is no part";
+    case PLURALS_PACKED_PLACE: return "the block of a pattern: a part has a wrong place";
+    case PLURALS_PACKED_ORDER: return "the block of a pattern: a part stands where it may not";
+
+    case PLURALS_PACKING_COUNT_LIMIT: return "the pattern has too many parts for a block";
+    case PLURALS_PACKING_PART: return "the pattern has a name that is too long for a block";
+    case PLURALS_PACKING_ORDER: return "the pattern has a part that stands where it may not";
+    case PLURALS_PACKING_START_LIMIT: return "the pattern is too long for one block";
     default: return NULL;
     }
 }

@@ -59,6 +59,36 @@ static void patterns(void) {
     }
 }
 
+/* The block of a pattern, with null and many arguments as above. Want of memory for them hides no fault of the block. */
+static void packed_patterns(void) {
+    const char *pattern = "{a}{b}{n, plural, one {#} other {}}{s, select, other {.}}";
+    struct plurals_argument given[40];
+    uint8_t block[512];
+    char out[8];
+    int64_t length = plurals_pattern_pack(pattern, strlen(pattern), block, sizeof block);
+    CHECK(length > 0 && length <= (int64_t)sizeof block);
+    CHECK(plurals_pattern_pack(NULL, 0, NULL, 0) == 0);
+    CHECK(plurals_pattern_pack("{", 1, NULL, 0) == PLURALS_PATTERN_UNCLOSED);
+    CHECK(plurals_pattern_check(NULL, 0) == 0);
+    CHECK(plurals_pattern_check(block, (size_t)length) == 0);
+    CHECK(plurals_pattern_check(block, 1) == PLURALS_PACKED_LIST_HEADER);
+    CHECK(plurals_packed_format(NULL, 0, NULL, 0, NULL, 0, NULL, 0, NULL, 0) == 0);
+    CHECK(plurals_packed_format(NULL, 0, NULL, 0, block, 1, NULL, 0, NULL, 0) == PLURALS_PACKED_LIST_HEADER);
+    CHECK(plurals_packed_format(NULL, 0, NULL, 0, block, (size_t)length, NULL, 0, NULL, 0) == PLURALS_ARGUMENT_MISSING);
+    CHECK(plurals_packed_format(NULL, 0, NULL, 0, block, 1, given, SIZE_MAX / sizeof *given, NULL, 0) == PLURALS_PACKED_LIST_HEADER);
+    for (size_t count = 4; count <= 40; count++) {
+        for (size_t k = 0; k < count; k++) given[k] = (struct plurals_argument){NULL, 0, NULL, 0, PLURALS_TEXT};
+        given[0] = (struct plurals_argument){"a", 1, NULL, 0, PLURALS_NUMBER};
+        given[count - 3] = (struct plurals_argument){"b", 1, "x", 1, PLURALS_TEXT};
+        given[count - 2] = (struct plurals_argument){"n", 1, "1.5", 3, PLURALS_NUMBER};
+        given[count - 1] = (struct plurals_argument){"s", 1, NULL, 0, PLURALS_TEXT};
+        memset(out, 77, sizeof out);
+        CHECK(plurals_packed_format(NULL, 0, NULL, 0, block, (size_t)length, given, count, out, 1) == 2 && out[0] == 77);
+        CHECK(plurals_packed_format(NULL, 0, NULL, 0, block, (size_t)length, given, count, out, 2) == 2);
+        CHECK(!memcmp(out, "x.", 2) && out[2] == 77);
+    }
+}
+
 static void pattern_of_the_page(void) {
     uint8_t cardinal[64], *ordinal = NULL;
     size_t ordinal_len = 0;
@@ -68,6 +98,11 @@ static void pattern_of_the_page(void) {
     const char *pattern = "{who} sent {n, plural, one {# file} other {# files}}.";
     int64_t length = plurals_pattern_format(cardinal, cardinal_len, ordinal, ordinal_len, pattern, strlen(pattern),
                                             arguments, 2, out, sizeof out);
+    CHECK(length == 19 && !memcmp(out, "Ann sent 1.0 files.", 19));
+    uint8_t block[128];
+    int64_t block_len = plurals_pattern_pack(pattern, strlen(pattern), block, sizeof block);
+    length = plurals_packed_format(cardinal, cardinal_len, ordinal, ordinal_len, block, block_len,
+                                   arguments, 2, out, sizeof out);
     CHECK(length == 19 && !memcmp(out, "Ann sent 1.0 files.", 19));
 }
 
@@ -218,6 +253,7 @@ static void names_and_texts(void) {
 int main(void) {
     null_with_length_0();
     patterns();
+    packed_patterns();
     pattern_of_the_page();
     operands();
     tables();

@@ -72,7 +72,7 @@ struct text {
     size_t length;
 };
 
-enum kind { RULES, ELEMENTS, NUMBER, PATTERN, NAME, VALUE, RULE, DOCUMENT, ELEMENTS_JSON, KEYS, LOCALE, CHAINED, TEXT_OF_ELEMENT, TEXT_OF_RULE, TABLE,
+enum kind { RULES, ELEMENTS, NUMBER, PATTERN, PACKED, NAME, VALUE, RULE, DOCUMENT, ELEMENTS_JSON, KEYS, LOCALE, CHAINED, TEXT_OF_ELEMENT, TEXT_OF_RULE, TABLE,
             KINDS };
 
 /* Of each kind the good ones, which mistakes are made in. */
@@ -105,6 +105,14 @@ static void add(enum kind kind, const void *bytes, size_t length) {
 }
 
 static void add_text(enum kind kind, const char *text) { add(kind, text, strlen(text)); }
+
+/* The block of a pattern, if it isn't too long. */
+static void pack(struct text *text) {
+    static uint8_t block[MODEL_BYTES];
+    int64_t length = model_pattern_pack((struct slice){text->bytes, text->length}, block);
+    text->length = length < 0 || length > MOST_BYTES ? 0 : (size_t)length;
+    memcpy(text->bytes, block, text->length);
+}
 
 static struct slice slice_of(const char *text) { return (struct slice){(const uint8_t *)text, strlen(text)}; }
 
@@ -167,6 +175,10 @@ static void fill_pools(void) {
     add_text(PATTERN, "{n, selectordinal, one {#st} two {#nd} few {#rd} other {#th}}");
     add_text(PATTERN, "{s, select, a {{n, plural, offset:1 one {#} other {{m}}}} other {'{'#}}");
     add_text(PATTERN, "I don't ''say'' '{it''s}' }#");
+    for (size_t k = 0; k < pools[PATTERN].count; k++) {
+        struct text text = pools[PATTERN].texts[k];
+        pack(&text), add(PACKED, text.bytes, text.length);
+    }
     add_text(NAME, "n");
     add_text(NAME, "s");
     add_text(VALUE, "a");
@@ -342,6 +354,7 @@ static void make_good(enum kind kind, struct text *text) {
     if (kind == NUMBER || (kind == VALUE && below(3))) good_number(text);
     else if (kind == VALUE) append(text, ONE_OF("a", "one", "", "\xc3\xa9"));
     if (kind == PATTERN) good_pattern(text, 3);
+    if (kind == PACKED) good_pattern(text, 2), pack(text);
     if (kind == NAME) append(text, ONE_OF("n", "s", "m", "0"));
     if (kind == DOCUMENT) good_document(text);
     if (kind == ELEMENTS_JSON) good_elements(text);
@@ -384,6 +397,7 @@ static void make_text(enum kind kind, struct text *text) {
     }
     make_whole(kind, text);
     for (size_t chance = 2; below(chance) == 0; chance++) spoil(kind, text);
+    if (kind == PACKED && !model_is_told((struct slice){text->bytes, text->length})) text->length = 0;
 }
 
 /* ---- rooms: bytes between two pages that can't be touched */
@@ -514,6 +528,15 @@ static int64_t pattern_format(const struct slice *s, uint8_t *out, size_t room) 
     return plurals_pattern_format(BLOCK(0), BLOCK(1), TEXT(2), arguments_of(s), arguments_len, (char *)out, room);
 }
 
+static int64_t pattern_pack(const struct slice *s, uint8_t *out, size_t room) { return plurals_pattern_pack(TEXT(0), out, room); }
+static int64_t pattern_check(const struct slice *s, uint8_t *out, size_t room) {
+    (void)out, (void)room;
+    return plurals_pattern_check(BLOCK(0));
+}
+static int64_t packed_format(const struct slice *s, uint8_t *out, size_t room) {
+    return plurals_packed_format(BLOCK(0), BLOCK(1), BLOCK(2), arguments_of(s), arguments_len, (char *)out, room);
+}
+
 /* The same by the model. */
 
 static int64_t model_of_document(const struct slice *s, uint8_t *out) { return model_rules_from_document(s[0], s[1], type, out); }
@@ -546,9 +569,16 @@ static int64_t model_of_pattern(const struct slice *s, uint8_t *out) {
     return model_pattern_format(s[0], s[1], s[2], arguments_of(s), arguments_len, out);
 }
 
+static int64_t model_of_pack(const struct slice *s, uint8_t *out) { return model_pattern_pack(s[0], out); }
+static int64_t model_of_pattern_check(const struct slice *s, uint8_t *out) { return (void)out, model_pattern_check(s[0]); }
+static int64_t model_of_packed(const struct slice *s, uint8_t *out) {
+    return model_packed_format(s[0], s[1], s[2], arguments_of(s), arguments_len, out);
+}
+
 /* Groups of faults, as bits. */
 enum { OF_MEMORY = 1, OF_UTF8 = 2, OF_TYPE = 4, OF_NUMBER = 8, OF_TEXT = 16, OF_RULES = 32, OF_PACKED_RULES = 64, OF_ELEMENTS = 128,
-       OF_PACKED_ELEMENTS = 256, OF_JSON = 512, OF_DOCUMENT = 1024, OF_BOUND = 2048, OF_TABLE = 4096, OF_PATTERN = 8192, OF_ARGUMENT = 16384, OF_KEY = 32768 };
+       OF_PACKED_ELEMENTS = 256, OF_JSON = 512, OF_DOCUMENT = 1024, OF_BOUND = 2048, OF_TABLE = 4096, OF_PATTERN = 8192, OF_ARGUMENT = 16384, OF_KEY = 32768,
+       OF_PACKED = 65536, OF_PACKING = 131072 };
 
 static const struct export {
     const char *name;
@@ -588,6 +618,10 @@ static const struct export {
     {"plurals_message", message, model_of_message, -1, OF_MEMORY | OF_UTF8 | OF_RULES | OF_ELEMENTS | OF_NUMBER, 3, {RULES, ELEMENTS, NUMBER}},
     {"plurals_pattern_format", pattern_format, model_of_pattern, -1, OF_MEMORY | OF_UTF8 | OF_RULES | OF_PATTERN | OF_ARGUMENT, 7,
      {RULES, RULES, PATTERN, NAME, VALUE, NAME, VALUE}},
+    {"plurals_pattern_pack", pattern_pack, model_of_pack, -1, OF_MEMORY | OF_PATTERN | OF_PACKING, 1, {PATTERN}},
+    {"plurals_pattern_check", pattern_check, model_of_pattern_check, 0, OF_PACKED, 1, {PACKED}},
+    {"plurals_packed_format", packed_format, model_of_packed, -1, OF_MEMORY | OF_UTF8 | OF_RULES | OF_PACKED | OF_ARGUMENT, 7,
+     {RULES, RULES, PACKED, NAME, VALUE, NAME, VALUE}},
 };
 enum { EXPORTS = sizeof exports / sizeof *exports };
 
@@ -666,6 +700,16 @@ static struct fault {
     FAULT(PLURALS_ARGUMENT_OVER_LIMIT, OF_ARGUMENT),
     FAULT(PLURALS_ARGUMENT_COMPACT_OFFSET, OF_ARGUMENT),
     FAULT(PLURALS_ARGUMENT_KIND, OF_ARGUMENT),
+    FAULT(PLURALS_PACKED_LIST_HEADER, OF_PACKED),
+    FAULT(PLURALS_PACKED_LIST_ZERO_COUNT, OF_PACKED),
+    FAULT(PLURALS_PACKED_LIST_START, OF_PACKED),
+    FAULT(PLURALS_PACKED_PART, OF_PACKED),
+    FAULT(PLURALS_PACKED_PLACE, OF_PACKED),
+    FAULT(PLURALS_PACKED_ORDER, OF_PACKED),
+    FAULT(PLURALS_PACKING_COUNT_LIMIT, OF_PACKING),
+    FAULT(PLURALS_PACKING_PART, OF_PACKING),
+    FAULT(PLURALS_PACKING_ORDER, OF_PACKING),
+    FAULT(PLURALS_PACKING_START_LIMIT, OF_PACKING),
 };
 enum { FAULTS = sizeof faults / sizeof *faults };
 
@@ -710,6 +754,9 @@ static bool is_all(const uint8_t *bytes, size_t count, uint8_t byte) {
     return true;
 }
 
+/* Whether the call says a pattern, or its block, with arguments. */
+static bool has_arguments(void) { return export->ask == pattern_format || export->ask == packed_format; }
+
 /* Asks once, with so much room for the result and the given allocation refused, and checks what is returned and written. */
 static void ask(size_t room, int64_t refuse) {
     uint8_t *out = place(MOST_SLICES, room), before = (uint8_t)next();
@@ -725,9 +772,9 @@ static void ask(size_t room, int64_t refuse) {
     if (result < 0) {
         struct fault *fault = fault_of(result);
         expect(fault && (export->faults & fault->group), "it is no fault of this call", result);
-        /* A pattern takes memory before its arguments are looked at. */
-        bool is_of_argument = export->ask == pattern_format && fault->group == OF_UTF8;
-        bool is_before_memory = !is_of_argument && fault->group & (OF_UTF8 | OF_TYPE | OF_NUMBER | OF_RULES | OF_ELEMENTS);
+        /* A pattern, or an argument, takes memory before the next argument is looked at. */
+        bool is_of_argument = has_arguments() && fault->group == OF_UTF8;
+        bool is_before_memory = !is_of_argument && fault->group & (OF_UTF8 | OF_TYPE | OF_NUMBER | OF_RULES | OF_ELEMENTS | OF_PACKED);
         expect(!is_before_memory || asked == 0, "it takes memory before this fault", result);
         fault->count++;
     } else {
@@ -790,7 +837,7 @@ static void run_case(void) {
     type = below(8) ? (uint8_t)below(export->ask == find_locale ? 3 : 2) : (uint8_t)next();
     for (int k = 0; k < 2; k++) kinds_of_arguments[k] = below(16) ? (uint32_t)below(2) : (uint32_t)next();
     arguments_len = below(8) ? 2 : below(2);
-    if (export->ask == pattern_format && below(2)) {
+    if (has_arguments() && below(2)) {
         set_slice(3, slice_of("n")), set_slice(5, slice_of("s"));
         for (uint32_t k = 0; k < 2; k++) kinds_of_arguments[k] = k ? PLURALS_TEXT : PLURALS_NUMBER;
     }
@@ -827,6 +874,8 @@ static const struct slice good[KINDS] = {
     [ELEMENTS] = BYTES("\x80\10{} items\1\0\x10{} item"),
     [NUMBER] = BYTES("1"),
     [PATTERN] = BYTES("{n, plural, one {# file} other {# files}}"),
+    [PACKED] = BYTES("\10\0\24\0\33\0\35\0\44\0\55\0\57\0\67\0\3\0\6\0\0\0\4\0\1\0\4\0\4\0\4\0\4\0\1n\6\0\2\0one\1\1\0\1 file"
+                     "\6\0\2\0other\1\1\0\1 files\10\0"),
     [NAME] = BYTES("n"),
     [VALUE] = BYTES("1"),
     [RULE] = BYTES("i = 1 and v = 0"),
@@ -866,6 +915,12 @@ static const struct bad {
     {PATTERN, BYTES("{n,plural,offset:x}"), -97}, {PATTERN, BYTES("{n,plural,*}"), -98}, {PATTERN, BYTES("{n,select,=1{}other{}}"), -98},
     {PATTERN, BYTES("{n,plural,=1.{}other{}}"), -99}, {PATTERN, BYTES("{n,plural,one}"), -100}, {PATTERN, BYTES("{n,plural,one{}}"), -101},
     {PATTERN, BYTES(EIGHT EIGHT EIGHT EIGHT "{n,plural,other{"), -102},
+    {PACKED, BYTES("\1"), -120}, {PACKED, BYTES("\2\0\1"), -120}, {PACKED, BYTES("\0\0"), -121}, {PACKED, BYTES("\2\0\1\0"), -122},
+    {PACKED, BYTES("\3\0\2\0\1\0\1\0\1\0"), -122}, {PACKED, BYTES("\1\0"), -123}, {PACKED, BYTES("\1\0\1\0\1"), -123},
+    {PACKED, BYTES("\1\0\11\0"), -123}, {PACKED, BYTES("\1\0\0\41"), -123}, {PACKED, BYTES("\1\0\5\0\0\0\0\0\1"), -123},
+    {PACKED, BYTES("\1\0\6\0"), -124}, {PACKED, BYTES("\1\0\6\0\1\0"), -124}, {PACKED, BYTES("\1\0\7\0\0\0\0\1"), -124},
+    {PACKED, BYTES("\1\0\6\0\0\0"), -125}, {PACKED, BYTES("\1\0\10\0"), -125}, {PACKED, BYTES("\1\0\0\1"), -125},
+    {PACKED, BYTES("\1\0\5\0\0\0\0\0\0"), -125},
     {NAME, BYTES("\xff"), -2}, {VALUE, BYTES("\xff"), -2}, {VALUE, BYTES("1\xc3"), -2},
     {RULE, BYTES("i = 1 or"), -20}, {RULE, BYTES("i = 1 or @integer 1"), -20}, {RULE, BYTES("i = 1 and"), -21}, {RULE, BYTES("i 1"), -22},
     {RULE, BYTES("i % 010 = 1"), -22}, {RULE, BYTES("= 1"), -23}, {RULE, BYTES("i = 1 and or"), -23}, {RULE, BYTES("\ti = 1"), -23},
@@ -1140,14 +1195,30 @@ static const struct {
     {"plurals_pattern_format", {ENGLISH, BYTES(""), BYTES("{n, selectordinal, one {#st} other {#th}}"), BYTES("n"), BYTES("1"), BYTES("s"), BYTES("")}, BYTES("1th")},
     {"plurals_pattern_format", {ENGLISH, BYTES(""), BYTES("{s, select, a {A#} other {B}}{s}"), BYTES("n"), BYTES(" "), BYTES("s"), BYTES("a")}, BYTES("A#a")},
     {"plurals_pattern_format", {ENGLISH, BYTES(""), BYTES("'{n}' I don''t }# '"), BYTES("n"), BYTES("1"), BYTES("s"), BYTES("")}, BYTES("{n} I don't }# '")},
+    {"plurals_pattern_pack", {BYTES("hello")}, BYTES("\1\0\0\0hello")},
+    {"plurals_pattern_pack", {BYTES("I don't")}, BYTES("\3\0\7\0\12\0\0\0I don\0\0'\0\0t")},
+    {"plurals_pattern_pack", {BYTES("{s, select, other {'{'#}}")}, BYTES("\5\0\10\0\21\0\24\0\27\0\5\0\3\0\1\0\1s\6\0\2\0other\0\1{\0\1#\10\0")},
     {"plurals_pattern_format", {ENGLISH, BYTES(""), BYTES("{n, plural, other {# {s, select, other {#}} #}}"), BYTES("n"), BYTES("1"), BYTES("s"), BYTES("x")}, BYTES("1 # 1")},
 };
+
+/* The block of a short pattern. */
+static struct slice packed_of(struct slice pattern) {
+    static struct text block;
+    block.length = pattern.length;
+    memcpy(block.bytes, pattern.at, pattern.length);
+    pack(&block);
+    return (struct slice){block.bytes, block.length};
+}
 
 static void try_written(void) {
     for (size_t row = 0; row < sizeof written / sizeof *written; row++) {
         export = export_of(written[row].name);
         set_good();
         for (int k = 0; k < export->slices; k++) set_slice(k, written[row].slices[k]);
+        run_by_hand((int64_t)written[row].bytes.length, written[row].bytes);
+        if (export->ask != pattern_format) continue;
+        export = export_of("plurals_packed_format");
+        set_slice(2, packed_of(written[row].slices[2]));
         run_by_hand((int64_t)written[row].bytes.length, written[row].bytes);
     }
 }
@@ -1174,6 +1245,10 @@ static void try_arguments(void) {
         set_slice(2, slice_of(uses[row].pattern)), set_slice(4, slice_of(uses[row].value));
         run_by_hand(uses[row].fault, NO_BYTES);
         set_slice(2, slice_of("{")), run_by_hand(PLURALS_PATTERN_UNCLOSED, NO_BYTES);
+        export = export_of("plurals_packed_format");
+        set_slice(2, packed_of(slice_of(uses[row].pattern))), run_by_hand(uses[row].fault, NO_BYTES);
+        set_slice(2, slice_of("\1")), run_by_hand(PLURALS_PACKED_LIST_HEADER, NO_BYTES);
+        export = export_of("plurals_pattern_format");
     }
 }
 
@@ -1267,6 +1342,25 @@ static void try_patterns(void) {
     try_pattern("{n}", "", 0, "", longest, 0);
 }
 
+/* A pattern that is packed, where so many of a piece stand behind the front. */
+static void try_pack(const char *front, const char *piece, int times, const char *end, int fault) {
+    export = export_of("plurals_pattern_pack");
+    set_slice(0, repeated(front, piece, times, end));
+    run_limit(fault);
+}
+
+static void try_packs(void) {
+    try_pack("", "{a}", 65536, "", PLURALS_PACKING_COUNT_LIMIT);
+    try_pack("", "{a}", 20000, "", 0);
+    try_pack("{", "a", 256, ", plural, other {}}", PLURALS_PACKING_PART);
+    try_pack("{", "a", 255, ", plural, other {}}", 0);
+    try_pack("{", "a", 256, "}", 0);
+    try_pack("", "x", 65533, "{a}{b", PLURALS_PATTERN_UNCLOSED);
+    try_pack("", "x", 65533, "{a}", 0);
+    try_pack("", "x", 65534, "{a}", PLURALS_PACKING_START_LIMIT);
+    try_pack("", "x", 100000, "", 0);
+}
+
 /* A locale of so many subtags, the last of whose chain is root. */
 static void try_chain(int subtags, int fault) {
     export = export_of("plurals_find_locale");
@@ -1279,6 +1373,7 @@ static void try_limits(void) {
     try_chain(31, 0);
     try_chain(32, PLURALS_LOCALE);
     try_patterns();
+    try_packs();
     try_rule(8191, " and n = 1", "", 0);
     try_rule(8192, " and n = 1", "", PLURALS_TEXT_START_LIMIT);
     try_rule(8190, "", "n = 2", 0);
@@ -1295,12 +1390,12 @@ static void try_limits(void) {
     run_limit(0);
 }
 
-/* Each fault of each export has a row, but -26, which no text has, and memory, which is refused to all. */
+/* Each fault of each export has a row, but -26 and -132, which no text has, and memory, which is refused to all. */
 static void expect_each_fault(void) {
     for (size_t e = 0; e < EXPORTS; e++)
         for (size_t k = 0; k < FAULTS; k++) {
             bool is_reachable = (exports[e].faults & faults[k].group) && faults[k].number != PLURALS_TEXT_VALUE_TOO_LARGE
-                && faults[k].number != PLURALS_MEMORY;
+                && faults[k].number != PLURALS_PACKING_ORDER && faults[k].number != PLURALS_MEMORY;
             if (is_reachable == (faults[k].by_hand[e] > 0)) continue;
             printf("%s: %s has %s\n", exports[e].name, faults[k].name, is_reachable ? "no row" : "a row");
             exit(1);

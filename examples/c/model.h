@@ -37,6 +37,12 @@ int64_t model_sure_category(struct slice rules, struct slice number);
 int64_t model_is_read_whole(struct slice text);
 int64_t model_pattern_format(struct slice cardinal, struct slice ordinal, struct slice pattern, const struct plurals_argument *arguments,
                              size_t count, uint8_t *out);
+int64_t model_pattern_pack(struct slice pattern, uint8_t *out);
+int64_t model_pattern_check(struct slice block);
+int64_t model_packed_format(struct slice cardinal, struct slice ordinal, struct slice block, const struct plurals_argument *arguments,
+                            size_t count, uint8_t *out);
+/* Whether docs/ tells what the block of a pattern says: its offsets are of digits. */
+bool model_is_told(struct slice block);
 
 bool model_is_utf8(struct slice text);
 

@@ -1,6 +1,6 @@
-/* What plurals_pattern_format returns and writes: a model of docs/PATTERNS.md, which reads a pattern twice, first for its faults, and
- * then to say it, and of a plural or a select that is said its branches twice, to choose one and to say it. */
-#include "model.h"
+/* What plurals_pattern_format and plurals_packed_format return and write: a model of docs/PATTERNS.md, which reads a pattern twice, first
+ * for its faults, and then to say it, and of a plural or a select that is said its branches twice, to choose one and to say it. */
+#include "parts.h"
 #include <plurals.h>
 #include <stdlib.h>
 #include <string.h>
@@ -17,6 +17,9 @@ static uint8_t *said;
 static size_t said_len;
 /* What # says in the branches of each depth, if it is a number less an offset. */
 static uint8_t signs[MOST_DEPTH + 1][SIGN_BYTES];
+/* Where the parts of the text are kept, or null; and whether the last one is text that may go on. */
+static struct parts *kept;
+static bool goes_on;
 
 static struct slice between(size_t start, size_t end) { return (struct slice){text.at + start, end - start}; }
 static bool is_same(struct slice one, const void *bytes, size_t length) {
@@ -33,6 +36,22 @@ static void say(bool is_said, struct slice bytes) {
     if (!is_said || bytes.length == 0) return;
     if (bytes.length > MODEL_BYTES - said_len) abort();
     memcpy(said + said_len, bytes.at, bytes.length), said_len += bytes.length;
+}
+
+/* Keeps a part. */
+static void keep(enum form form, size_t depth, struct slice name, struct slice own) {
+    if (!kept) return;
+    if (kept->length == MOST_PARTS) abort();
+    kept->at[kept->length++] = (struct part){form, depth, name, own};
+    goes_on = false;
+}
+
+/* Says and keeps text: a byte of a run, which goes on with the bytes that follow it, or a mark that stands for itself. */
+static void text_piece(bool is_said, size_t depth, struct slice bytes, bool is_run) {
+    say(is_said, bytes);
+    if (kept && is_run && goes_on) kept->at[kept->length - 1].own.length += bytes.length;
+    else keep(TEXT, depth, between(0, 0), bytes);
+    goes_on = is_run;
 }
 
 /* ---- names and white space */
@@ -181,6 +200,13 @@ static struct slice value_of(const struct plurals_argument *argument) {
     return (struct slice){(const uint8_t *)argument->value, argument->value_len};
 }
 
+static int64_t say_argument(struct slice name) {
+    const struct plurals_argument *found = argument_of(name);
+    if (!found) return PLURALS_ARGUMENT_MISSING;
+    say(true, value_of(found));
+    return 0;
+}
+
 /* What chooses a branch: a number that is compared, and a keyword. */
 struct chooser {
     struct slice number;
@@ -215,6 +241,7 @@ static int64_t branches(enum type type, size_t depth, const struct chooser *choo
         bool is_number;
         int64_t fault = selector(type, &word, &is_number);
         if (fault) return fault;
+        keep(is_number ? EXACTLY : KEYWORD, depth, between(0, 0), word);
         skip_blanks();
         if (!is_next('{')) return failed(PLURALS_PATTERN_EXPECTED_BRANCH);
         at++;
@@ -226,6 +253,7 @@ static int64_t branches(enum type type, size_t depth, const struct chooser *choo
         if (fault) return fault;
     }
     if (!other) return PLURALS_PATTERN_MISSING_OTHER;
+    keep(END, depth, between(0, 0), between(0, 0));
     at++;
     *chosen = exactly ? exactly : named ? named : other;
     return 0;
@@ -254,7 +282,7 @@ static int64_t choose(enum type type, struct slice name, const struct slice *off
 static int64_t choice(struct slice name, size_t depth, struct slice sign, bool is_said) {
     static const char *const types[TYPES] = {"plural", "selectordinal", "select"};
     skip_blanks();
-    size_t start = at, type = 0, chosen;
+    size_t start = at, type = 0, chosen = 0;
     while (!ends() && is_letter(text.at[at])) at++;
     if (at == start) return failed(PLURALS_PATTERN_EXPECTED_TYPE);
     for (; type < TYPES; type++) {
@@ -272,6 +300,7 @@ static int64_t choice(struct slice name, size_t depth, struct slice sign, bool i
         at += 7, skip_blanks(), number = digits(), offset = &number;
         if (number.length == 0) return failed(PLURALS_PATTERN_EXPECTED_OFFSET);
     }
+    keep((enum form)(BEGIN + type), depth, name, offset ? number : between(0, 0));
     struct chooser chooser;
     int64_t fault = is_said ? choose((enum type)type, name, offset, depth, &sign, &chooser) : 0;
     if (!fault) fault = branches((enum type)type, depth, is_said ? &chooser : NULL, &chosen);
@@ -293,33 +322,32 @@ static int64_t argument(size_t depth, struct slice sign, bool is_said) {
     if (is_next(',')) return at++, choice(word, depth, sign, is_said);
     if (!is_next('}')) return failed(PLURALS_PATTERN_EXPECTED_END);
     at++;
-    if (!is_said) return 0;
-    const struct plurals_argument *found = argument_of(word);
-    if (!found) return PLURALS_ARGUMENT_MISSING;
-    say(true, value_of(found));
-    return 0;
+    keep(ARGUMENT, depth, word, between(0, 0));
+    return is_said ? say_argument(word) : 0;
 }
 
 /* ---- text */
 
 /* Reads quoted text, up to behind the apostrophe that ends it or to the end. */
-static void quoted(bool is_said) {
+static void quoted(size_t depth, bool is_said) {
     for (; !ends(); at++) {
         if (is_next('\'') && !(at + 1 < text.length && text.at[at + 1] == '\'')) {
             at++;
             return;
         }
-        say(is_said, between(at, at + 1));
+        text_piece(is_said, depth, between(at, at + 1), !is_next('\''));
         at += is_next('\'');
     }
 }
 
-static void apostrophe(enum context context, bool is_said) {
+static void apostrophe(enum context context, size_t depth, bool is_said) {
+    goes_on = false;
     if (is_next('{') || is_next('}') || (context == COUNTED && is_next('#'))) {
-        quoted(is_said);
+        quoted(depth, is_said);
+        goes_on = false;
         return;
     }
-    say(is_said, (struct slice){(const uint8_t *)"'", 1});
+    text_piece(is_said, depth, (struct slice){(const uint8_t *)"'", 1}, false);
     at += is_next('\'');
 }
 
@@ -330,8 +358,9 @@ static int64_t message(enum context context, size_t depth, struct slice sign, bo
         int64_t fault = 0;
         if (byte == '}' && context != WHOLE) return 0;
         if (byte == '{') fault = argument(depth, sign, is_said);
-        else if (byte == '\'') apostrophe(context, is_said);
-        else say(is_said, byte == '#' && context == COUNTED ? sign : between(at - 1, at));
+        else if (byte == '\'') apostrophe(context, depth, is_said);
+        else if (byte == '#' && context == COUNTED) say(is_said, sign), keep(HASH, depth, between(0, 0), between(0, 0));
+        else text_piece(is_said, depth, between(at - 1, at), byte != '#' && byte != '}');
         if (fault) return fault;
     }
     return context == WHOLE ? 0 : PLURALS_PATTERN_UNCLOSED;
@@ -353,5 +382,81 @@ int64_t model_pattern_format(struct slice cardinal, struct slice ordinal, struct
     for (size_t k = 0; !fault && k < count; k++) fault = argument_fault(&given[k]);
     at = 0;
     if (!fault) fault = message(WHOLE, 0, nothing, true);
+    return fault ? fault : (int64_t)said_len;
+}
+
+int64_t model_read_text(struct slice pattern, struct parts *parts) {
+    static const struct slice nothing = {(const uint8_t *)"", 0};
+    text = pattern, at = 0, kept = parts, goes_on = false, parts->length = 0;
+    int64_t fault = message(WHOLE, 0, nothing, false);
+    kept = NULL;
+    return fault;
+}
+
+/* ---- the parts of a block */
+
+static struct parts read;
+
+/* Where the argument ends that begins at a part. */
+static size_t end_of(size_t k) {
+    size_t end = k + 1;
+    while (read.at[end].form != END || read.at[end].depth > read.at[k].depth) end++;
+    return end;
+}
+
+/* Where the chosen branch of an argument begins, or behind all parts if it has none. */
+static size_t branch_of(size_t begin, const struct chooser *chooser) {
+    static const struct slice no_rules = {(const uint8_t *)"", 0};
+    size_t exactly = 0, named = 0, other = 0, end = end_of(begin);
+    for (size_t k = begin + 1; k < end; k++) {
+        const struct part *part = &read.at[k];
+        if (part->depth > read.at[begin].depth) continue;
+        bool is_number = part->form == EXACTLY && read.at[begin].form != BEGIN_SELECT && model_category(no_rules, part->own) >= 0;
+        if (!exactly && is_number && is_equal(part->own, chooser->number)) exactly = k + 1;
+        if (part->form != KEYWORD) continue;
+        if (!named && is_same(part->own, chooser->keyword, chooser->keyword_len)) named = k + 1;
+        if (!other && is_same(part->own, "other", 5)) other = k + 1;
+    }
+    return exactly ? exactly : named ? named : other ? other : read.length;
+}
+
+/* Says the parts from one on, up to the end of their branch. */
+static int64_t say_parts(size_t k, struct slice sign) {
+    for (; k < read.length; k++) {
+        const struct part *part = &read.at[k];
+        struct slice inner = sign;
+        struct chooser chooser;
+        int64_t fault = 0;
+        switch (part->form) {
+        case TEXT: say(true, part->own); break;
+        case HASH: say(true, sign); break;
+        case ARGUMENT: fault = say_argument(part->name); break;
+        case KEYWORD: case EXACTLY: case END: return 0;
+        default:
+            fault = choose((enum type)(part->form - BEGIN), part->name, part->own.length ? &part->own : NULL, part->depth, &inner, &chooser);
+            if (!fault) fault = say_parts(branch_of(k, &chooser), inner);
+            k = end_of(k);
+        }
+        if (fault) return fault;
+    }
+    return 0;
+}
+
+bool model_is_told(struct slice block) {
+    if (model_read_block(block, &read)) return true;
+    for (size_t k = 0; k < read.length; k++)
+        if (read.at[k].form >= BEGIN && read.at[k].form < BEGIN_SELECT && read.at[k].own.length && !are_digits(read.at[k].own)) return false;
+    return true;
+}
+
+int64_t model_packed_format(struct slice cardinal, struct slice ordinal, struct slice block, const struct plurals_argument *given,
+                            size_t count, uint8_t *out) {
+    static const struct slice nothing = {(const uint8_t *)"", 0};
+    rules[0] = cardinal, rules[1] = ordinal, arguments = given, arguments_len = count, said = out, said_len = 0;
+    int64_t fault = model_check_rules(cardinal);
+    if (!fault) fault = model_check_rules(ordinal);
+    if (!fault) fault = model_read_block(block, &read);
+    for (size_t k = 0; !fault && k < count; k++) fault = argument_fault(&given[k]);
+    if (!fault) fault = say_parts(0, nothing);
     return fault ? fault : (int64_t)said_len;
 }

@@ -33,6 +33,10 @@ int64_t __real_plurals_element(const uint8_t *, size_t, const uint8_t *, size_t,
 int64_t __real_plurals_message(const uint8_t *, size_t, const uint8_t *, size_t, const char *, size_t, char *, size_t);
 int64_t __real_plurals_pattern_format(const uint8_t *, size_t, const uint8_t *, size_t, const char *, size_t, const struct plurals_argument *,
                                       size_t, char *, size_t);
+int64_t __real_plurals_pattern_pack(const char *, size_t, uint8_t *, size_t);
+int32_t __real_plurals_pattern_check(const uint8_t *, size_t);
+int64_t __real_plurals_packed_format(const uint8_t *, size_t, const uint8_t *, size_t, const uint8_t *, size_t, const struct plurals_argument *,
+                                     size_t, char *, size_t);
 
 /* How many digits a number has before its point. */
 static size_t integers(const char *number, size_t length) {
@@ -215,5 +219,32 @@ int64_t __wrap_plurals_pattern_format(const uint8_t *cardinal, size_t cardinal_l
         __real_plurals_pattern_format(cardinal, cardinal_len, ordinal, ordinal_len, pattern, pattern_len, arguments, arguments_len, out, out_len);
     if (bug == 35 && result == PLURALS_ARGUMENT_WRONG_KIND) return PLURALS_ARGUMENT_NOT_A_NUMBER; /* two faults have one number */
     if (bug == 36 && result > 1 && result <= (int64_t)out_len && out[0] == '-') out[0] = '+'; /* a sign is turned */
+    return result;
+}
+
+int64_t __wrap_plurals_pattern_pack(const char *pattern, size_t pattern_len, uint8_t *out, size_t out_len) {
+    int bug = planted();
+    int64_t result = __real_plurals_pattern_pack(pattern, pattern_len, out, out_len);
+    if (bug == 39 && result == PLURALS_PACKING_START_LIMIT) return PLURALS_PACKING_COUNT_LIMIT; /* two faults have one number */
+    if (bug == 40 && result > 100 && result <= (int64_t)out_len) out[result - 1] = 0; /* the last byte isn't written */
+    return result;
+}
+
+int32_t __wrap_plurals_pattern_check(const uint8_t *block, size_t block_len) {
+    int bug = planted();
+    int32_t result = __real_plurals_pattern_check(block, block_len);
+    if (bug == 41 && result == PLURALS_PACKED_PLACE) return 0; /* places aren't compared */
+    return result;
+}
+
+int64_t __wrap_plurals_packed_format(const uint8_t *cardinal, size_t cardinal_len, const uint8_t *ordinal, size_t ordinal_len,
+                                     const uint8_t *block, size_t block_len, const struct plurals_argument *arguments, size_t arguments_len,
+                                     char *out, size_t out_len) {
+    int bug = planted();
+    if (bug == 42 && ordinal_len) ordinal = cardinal, ordinal_len = cardinal_len; /* ordinal numbers are by the cardinal rules */
+    int64_t result =
+        __real_plurals_packed_format(cardinal, cardinal_len, ordinal, ordinal_len, block, block_len, arguments, arguments_len, out, out_len);
+    if (bug == 43 && result == PLURALS_PACKED_ORDER) return PLURALS_PACKED_PLACE; /* two faults have one number */
+    if (bug == 44 && result > 1 && result <= (int64_t)out_len && out[0] == '-') out[0] = '+'; /* a sign is turned */
     return result;
 }

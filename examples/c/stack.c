@@ -19,8 +19,8 @@
 enum { STACK = 1 << 20, LONG = 300000, PAINT = 0xa5 };
 
 static char text[LONG], number[LONG];
-static uint8_t rules[LONG], elements[LONG], out[LONG];
-static size_t text_len, number_len, rules_len, elements_len;
+static uint8_t rules[LONG], elements[LONG], block[LONG], out[LONG];
+static size_t text_len, number_len, rules_len, elements_len, block_len;
 static int64_t result;
 
 /* ---- the calls, with what the variables above hold */
@@ -55,6 +55,12 @@ static void pattern_format(void) {
     struct plurals_argument argument = {"n", 1, number, number_len, PLURALS_NUMBER};
     result = plurals_pattern_format(rules, rules_len, rules, rules_len, text, text_len, &argument, 1, (char *)out, LONG);
 }
+static void pattern_pack(void) { result = plurals_pattern_pack(text, text_len, out, LONG); }
+static void pattern_check(void) { result = plurals_pattern_check(block, block_len); }
+static void packed_format(void) {
+    struct plurals_argument argument = {"n", 1, number, number_len, PLURALS_NUMBER};
+    result = plurals_packed_format(rules, rules_len, rules, rules_len, block, block_len, &argument, 1, (char *)out, LONG);
+}
 
 static const struct export {
     const char *name;
@@ -71,9 +77,11 @@ static const struct export {
     {"plurals_sure_category", sure_category, false},      {"plurals_is_read_whole", is_read_whole, false},
     {"plurals_table_of_rules", table_of_rules, false},    {"plurals_category_by_table", category_by_table, false},
     {"plurals_categories_of_integers", categories_of_integers, false}, {"plurals_find_locale", find_locale, true},
-    {"plurals_pattern_format", pattern_format, true},
+    {"plurals_pattern_check", pattern_check, false},      {"plurals_pattern_pack", pattern_pack, true},
+    {"plurals_pattern_format", pattern_format, true},     {"plurals_packed_format", packed_format, true},
 };
-enum { EXPORTS = sizeof exports / sizeof *exports };
+/* Those of patterns stand at the end. */
+enum { EXPORTS = sizeof exports / sizeof *exports, PATTERNS = EXPORTS - 4 };
 
 /* ---- a call on a thread with so much stack left */
 
@@ -175,8 +183,12 @@ static void try_patterns(void) {
             repeat(text, &text_len, "", "{n,plural,offset:99 other{", depth, inner[k]);
             repeat(text + text_len, &rest, "", "}}", depth, "");
             text_len += rest;
-            repeat(number, &number_len, "1", "", 0, ""), try_export(&exports[EXPORTS - 1]);
-            repeat(number, &number_len, "-", "9", 32766, ".5"), try_export(&exports[EXPORTS - 1]);
+            int64_t length = plurals_pattern_pack(text, text_len, block, LONG);
+            block_len = length < 0 ? 0 : (size_t)length;
+            repeat(number, &number_len, "1", "", 0, "");
+            for (size_t export = PATTERNS; export < EXPORTS; export++) try_export(&exports[export]);
+            repeat(number, &number_len, "-", "9", 32766, ".5");
+            for (size_t export = PATTERNS; export < EXPORTS; export++) try_export(&exports[export]);
         }
 }
 

@@ -213,6 +213,31 @@ static void patterns() {
     CHECK(plurals::format("{n}", {Argument::text("m", "x")}, *english, *ordinal).fault().text() == "no argument has the name");
 }
 
+static void packed_patterns() {
+    using plurals::Argument, plurals::PackedPattern;
+    Texts texts;
+    texts.one = "i = 1 and v = 0";
+    auto english = Rules::from_texts(texts);
+    auto ordinal = Rules::from_texts({});
+    auto sent = PackedPattern::of("{name} sent {n, plural, =0 {no files} one {# file} other {# files}}.");
+    auto again = PackedPattern::from_bytes(sent->block());
+    for (const PackedPattern *pattern : {&*sent, &*again}) {
+        auto said = [&](std::string_view number) {
+            return pattern->format({Argument::text("name", "Ann"), Argument::number("n", number)}, *english, *ordinal);
+        };
+        CHECK(said("0")->view() == "Ann sent no files.");
+        CHECK(said("1")->view() == "Ann sent 1 file.");
+        CHECK(said("1.0")->view() == "Ann sent 1.0 files.");
+        CHECK(said("one").fault().number() == PLURALS_ARGUMENT_NOT_A_NUMBER);
+    }
+    CHECK(PackedPattern::of("hello")->block().view() == std::string_view("\1\0\0\0hello", 9));
+    CHECK(PackedPattern::of("").has_value() && PackedPattern::from_bytes({})->format({}, *english, *ordinal)->size() == 0);
+    CHECK(PackedPattern::of("{n").fault().number() == PLURALS_PATTERN_UNCLOSED);
+    CHECK(PackedPattern::from_bytes("\1").fault().number() == PLURALS_PACKED_LIST_HEADER);
+    PackedPattern moved = *std::move(again);
+    CHECK(again->format({}, *english, *ordinal)->size() == 0 && moved.block().size() > 0);
+}
+
 int main() {
     static_assert(PLURALS_VERSION_MAJOR == 0);
     CHECK(plurals_version() == std::string_view(PLURALS_VERSION));
@@ -227,6 +252,7 @@ int main() {
     locales();
     elements();
     patterns();
+    packed_patterns();
     std::printf("%d failed\n", failed);
     return failed != 0;
 }

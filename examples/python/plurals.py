@@ -19,7 +19,7 @@ from enum import Enum
 from pathlib import Path
 from typing import Any, Iterable, Optional, Union
 
-__all__ = ["Category", "CategoryTable", "Elements", "Fault", "Number", "Ranges", "Rules", "Written", "find_locale", "format_pattern", "is_read_whole", "text_of", "version"]
+__all__ = ["Category", "CategoryTable", "Elements", "Fault", "Number", "PackedPattern", "Ranges", "Rules", "Written", "find_locale", "format_pattern", "is_read_whole", "text_of", "version"]
 
 Number = Union[int, float, Decimal, str]
 _HERE = Path(__file__).resolve()
@@ -107,6 +107,9 @@ def _opened() -> ctypes.CDLL:
         "plurals_element": (ctypes.c_int64, [*given * 3, *given]),
         "plurals_message": (ctypes.c_int64, [*given * 3, *given]),
         "plurals_pattern_format": (ctypes.c_int64, [*given * 3, ctypes.POINTER(_Argument), ctypes.c_size_t, *given]),
+        "plurals_pattern_pack": (ctypes.c_int64, [*given, *given]),
+        "plurals_pattern_check": (ctypes.c_int32, [*given]),
+        "plurals_packed_format": (ctypes.c_int64, [*given * 3, ctypes.POINTER(_Argument), ctypes.c_size_t, *given]),
         "plurals_category_name": (ctypes.c_char_p, [ctypes.c_int32]),
         "plurals_fault_text": (ctypes.c_char_p, [ctypes.c_int64]),
         "plurals_version": (ctypes.c_char_p, []),
@@ -410,10 +413,44 @@ def format_pattern(pattern: str, cardinal: Rules, ordinal: Optional[Rules] = Non
     >>> format_pattern("{who} has {n, plural, =0 {no files} one {# file} other {# files}}.", english, who="Ann", n=1)
     'Ann has 1 file.'
     """
+    return _said(_library.plurals_pattern_format, _bytes(pattern), cardinal, ordinal, arguments)
+
+
+class PackedPattern:
+    """A pattern as a block of bytes (docs/FORMATS.md), from which it is said without its text.
+
+    >>> english = Rules.of_locale("en")
+    >>> pattern = PackedPattern("{n, plural, =0 {no files} one {# file} other {# files}}")
+    >>> [pattern.format(english, n=n) for n in (0, 1, 2)]
+    ['no files', '1 file', '2 files']
+    """
+
+    __slots__ = ("block",)
+    block: bytes
+
+    def __init__(self, pattern: str) -> None:
+        """Reads the pattern's text."""
+        self.block = _written(_library.plurals_pattern_pack, *_words((_bytes(pattern),)))
+
+    @classmethod
+    def of_bytes(cls, block: bytes) -> PackedPattern:
+        """Takes the bytes of a block, as block has them. Others are a fault."""
+        _checked(_library.plurals_pattern_check(block, len(block)))
+        found = cls.__new__(cls)
+        found.block = bytes(block)
+        return found
+
+    def format(self, cardinal: Rules, ordinal: Optional[Rules] = None, /, **arguments: Number) -> str:
+        """Returns what it says, as format_pattern does of the pattern's text."""
+        return _said(_library.plurals_packed_format, self.block, cardinal, ordinal, arguments)
+
+
+def _said(export: Any, pattern: bytes, cardinal: Rules, ordinal: Optional[Rules], arguments: dict[str, Number]) -> str:
+    """Returns what a pattern says, of which these are the text or the block."""
     given = [(_bytes(name), _bytes(text_of(value)), _is_text(value)) for name, value in arguments.items()]
     passed = (_Argument * len(given))(*[(name, len(name), value, len(value), kind) for name, value, kind in given])
-    words = _words((cardinal.block, ordinal.block if ordinal is not None else b"", _bytes(pattern)))
-    return _written(_library.plurals_pattern_format, *words, passed, len(given)).decode()
+    words = _words((cardinal.block, ordinal.block if ordinal is not None else b"", pattern))
+    return _written(export, *words, passed, len(given)).decode()
 
 
 def _is_text(value: Number) -> int:

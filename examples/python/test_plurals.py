@@ -301,6 +301,24 @@ def test_patterns():
         assert fault.value.number == number
 
 
+def test_packed_patterns():
+    text = "{who} sent {n, plural, =0 {no files} one {# file} other {# files}}."
+    pattern = plurals.PackedPattern.of_bytes(plurals.PackedPattern(text).block)
+    for n in (0, 1, 2.5, Decimal("1.0"), plurals.Written("1")):
+        assert pattern.format(ENGLISH, who="Ann", n=n) == plurals.format_pattern(text, ENGLISH, who="Ann", n=n)
+    ordinal = plurals.PackedPattern("{n, selectordinal, one {#st} other {#th}}")
+    assert ordinal.format(ENGLISH, Rules.of_locale("en", ordinal=True), n=21) == "21st"
+    assert ordinal.format(ENGLISH, n=21) == "21th"
+    assert plurals.PackedPattern("").block == b""
+    assert plurals.PackedPattern("hello").block == b"\1\0\0\0hello"
+    faults = [(lambda: plurals.PackedPattern("{n"), -90), (lambda: plurals.PackedPattern("{" + "n" * 256 + ", plural, other {}}"), -131)]
+    faults += [(lambda: plurals.PackedPattern.of_bytes(b"\1"), -120), (lambda: ordinal.format(ENGLISH, n="21"), -111)]
+    for call, number in faults:
+        with pytest.raises(Fault) as fault:
+            call()
+        assert fault.value.number == number
+
+
 def test_byte_0_is_no_end():
     assert Elements('{"other":[0,"a\\u0000b"]}').text(ENGLISH, 1) == "a\0b"
     with pytest.raises(Fault):

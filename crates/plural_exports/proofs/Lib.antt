@@ -9,3 +9,4 @@ pub mod ElementTexts
 pub mod ManyIntegers
 pub mod ReadArguments
 pub mod SaidPatterns
+pub mod PatternsPacked

@@ -10,7 +10,8 @@ use Rattle.message_pattern.specs.declared.error.PatternError.{PatternError}
 use Rattle.message_pattern.specs.declared.error.PatternError.TheVariants as pattern
 use Rattle.message_pattern.specs.PatternAnswers.{IsFaultOf}
 use Rattle.message_pattern.specs.PatternParts.{Part}
-use Rattle.plural_exports.specs.FormattedPatterns.{IsSaid, ReadsPatternText}
+use Rattle.plural_exports.specs.FormattedPatterns.{IsSaid}
+use Rattle.plural_exports.specs.GivenPatterns.{ReadsPatternText}
 use Rattle.plural_exports.specs.Inner.Conversions.{format_fault, pattern_fault}
 use Rattle.plural_exports.specs.declared.fault.Fault.{Fault}
 

@@ -21,9 +21,13 @@ use Rattle.message_format.specs.declared.error.ArgumentFault.{ArgumentFault}
 use Rattle.message_format.specs.declared.error.ArgumentFault.TheVariants as argument
 use Rattle.message_pattern.specs.declared.error.FaultKind.{FaultKind}
 use Rattle.message_pattern.specs.declared.error.FaultKind.TheVariants as pattern
+use Rattle.packed_pattern.specs.declared.error.BlockError.{BlockError}
+use Rattle.packed_pattern.specs.declared.error.BlockError.TheVariants as blocked
+use Rattle.packed_pattern.specs.declared.error.PackPatternError.{PackPatternError}
+use Rattle.packed_pattern.specs.declared.error.PackPatternError.TheVariants as unpacked
 use Rattle.plural_exports.specs.declared.fault.Fault.{Fault}
 use Rattle.plural_exports.specs.declared.fault.Fault.TheVariants.{Memory, Utf8, RuleType, Number, OutsideBound, Text, Rules, RulesLimit, Elements, Json}
-use Rattle.plural_exports.specs.declared.fault.Fault.TheVariants.{Document, Locale, TableLength, Pattern, Argument, ArgumentKind}
+use Rattle.plural_exports.specs.declared.fault.Fault.TheVariants.{Document, Locale, TableLength, Pattern, Argument, ArgumentKind, Packed, Packing}
 
 -- the negative of a number that isn't 0
 abbrev pub minus : ℕ → ℤ
@@ -126,6 +130,23 @@ argument_number argument.NotANumber = minus 112
 argument_number argument.OverLimit = minus 113
 argument_number argument.CompactOffset = minus 114
 
+-- bytes aren't the block of a pattern
+abbrev pub pattern_block_number : BlockError → ℤ
+pattern_block_number (blocked.List Header) = minus 120
+pattern_block_number (blocked.List ZeroCount) = minus 121
+pattern_block_number (blocked.List Start) = minus 122
+pattern_block_number (blocked.Part place) = minus 123
+pattern_block_number (blocked.Place place) = minus 124
+pattern_block_number (blocked.Order place) = minus 125
+
+-- a pattern can't be packed
+abbrev pub pattern_packing_number : PackPatternError → ℤ
+pattern_packing_number unpacked.CountLimit = minus 130
+pattern_packing_number (unpacked.Part place) = minus 131
+pattern_packing_number (unpacked.Order place) = minus 132
+pattern_packing_number unpacked.StartLimit = minus 133
+pattern_packing_number unpacked.Memory = memory_number
+
 -- the number of a fault
 abbrev pub fault_number : Fault → ℤ
 fault_number Memory = memory_number
@@ -144,3 +165,5 @@ fault_number TableLength = minus 80
 fault_number (Pattern kind) = pattern_number kind
 fault_number (Argument fault) = argument_number fault
 fault_number ArgumentKind = minus 115
+fault_number (Packed fault) = pattern_block_number fault
+fault_number (Packing fault) = pattern_packing_number fault

@@ -1,27 +1,21 @@
 -- What a pattern says with its arguments, under the rules for cardinal and for ordinal numbers.
 -- Faults are looked for in this order: those of the rules, of the pattern, of the arguments in
 -- themselves, and of the arguments where the pattern uses them.
---     IsPatternFormatted cardinal ordinal pattern arguments answer      what is said
+--     IsPatternFormatted cardinal ordinal pattern arguments answer      what a text says
+--     IsPackedFormatted cardinal ordinal block arguments answer      what a block says
 use Rattle.std.specs.Prelude.{ℕ, List, Result, Ok, Err}
 use Rattle.icu_plurals.specs.FiveRules.{FiveRules}
 use Rattle.message_format.specs.FormatArguments.{Argument}
 use Rattle.message_format.specs.FormatMeaning.{Said, Faulty, PatternSays}
 use Rattle.message_format.specs.FormatSteps.{TwoRules}
-use Rattle.message_pattern.specs.PatternAnswers.{HasPatternFault, IsPattern}
 use Rattle.message_pattern.specs.PatternParts.{Part}
 use Rattle.plural_exports.specs.declared.arguments.GivenArgument.{GivenArgument}
 use Rattle.plural_exports.specs.declared.fault.Fault.{Fault}
 use Rattle.plural_exports.specs.declared.fault.Fault.TheVariants as fault
 use Rattle.plural_exports.specs.GivenArguments.{AreArguments}
 use Rattle.plural_exports.specs.GivenBytes.{ReadsRules}
+use Rattle.plural_exports.specs.GivenPatterns.{ReadsPatternBlock, ReadsPatternText}
 use Rattle.plural_documents.specs.Steps.{Then}
-
--- the pattern that a text is, or its first fault; or memory ran out
-abbrev pub ReadsPatternText : List ℕ → Result (List Part) Fault → Type 0
-ReadsPatternText text (Ok parts) = IsPattern text parts
-ReadsPatternText text (Err (fault.Pattern kind)) = (place : ℕ) × HasPatternFault text kind place
-ReadsPatternText text (Err fault.Memory) = Unit {0}
-ReadsPatternText text (Err _) = ⊥
 
 -- what the pattern says, or the first fault of an argument; or memory ran out
 abbrev pub IsSaid : TwoRules → List Part → List Argument → Result (List ℕ) Fault → Type 0
@@ -35,9 +29,16 @@ IsSaid rules parts arguments (Err _) = ⊥
 abbrev pub rules_of_both : FiveRules → FiveRules → TwoRules
 rules_of_both cardinal ordinal = record { cardinal = cardinal; ordinal = ordinal }
 
-abbrev pub IsPatternFormatted : List ℕ → List ℕ → List ℕ → List GivenArgument → Result (List ℕ) Fault → Type 0
-IsPatternFormatted cardinal ordinal pattern arguments =
+-- what the pattern says that is read so
+abbrev pub IsReadAndSaid : (Result (List Part) Fault → Type 0) → List ℕ → List ℕ → List GivenArgument → Result (List ℕ) Fault → Type 0
+IsReadAndSaid Reads cardinal ordinal arguments =
     Then (ReadsRules cardinal) (λ five.
     Then (ReadsRules ordinal) (λ others.
-    Then (ReadsPatternText pattern) (λ parts.
+    Then Reads (λ parts.
     Then (AreArguments arguments) (IsSaid (rules_of_both five others) parts))))
+
+abbrev pub IsPatternFormatted : List ℕ → List ℕ → List ℕ → List GivenArgument → Result (List ℕ) Fault → Type 0
+IsPatternFormatted cardinal ordinal pattern arguments = IsReadAndSaid (ReadsPatternText pattern) cardinal ordinal arguments
+
+abbrev pub IsPackedFormatted : List ℕ → List ℕ → List ℕ → List GivenArgument → Result (List ℕ) Fault → Type 0
+IsPackedFormatted cardinal ordinal block arguments = IsReadAndSaid (ReadsPatternBlock block) cardinal ordinal arguments

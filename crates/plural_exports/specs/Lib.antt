@@ -8,6 +8,7 @@ pub mod FoundLocales
 pub mod GivenElements
 pub mod NumberAnswers
 pub mod GivenArguments
+pub mod GivenPatterns
 pub mod FormattedPatterns
 pub mod RulesCategories
 pub mod TableAnswers

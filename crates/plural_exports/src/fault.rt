@@ -1,9 +1,9 @@
 //! Why an export has no result, and the numbers that tell it.
 
 ghost use Rattle.std.specs.Prelude.{◌≡◌};
-ghost use Rattle.plural_exports.specs.Faults.{argument_number, block_number, decimal_number, elements_number, fault_number, json_number, packed_number, packing_number, parse_number, pattern_number, rule_number};
-ghost use Rattle.plural_exports.specs.Inner.Conversions.{decimal_fault, format_fault, json_fault, json_text_fault, rules_pack_fault, pattern_fault, text_fault};
-ghost use Rattle.plural_exports.specs.declared.fault.Fault.TheVariants.{Elements, Rules};
+ghost use Rattle.plural_exports.specs.Faults.{argument_number, block_number, decimal_number, elements_number, fault_number, json_number, packed_number, packing_number, parse_number, pattern_block_number, pattern_number, pattern_packing_number, rule_number};
+ghost use Rattle.plural_exports.specs.Inner.Conversions.{decimal_fault, format_fault, json_fault, json_text_fault, rules_pack_fault, pattern_fault, pattern_pack_fault, text_fault};
+ghost use Rattle.plural_exports.specs.declared.fault.Fault.TheVariants.{Elements, Packed, Rules};
 
 use icu_plurals::provider::rules::reference::ParseError;
 use icu_plurals::provider::rules::runtime::ast::{RuleBytesError, RuleError};
@@ -13,6 +13,7 @@ use icu_plurals::{
 };
 use message_format::{ArgumentFault, FormatError};
 use message_pattern::{FaultKind, PatternError};
+use packed_pattern::{BlockError, PackPatternError};
 use plural_documents::JsonTextError;
 
 // Why there is no result. A fault of memory is always `Memory`, whatever it was wanted for.
@@ -50,6 +51,10 @@ pub(crate) enum Fault {
     Argument(ArgumentFault),
     // An argument's kind is neither 0 nor 1.
     ArgumentKind,
+    // Bytes aren't the block of a pattern.
+    Packed(BlockError),
+    // A pattern can't be packed.
+    Packing(PackPatternError),
 }
 
 impl Fault {
@@ -74,6 +79,8 @@ impl Fault {
             Fault::Pattern(kind) => pattern_number(kind),
             Fault::Argument(fault) => argument_number(fault),
             Fault::ArgumentKind => -115,
+            Fault::Packed(fault) => pattern_block_number(fault),
+            Fault::Packing(fault) => pattern_packing_number(fault),
         }
     }
 }
@@ -172,6 +179,28 @@ impl<'p> From<FormatError<'p>> for Fault {
         match error {
             FormatError::Argument(fault, _) => Fault::Argument(fault),
             FormatError::Memory => Fault::Memory,
+        }
+    }
+}
+
+impl From<BlockError> for Fault {
+    ghost from_gives = { λ error fault. fault ≡ Packed error };
+
+    fn from(error: BlockError) -> Fault {
+        Fault::Packed(error)
+    }
+}
+
+impl From<PackPatternError> for Fault {
+    ghost from_gives = { λ error fault. fault ≡ pattern_pack_fault error };
+
+    fn from(error: PackPatternError) -> Fault {
+        match error {
+            PackPatternError::CountLimit
+            | PackPatternError::Part(_)
+            | PackPatternError::Order(_)
+            | PackPatternError::StartLimit => Fault::Packing(error),
+            PackPatternError::Memory => Fault::Memory,
         }
     }
 }
@@ -318,5 +347,32 @@ fn argument_number(fault: ArgumentFault) -> i32
         ArgumentFault::NotANumber => -112,
         ArgumentFault::OverLimit => -113,
         ArgumentFault::CompactOffset => -114,
+    }
+}
+
+// The number of bytes that aren't the block of a pattern.
+fn pattern_block_number(fault: BlockError) -> i32
+    ensures { result ≡ pattern_block_number fault }
+{
+    match fault {
+        BlockError::List(ListError::Header) => -120,
+        BlockError::List(ListError::ZeroCount) => -121,
+        BlockError::List(ListError::Start) => -122,
+        BlockError::Part(_) => -123,
+        BlockError::Place(_) => -124,
+        BlockError::Order(_) => -125,
+    }
+}
+
+// The number of a pattern that can't be packed.
+fn pattern_packing_number(fault: PackPatternError) -> i32
+    ensures { result ≡ pattern_packing_number fault }
+{
+    match fault {
+        PackPatternError::CountLimit => -130,
+        PackPatternError::Part(_) => -131,
+        PackPatternError::Order(_) => -132,
+        PackPatternError::StartLimit => -133,
+        PackPatternError::Memory => MEMORY,
     }
 }

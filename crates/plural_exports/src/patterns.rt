@@ -1,6 +1,7 @@
 //! What a pattern says.
 
-ghost use Rattle.plural_exports.specs.FormattedPatterns.{IsPatternFormatted, ReadsPatternText};
+ghost use Rattle.plural_exports.specs.FormattedPatterns.{IsPatternFormatted};
+ghost use Rattle.plural_exports.specs.GivenPatterns.{ReadsPatternText};
 ghost use Rattle.plural_exports.specs.Inner.GivenResults.{GivesSeen};
 ghost use Rattle.plural_exports.specs.Results.{Written};
 
@@ -58,7 +59,7 @@ fn formatted(
 }
 
 // The pattern that a text is.
-fn pattern_in<'p>(alloc: Global, text: &'p [u8]) -> Result<Pattern<'p>, Fault>
+pub(crate) fn pattern_in<'p>(alloc: Global, text: &'p [u8]) -> Result<Pattern<'p>, Fault>
     ensures { ReadsPatternText text.now result }
 {
     Ok(Pattern::parse(alloc, text)?)

@@ -61,6 +61,13 @@ mod raw {
             cardinal: *const u8, cardinal_len: usize, ordinal: *const u8, ordinal_len: usize, pattern: *const u8, pattern_len: usize,
             arguments: *const Argument, arguments_len: usize, out: *mut u8, out_len: usize,
         ) -> i64;
+        pub fn plurals_pattern_pack(pattern: *const u8, pattern_len: usize, out: *mut u8, out_len: usize) -> i64;
+        pub fn plurals_pattern_check(block: *const u8, block_len: usize) -> i32;
+        #[rustfmt::skip]
+        pub fn plurals_packed_format(
+            cardinal: *const u8, cardinal_len: usize, ordinal: *const u8, ordinal_len: usize, block: *const u8, block_len: usize,
+            arguments: *const Argument, arguments_len: usize, out: *mut u8, out_len: usize,
+        ) -> i64;
         pub fn plurals_fault_text(fault: i64) -> *const std::os::raw::c_char;
     }
 }
@@ -212,6 +219,27 @@ pub fn pattern_format(cardinal: &[u8], ordinal: &[u8], pattern: &str, given: &[A
     let found = written(|out| unsafe {
         raw::plurals_pattern_format(
             cardinal.as_ptr(), cardinal.len(), ordinal.as_ptr(), ordinal.len(), pattern.as_ptr(), pattern.len(),
+            arguments.as_ptr(), arguments.len(), out.as_mut_ptr(), out.len(),
+        )
+    });
+    found
+}
+
+pub fn pattern_pack(pattern: &str) -> Result<Vec<u8>, PluralsError> {
+    written(|out| unsafe { raw::plurals_pattern_pack(pattern.as_ptr(), pattern.len(), out.as_mut_ptr(), out.len()) })
+}
+
+pub fn pattern_check(block: &[u8]) -> Result<(), PluralsError> {
+    checked(unsafe { raw::plurals_pattern_check(block.as_ptr(), block.len()) }).map(|_| ())
+}
+
+pub fn packed_format(cardinal: &[u8], ordinal: &[u8], block: &[u8], given: &[Argument<'_>]) -> Result<Vec<u8>, PluralsError> {
+    // The texts that these point to live as long as `given`.
+    let arguments: Vec<_> = given.iter().map(argument).collect();
+    #[rustfmt::skip]
+    let found = written(|out| unsafe {
+        raw::plurals_packed_format(
+            cardinal.as_ptr(), cardinal.len(), ordinal.as_ptr(), ordinal.len(), block.as_ptr(), block.len(),
             arguments.as_ptr(), arguments.len(), out.as_mut_ptr(), out.len(),
         )
     });

@@ -385,3 +385,49 @@ pub fn format_pattern(
     let text = ffi::pattern_format(&cardinal.block, &ordinal.block, pattern, arguments)?;
     Ok(String::from_utf8(text).expect("the library writes UTF-8"))
 }
+
+/// A pattern as a block of bytes (docs/FORMATS.md), from which it is said without its text.
+///
+/// ```
+/// use plurals::{Argument, PackedPattern, PluralRules, Value, CLDR};
+/// let (cardinal, ordinal) = (PluralRules::try_new_cardinal(CLDR, "en")?, PluralRules::try_new_ordinal(CLDR, "en")?);
+/// let pattern = PackedPattern::new("{count, plural, =0 {no files} one {# file} other {# files}}")?;
+/// let pattern = PackedPattern::from_bytes(pattern.as_bytes())?;
+/// for (count, text) in [("0", "no files"), ("1", "1 file"), ("1.0", "1.0 files")] {
+///     let count = Argument { name: "count", value: Value::Number(count) };
+///     assert_eq!(pattern.format(&[count], &cardinal, &ordinal)?, text);
+/// }
+/// assert_eq!(PackedPattern::new("{").unwrap_err().number(), -90);
+/// assert_eq!(PackedPattern::from_bytes(&[1]).unwrap_err().number(), -120);
+/// # Ok::<(), plurals::PluralsError>(())
+/// ```
+#[derive(Clone, Debug, PartialEq, Eq)]
+pub struct PackedPattern {
+    /// Bytes that are a block of a text, or were checked.
+    block: Vec<u8>,
+}
+
+impl PackedPattern {
+    /// The block of a pattern.
+    pub fn new(pattern: &str) -> Result<PackedPattern, PluralsError> {
+        Ok(PackedPattern { block: ffi::pattern_pack(pattern)? })
+    }
+
+    /// A copy of bytes that are the block of a pattern.
+    pub fn from_bytes(bytes: &[u8]) -> Result<PackedPattern, PluralsError> {
+        ffi::pattern_check(bytes)?;
+        Ok(PackedPattern { block: bytes.to_vec() })
+    }
+
+    /// The bytes of the block.
+    pub fn as_bytes(&self) -> &[u8] {
+        &self.block
+    }
+
+    /// What it says with these arguments, as [`format_pattern`] does of the pattern. The error is also that it isn't UTF-8, of a block
+    /// that [`PackedPattern::new`] hasn't made.
+    pub fn format(&self, arguments: &[Argument<'_>], cardinal: &PluralRules, ordinal: &PluralRules) -> Result<String, PluralsError> {
+        let text = ffi::packed_format(&cardinal.block, &ordinal.block, &self.block, arguments)?;
+        String::from_utf8(text).map_err(|_| PluralsError::of(-2))
+    }
+}

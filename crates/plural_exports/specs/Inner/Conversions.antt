@@ -12,10 +12,12 @@ use Rattle.message_format.specs.declared.error.FormatError.{FormatError}
 use Rattle.message_format.specs.declared.error.FormatError.TheVariants as format
 use Rattle.message_pattern.specs.declared.error.PatternError.{PatternError}
 use Rattle.message_pattern.specs.declared.error.PatternError.TheVariants as pattern
+use Rattle.packed_pattern.specs.declared.error.PackPatternError.{PackPatternError}
+use Rattle.packed_pattern.specs.declared.error.PackPatternError.TheVariants as unpacked
 use Rattle.plural_documents.specs.declared.JsonTextError.{JsonTextError}
 use Rattle.plural_documents.specs.declared.JsonTextError.TheVariants as text
 use Rattle.plural_exports.specs.declared.fault.Fault.{Fault}
-use Rattle.plural_exports.specs.declared.fault.Fault.TheVariants.{Memory, Number, Text, RulesLimit, Json, Document, Pattern, Argument}
+use Rattle.plural_exports.specs.declared.fault.Fault.TheVariants.{Memory, Number, Text, RulesLimit, Json, Document, Pattern, Argument, Packing}
 
 -- of a number's text
 abbrev pub decimal_fault : DecimalError → Fault
@@ -53,3 +55,8 @@ pattern_fault pattern.Memory = Memory
 abbrev pub format_fault : FormatError → Fault
 format_fault (format.Argument fault name) = Argument fault
 format_fault format.Memory = Memory
+
+-- of a pattern that is packed
+abbrev pub pattern_pack_fault : PackPatternError → Fault
+pattern_pack_fault unpacked.Memory = Memory
+pattern_pack_fault reason = Packing reason

@@ -20,6 +20,8 @@ pub fn make(kind: &str, call: &mut Call) -> bool {
         "exported_element" => element(call),
         "exported_message" => message(call),
         "exported_pattern" => pattern(call),
+        "exported_pack" => pack(call),
+        "exported_packed" => packed(call),
         _ => return false,
     }
     true
@@ -27,8 +29,14 @@ pub fn make(kind: &str, call: &mut Call) -> bool {
 
 // The buffer.
 fn next_room(call: &mut Call) -> Vec<u8> {
+    let size = call.size();
+    room_of(call, size)
+}
+
+// A buffer of a size.
+fn room_of(call: &Call, size: usize) -> Vec<u8> {
     let mut room = Vec::new(call.alloc);
-    for _ in 0..call.size() {
+    for _ in 0..size {
         call.add_item(&mut room, 7u8);
     }
     room
@@ -188,7 +196,7 @@ fn message(call: &mut Call) {
     print_text(call, told, &room);
 }
 
-// What a pattern says.
+// What a pattern says, by its text and by its block.
 fn pattern(call: &mut Call) {
     let cardinal = call.bytes();
     let ordinal = call.bytes();
@@ -198,8 +206,49 @@ fn pattern(call: &mut Call) {
     let mut arguments = Vec::new(call.alloc);
     add_arguments(call, &mut arguments, &names, &values);
     let mut room = next_room(call);
+    let mut other = room_of(call, room.len());
     let told = plural_exports::pattern_format(
         call.alloc, &cardinal, &ordinal, &pattern, &arguments, &mut room,
+    );
+    print_text(call, told, &room);
+    if let Some(block) = block_of(call, &pattern) {
+        let again = plural_exports::packed_format(
+            call.alloc, &cardinal, &ordinal, &block, &arguments, &mut other,
+        );
+        if again != told || other != room {
+            call.print(", packed otherwise");
+        }
+    }
+}
+
+// The block of a pattern, if it has one.
+fn block_of(call: &Call, pattern: &[u8]) -> Option<Vec<u8>> {
+    let length = plural_exports::pattern_pack(call.alloc, pattern, &mut []);
+    let mut block = room_of(call, usize::try_from(length).ok()?);
+    plural_exports::pattern_pack(call.alloc, pattern, &mut block);
+    Some(block)
+}
+
+// The block of a pattern.
+fn pack(call: &mut Call) {
+    let pattern = next_given(call);
+    let mut room = next_room(call);
+    let told = plural_exports::pattern_pack(call.alloc, &pattern, &mut room);
+    print_bytes(call, told, &room);
+}
+
+// What a block of a pattern says.
+fn packed(call: &mut Call) {
+    let cardinal = call.bytes();
+    let ordinal = call.bytes();
+    let block = call.bytes();
+    let names = next_texts(call);
+    let values = next_texts(call);
+    let mut arguments = Vec::new(call.alloc);
+    add_arguments(call, &mut arguments, &names, &values);
+    let mut room = next_room(call);
+    let told = plural_exports::packed_format(
+        call.alloc, &cardinal, &ordinal, &block, &arguments, &mut room,
     );
     print_text(call, told, &room);
 }

@@ -13,6 +13,7 @@ pub fn make(kind: &str, call: &mut Call) -> bool {
         "exported_number" => number(call),
         "exported_by_table" => by_table(call),
         "exported_whole" => whole(call),
+        "exported_check" => check(call),
         _ => return false,
     }
     true
@@ -107,4 +108,10 @@ fn by_table(call: &mut Call) {
 fn whole(call: &mut Call) {
     let text = next_given(call);
     call.print_value(&plural_exports::is_read_whole(call.alloc, &text));
+}
+
+// Whether bytes are the block of a pattern.
+fn check(call: &mut Call) {
+    let block = call.bytes();
+    call.print_value(&plural_exports::pattern_check(&block));
 }
