@@ -41,7 +41,8 @@ abbrev pub catalog_bytes : List Entry → List ℕ
 catalog_bytes entries = four_bytes (length entries)
     ++ (flat_map four_bytes (ends_from 0 (pieces_of entries)) ++ concat (pieces_of entries))
 
--- each key is below those after it: at the first byte that differs, or by being its beginning
+-- each key is below those after it: the first byte that differs decides, and a key is above its
+-- beginnings
 abbrev pub AreSorted : List Entry → Type 0
 AreSorted entries = IsStrictlySortedBy (slice_cmp nat_cmp) (keys_of entries)
 

@@ -126,17 +126,26 @@ fn packed_catalog_beginnings(call: &mut Call) {
 // What bytes are with one bit changed, for each bit: how many are refused, and how many catalogues.
 fn packed_catalog_changes(call: &mut Call) {
     let mut bytes = call.bytes();
-    let (mut refused, mut accepted) = (0u64, 0u64);
-    for bit in 0..bytes.len().saturating_mul(8) {
-        let mask = 1u8 << (bit % 8);
-        bytes[bit / 8] ^= mask;
-        match PackedCatalog::parse_bytes(&bytes) {
-            Ok(_) => accepted = accepted.wrapping_add(1),
-            Err(_) => refused = refused.wrapping_add(1),
+    let mut refused: u64 = 0;
+    let mut accepted: u64 = 0;
+    for place in 0..bytes.len() {
+        for bit in [1u8, 2, 4, 8, 16, 32, 64, 128] {
+            flip(&mut bytes, place, bit);
+            match PackedCatalog::parse_bytes(&bytes) {
+                Ok(_) => accepted = accepted.wrapping_add(1),
+                Err(_) => refused = refused.wrapping_add(1),
+            }
+            flip(&mut bytes, place, bit);
         }
-        bytes[bit / 8] ^= mask;
     }
     let _ = write!(call, "{refused} refused, {accepted} catalogues");
+}
+
+// Changes a byte by a bit.
+fn flip(bytes: &mut Vec<u8>, place: usize, bit: u8) {
+    if let Some(byte) = bytes.get_mut(place) {
+        *byte ^= bit;
+    }
 }
 
 // How many bytes the catalogue of numbers has, and how many of these are found in it.
