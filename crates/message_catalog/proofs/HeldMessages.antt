@@ -7,7 +7,6 @@ use Rattle.packed_catalog.specs.CatalogBytes.{Entry, value_under}
 use Rattle.packed_pattern.specs.PatternBlocks.{IsPatternBlock, PatternBlock}
 use Rattle.packed_pattern.specs.Inner.PartReading.{parts_in}
 use Rattle.message_catalog.specs.CatalogMessages.{HoldMessages, HoldsMessage, Message, parts_under}
-use Rattle.message_catalog.specs.MessageFaults.{value_at}
 use Rattle.message_catalog.specs.Inner.MessageReading.{ArePatterns, message_in, messages_in}
 
 -- the law of packed patterns that is used below

@@ -8,7 +8,7 @@ use Rattle.message_pattern.specs.PatternAnswers.{AreReadOneWay}
 use Rattle.message_pattern.specs.PatternParts.{Part}
 use Rattle.packed_catalog.specs.CatalogBytes.{CatalogBytes, Entry}
 use Rattle.packed_pattern.specs.PatternBlocks.{PatternBlock}
-use Rattle.message_catalog.specs.CatalogMessages.{HoldMessages, HoldsMessage, Message, MessageBlock}
+use Rattle.message_catalog.specs.CatalogMessages.{HoldMessages, HoldsMessage, Message}
 use Rattle.message_catalog.specs.MessagePacking.{ArePacked, AreRead, IsPackedText, IsRead, KeyedText, PacksTo}
 
 -- one text more is packed
