@@ -1,5 +1,5 @@
 -- Entries, and the messages that they hold.
-use Rattle.std.proofs.Common.{◌≡◌, ◌∙◌, ◌⊎◌, ℕ, zero, suc, List, [], ◌∷◌, refl, ap, subst, sym, inl, inr, true, false, Bool, Some, None}
+use Rattle.std.proofs.Common.{◌≡◌, ◌∙◌, ◌⊎◌, ℕ, zero, suc, List, [], ◌∷◌, refl, ap, subst, sym, inl, inr, true, false, Bool, Some, None, ◌↔◌}
 use Rattle.std.specs.Prelude.{Option, bytes_eq, option_map, slice_get, if◌then◌else◌}
 use Rattle.std.proofs.lemmas.Option.{slice_get-map}
 use Rattle.message_pattern.specs.PatternParts.{Part}
@@ -7,7 +7,6 @@ use Rattle.packed_catalog.specs.CatalogBytes.{Entry, value_under}
 use Rattle.packed_pattern.specs.PatternBlocks.{IsPatternBlock, PatternBlock}
 use Rattle.packed_pattern.specs.Inner.PartReading.{parts_in}
 use Rattle.message_catalog.specs.CatalogMessages.{HoldMessages, HoldsMessage, Message, parts_under}
-use Rattle.message_catalog.specs.MessageFaults.{value_at}
 use Rattle.message_catalog.specs.Inner.MessageReading.{ArePatterns, message_in, messages_in}
 
 -- the law of packed patterns that is used below
@@ -87,3 +86,25 @@ pub key_again : (entries : List Entry) (index : ℕ)
     ≡ option_map (λ (entry : Entry). entry.key) (slice_get entries index)
 key_again entries index =
     ap (option_map (λ (message : Message). message.key)) (slice_get-map message_in entries index) ∙ read_key (slice_get entries index)
+
+-- ---- one encoding
+
+-- the law of packed patterns that is used below
+abbrev pub HaveOneBlock : Type 0
+HaveOneBlock = (parts others : List Part) (a b : List ℕ) → PatternBlock parts a → PatternBlock others b → (a ≡ b) ↔ (parts ≡ others)
+
+same_entry : HaveOneBlock → (m : Message) (e f : Entry) → HoldsMessage e m → HoldsMessage f m → e ≡ f
+same_entry law m e f h g =
+    let of_key : List ℕ → Entry = λ key. record { key = key; value = e.value } in
+    let of_value : List ℕ → Entry = λ value. record { key = f.key; value = value } in
+    ap of_key (h.key ∙ sym g.key) ∙ ap of_value ((law m.parts m.parts e.value f.value h.value g.value).1 refl)
+
+-- entries that hold the same messages are the same
+pub same_entries : HaveOneBlock → (ms : List Message) (es fs : List Entry) → HoldMessages es ms → HoldMessages fs ms → es ≡ fs
+same_entries law [] [] [] h g = refl
+same_entries law [] [] (f ∷ fs) h g = absurd g
+same_entries law [] (e ∷ es) fs h g = absurd h
+same_entries law (m ∷ ms) [] fs h g = absurd h
+same_entries law (m ∷ ms) (e ∷ es) [] h g = absurd g
+same_entries law (m ∷ ms) (e ∷ es) (f ∷ fs) h g =
+    ap (λ x. x ∷ es) (same_entry law m e f h.0 g.0) ∙ ap (λ xs. f ∷ xs) (same_entries law ms es fs h.1 g.1)

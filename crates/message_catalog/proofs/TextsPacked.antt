@@ -1,5 +1,5 @@
 -- What texts are packed as, text by text.
-use Rattle.std.proofs.Common.{◌≡◌, ◌∙◌, ◌↔◌, ◌++◌, ◌+◌, ◌≤◌, ℕ, List, [], ◌∷◌, drop, length, get_or, refl, ap, sym, subst, Some}
+use Rattle.std.proofs.Common.{◌≡◌, ◌∙◌, ◌++◌, ◌+◌, ◌≤◌, ℕ, List, [], ◌∷◌, drop, length, get_or, refl, ap, sym, subst, Some}
 use Rattle.std.specs.Prelude.{slice_get}
 use Rattle.std.proofs.Math.ListN.{drop_of_length-le}
 use Rattle.std.proofs.lemmas.List.{append-nil, append_assoc, drop_more}
@@ -7,9 +7,9 @@ use Rattle.std.proofs.lemmas.Option.{slice_get-get_or, slice_get_within}
 use Rattle.message_pattern.specs.PatternAnswers.{AreReadOneWay}
 use Rattle.message_pattern.specs.PatternParts.{Part}
 use Rattle.packed_catalog.specs.CatalogBytes.{CatalogBytes, Entry}
-use Rattle.packed_pattern.specs.PatternBlocks.{PatternBlock}
-use Rattle.message_catalog.specs.CatalogMessages.{HoldMessages, HoldsMessage, Message, MessageBlock}
+use Rattle.message_catalog.specs.CatalogMessages.{HoldMessages, Message}
 use Rattle.message_catalog.specs.MessagePacking.{ArePacked, AreRead, IsPackedText, IsRead, KeyedText, PacksTo}
+use Rattle.message_catalog.proofs.HeldMessages.{HaveOneBlock, same_entries}
 
 -- one text more is packed
 pub one_more : (keyed : KeyedText) (texts : List KeyedText) (value : List ℕ) (rest : List Entry) → IsPackedText keyed.text value
@@ -36,37 +36,26 @@ packs_to texts entries bytes packed block = record {
 
 -- ---- texts are packed as the same entries
 
--- the law of packed patterns that is used below
-abbrev pub HaveOneBlock : Type 0
-HaveOneBlock = (parts others : List Part) (a b : List ℕ) → PatternBlock parts a → PatternBlock others b → (a ≡ b) ↔ (parts ≡ others)
+same_message : AreReadOneWay → (keyed : KeyedText) (m n : Message) → IsRead keyed m → IsRead keyed n → m ≡ n
+same_message read keyed m n h g =
+    let of_key : List ℕ → Message = λ key. record { key = key; parts = m.parts } in
+    let of_parts : List Part → Message = λ parts. record { key = n.key; parts = parts } in
+    ap of_key (h.key ∙ sym g.key) ∙ ap of_parts ((read _ keyed.text).0 m.parts n.parts h.parts g.parts)
 
-same_entry : AreReadOneWay → HaveOneBlock → (keyed : KeyedText) (m n : Message) (e f : Entry) → IsRead keyed m → IsRead keyed n
-    → HoldsMessage e m → HoldsMessage f n → e ≡ f
-same_entry read law keyed m n e f rm rn hm hn =
-    let parts : m.parts ≡ n.parts = (read _ keyed.text).0 m.parts n.parts rm.parts rn.parts in
-    let values : e.value ≡ f.value = (law m.parts n.parts e.value f.value hm.value hn.value).1 parts in
-    let keys : e.key ≡ f.key = hm.key ∙ rm.key ∙ sym rn.key ∙ sym hn.key in
-    let of_key : List ℕ → Entry = λ key. record { key = key; value = e.value } in
-    let of_value : List ℕ → Entry = λ value. record { key = f.key; value = value } in
-    ap of_key keys ∙ ap of_value values
-
-same_entries : AreReadOneWay → HaveOneBlock → (texts : List KeyedText) (ms ns : List Message) (es fs : List Entry)
-    → AreRead texts ms → AreRead texts ns → HoldMessages es ms → HoldMessages fs ns → es ≡ fs
-same_entries read law [] [] [] [] [] rm rn hm hn = refl
-same_entries read law [] [] [] (e ∷ es) fs rm rn hm hn = absurd hm
-same_entries read law [] [] [] [] (f ∷ fs) rm rn hm hn = absurd hn
-same_entries read law [] [] (n ∷ ns) es fs rm rn hm hn = absurd rn
-same_entries read law [] (m ∷ ms) ns es fs rm rn hm hn = absurd rm
-same_entries read law (t ∷ texts) [] ns es fs rm rn hm hn = absurd rm
-same_entries read law (t ∷ texts) (m ∷ ms) [] es fs rm rn hm hn = absurd rn
-same_entries read law (t ∷ texts) (m ∷ ms) (n ∷ ns) [] fs rm rn hm hn = absurd hm
-same_entries read law (t ∷ texts) (m ∷ ms) (n ∷ ns) (e ∷ es) [] rm rn hm hn = absurd hn
-same_entries read law (t ∷ texts) (m ∷ ms) (n ∷ ns) (e ∷ es) (f ∷ fs) rm rn hm hn =
-    ap (λ x. x ∷ es) (same_entry read law t m n e f rm.0 rn.0 hm.0 hn.0)
-    ∙ ap (λ xs. f ∷ xs) (same_entries read law texts ms ns es fs rm.1 rn.1 hm.1 hn.1)
+-- texts are read as the same messages
+same_messages : AreReadOneWay → (texts : List KeyedText) (ms ns : List Message) → AreRead texts ms → AreRead texts ns → ms ≡ ns
+same_messages read [] [] [] h g = refl
+same_messages read [] [] (n ∷ ns) h g = absurd g
+same_messages read [] (m ∷ ms) ns h g = absurd h
+same_messages read (t ∷ texts) [] ns h g = absurd h
+same_messages read (t ∷ texts) (m ∷ ms) [] h g = absurd g
+same_messages read (t ∷ texts) (m ∷ ms) (n ∷ ns) h g =
+    ap (λ x. x ∷ ms) (same_message read t m n h.0 g.0) ∙ ap (λ xs. n ∷ xs) (same_messages read texts ms ns h.1 g.1)
 
 pub packed_once : AreReadOneWay → HaveOneBlock → (texts : List KeyedText) (es fs : List Entry) → ArePacked texts es → ArePacked texts fs → es ≡ fs
-packed_once read law texts es fs p q = same_entries read law texts p.messages q.messages es fs p.read q.read p.held q.held
+packed_once read law texts es fs p q =
+    let same = same_messages read texts q.messages p.messages q.read p.read in
+    same_entries law p.messages es fs p.held (subst (λ (ms : List Message). HoldMessages fs ms) same q.held)
 
 -- ---- text by text
 

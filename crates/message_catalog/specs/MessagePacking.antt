@@ -1,7 +1,6 @@
 -- What messages are packed as, and what is wrong with those that can't be packed.
-use Rattle.std.specs.Prelude.{◌≡◌, ◌⊎◌, ℕ, ◌<◌, ◌≤◌, ◌^◌, List, [], ◌∷◌, Vec, length, map, slice_get, Some, None, IsTrue, Result, Err}
+use Rattle.std.specs.Prelude.{◌≡◌, ◌⊎◌, ℕ, ◌<◌, ◌≤◌, ◌^◌, List, [], ◌∷◌, length, map, slice_get, Some, None, IsTrue, Result, Err}
 use Rattle.std.specs.List.{concat}
-use Rattle.std.specs.declared.alloc.Global.{Global}
 use Rattle.message_pattern.specs.PatternParts.{Part}
 use Rattle.message_pattern.specs.PatternAnswers.{HasPatternFault, IsPattern}
 use Rattle.packed_list.specs.ListBytes.{has_high_start}

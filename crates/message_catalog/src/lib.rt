@@ -4,6 +4,7 @@
 mod catalog;
 mod checking;
 mod error;
+pub mod laws;
 mod packing;
 mod text;
 

@@ -73,7 +73,10 @@ fn message_catalog_keys(call: &mut Call) {
         Ok(catalog) => {
             for index in 0..catalog.len() {
                 if let Some(key) = catalog.key(index) {
-                    let count = catalog.pattern(key).map_or(0, |pattern| pattern.len());
+                    let count = match catalog.pattern(key) {
+                        Some(pattern) => pattern.len(),
+                        None => 0,
+                    };
                     call.separate(" ");
                     let key = std::str::from_utf8(key).unwrap_or("?");
                     let _ = write!(call, "{key}:{count}");

@@ -1,6 +1,6 @@
-use Rattle.std.proofs.Common.{◌≡◌, ℕ, List, ◌<◌, arith, inl, inr, sym, ap, subst, ◌∙◌, Some}
+use Rattle.std.proofs.Common.{◌≡◌, arith, inl, inr, sym, ap, subst, ◌∙◌, Some}
 use Rattle.std.proofs.lemmas.Bool.{cases_lt}
-use Rattle.std.specs.Prelude.{Ok, Err}
+use Rattle.std.specs.Prelude.{Err}
 use Rattle.packed_pattern.specs.Inner.PartReading.{parts_in}
 use Rattle.message_catalog.specs.MessageFaults.{value_at}
 use Rattle.message_catalog.proofs.HeldMessages.{is_pattern_block}

@@ -1,9 +1,8 @@
-use Rattle.std.proofs.Common.{◌≡◌, ap, subst, sym, ◌∙◌}
-use Rattle.std.specs.Prelude.{Err, Ok}
+use Rattle.std.proofs.Common.{subst, sym, ◌∙◌}
 use Rattle.message_catalog.specs.declared.error.PackMessagesError.{PackMessagesError}
 use Rattle.message_catalog.specs.declared.error.PackMessagesError.TheVariants as packing
 use Rattle.message_catalog.specs.Inner.PackedViews.{IsThis, TellsText}
-use Rattle.message_catalog.proofs.PackingFaults.{TellsParts, parts_are_exact, parts_exact, parts_fault, parts_refused, parts_told, text_exact, text_told}
+use Rattle.message_catalog.proofs.PackingFaults.{TellsParts, parts_are_exact, parts_exact, parts_fault, parts_refused, parts_told, text_exact}
 use Rattle.message_catalog.proofs.packing.block_of.Goals as goal
 
 pub returns-clause-exact : goal.returns-clause-exact

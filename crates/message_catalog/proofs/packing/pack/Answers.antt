@@ -1,12 +1,11 @@
 use Rattle.std.proofs.Common.{◌≡◌, List, ap, subst, sym, ◌∙◌}
-use Rattle.std.specs.Prelude.{Err, Ok}
 use Rattle.packed_catalog.specs.CatalogBytes.{Entry, lent}
 use Rattle.packed_catalog.specs.declared.error.PackCatalogError.{PackCatalogError}
 use Rattle.message_catalog.specs.MessagePacking.{ArePacked, HasEntriesFault, TellsFault, texts_view}
 use Rattle.message_catalog.specs.declared.error.PackMessagesError.{PackMessagesError}
 use Rattle.message_catalog.specs.Inner.PackedViews.{IsThis, catalog_error, packed_view}
-use Rattle.message_catalog.proofs.PackingFaults.{TellsEntries, catalog_exact, catalog_told, entries_exact, entries_refused, packed_exact, tells_fault, to_result}
-use Rattle.message_catalog.proofs.TextsPacked.{packed_once, packs_to}
+use Rattle.message_catalog.proofs.PackingFaults.{TellsEntries, catalog_exact, catalog_told, entries_exact, entries_refused, packed_exact, to_result}
+use Rattle.message_catalog.proofs.TextsPacked.{packed_once}
 use Rattle.message_catalog.proofs.packing.pack.Goals as goal
 
 pub returns-clause-exact : goal.returns-clause-exact

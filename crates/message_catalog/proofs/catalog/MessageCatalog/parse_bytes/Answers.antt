@@ -1,7 +1,5 @@
-use Rattle.std.proofs.Common.{◌≡◌, ◌∙◌, List, sym, ap, subst}
+use Rattle.std.proofs.Common.{◌≡◌, ◌∙◌, ap, subst}
 use Rattle.std.specs.Prelude.{Ok, Err}
-use Rattle.packed_catalog.specs.CatalogBytes.{CatalogBytes, Entry}
-use Rattle.message_catalog.specs.CatalogMessages.{HoldMessages}
 use Rattle.message_catalog.specs.Inner.MessageReading.{ArePatterns, messages_in}
 use Rattle.message_catalog.proofs.HeldMessages.{held_again, messages_again, values_held}
 use Rattle.message_catalog.proofs.MessagesRefused.{catalog_refused, entry_refused, none_refused}
