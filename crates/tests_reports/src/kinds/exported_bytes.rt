@@ -34,7 +34,7 @@ fn next_room(call: &mut Call) -> Vec<u8> {
 }
 
 // A buffer of a size.
-fn room_of(call: &Call, size: usize) -> Vec<u8> {
+fn room_of(call: &mut Call, size: usize) -> Vec<u8> {
     let mut room = Vec::new(call.alloc);
     for _ in 0..size {
         call.add_item(&mut room, 7u8);
@@ -222,7 +222,7 @@ fn pattern(call: &mut Call) {
 }
 
 // The block of a pattern, if it has one.
-fn block_of(call: &Call, pattern: &[u8]) -> Option<Vec<u8>> {
+fn block_of(call: &mut Call, pattern: &[u8]) -> Option<Vec<u8>> {
     let length = plural_exports::pattern_pack(call.alloc, pattern, &mut []);
     let mut block = room_of(call, usize::try_from(length).ok()?);
     plural_exports::pattern_pack(call.alloc, pattern, &mut block);
