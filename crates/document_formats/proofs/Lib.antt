@@ -1,3 +1,4 @@
 mod LinePieces
 mod NoFloats
 mod ReadReports
+mod NotedLines

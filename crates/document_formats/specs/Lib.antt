@@ -7,6 +7,7 @@ pub mod DocumentLog
 pub mod DocumentCommands
 pub mod FileText
 pub mod DocumentFormats
+pub mod NotedFormats
 pub mod DocumentLineLaws
 -- words
 pub mod FormatWords

@@ -15,7 +15,7 @@ use plural_documents::{LinePrinter, push_lines};
 use std::alloc::{AllocError, Global};
 
 // What commands don't tell.
-const NO_TOTALS: Totals = Totals {
+pub(crate) const NO_TOTALS: Totals = Totals {
     messages: 0,
     forms: 0,
     faults: 0,

@@ -47,8 +47,8 @@ pub(crate) fn file_lines(
 
 // The objects of findings in a file.
 #[derive(Drop)]
-struct FileObjects<'f> {
-    file: &'f str,
+pub(crate) struct FileObjects<'f> {
+    pub(crate) file: &'f str,
 }
 
 impl<'f, 'a> LinePrinter<Finding<'a>> for FileObjects<'f> {

@@ -8,12 +8,16 @@ mod finding_object;
 mod json_lines;
 pub mod laws;
 mod log;
+mod noted_commands;
+mod noted_format;
+mod noted_objects;
 mod place_object;
 mod printed;
 mod word_fault;
 mod words;
 
 pub use code::Code;
+pub use noted_format::NotedFormat;
 pub use printed::{DocumentFormat, FileFormat, print, print_file};
 pub use word_fault::WordFault;
 pub use words::{Asked, asked_by, format_of};

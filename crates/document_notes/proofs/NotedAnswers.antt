@@ -8,7 +8,7 @@ use Rattle.document_report.specs.declared.report.Verdict.{Verdict}
 use Rattle.plural_documents.proofs.InputLemmas.{mapped}
 use Rattle.plural_documents.specs.Inputs.{GivesBy, IsFaultOf}
 use Rattle.serde_json.specs.Data.{Data}
-use Rattle.document_notes.specs.NotedAnswer.{AnswersNoted, IsNotedAnswer, noted_view}
+use Rattle.document_notes.specs.NotedAnswer.{AnswersNoted, IsNotedAnswer, Texts, noted_view}
 use Rattle.document_notes.specs.declared.run.Noted.{Noted}
 
 -- `?` passes on the error of a call
@@ -16,15 +16,15 @@ pub passed_on : {X E : Type 0} (r : Result X E) (e : E) → (f : E) × (r ≡ Er
 passed_on r e (f, is, same) = is ∙ ap Err same
 
 -- a fault of the document is the answer
-pub refused : (file : Option (List ℕ)) (strict : Bool) (value : Result Data CheckError) (e : CheckError) (r : Result Noted CheckError)
-    → r ≡ Err e → IsFaultOf (check_origin e) (value ≡ Err e) → GivesBy check_origin noted_view (AnswersNoted file strict value) r
-refused file strict value e r is h = rw is (mapped (check_origin e) (λ there. rw there refl) h)
+pub refused : (text_of : Texts) (strict : Bool) (value : Result Data CheckError) (e : CheckError) (r : Result Noted CheckError)
+    → r ≡ Err e → IsFaultOf (check_origin e) (value ≡ Err e) → GivesBy check_origin noted_view (AnswersNoted text_of strict value) r
+refused text_of strict value e r is h = rw is (mapped (check_origin e) (λ there. rw there refl) h)
 
 -- the answer to a document is that to the result that holds it
-pub answered : (file : Option (List ℕ)) (strict : Bool) (value : Result Data CheckError) (document : Data) (answer : Answer)
-    → value ≡ Ok document → IsNotedAnswer file strict document answer → AnswersNoted file strict value (Ok answer)
-answered file strict value document answer there h =
-    subst (λ (v : Result Data CheckError). AnswersNoted file strict v (Ok answer)) (sym there) h
+pub answered : (text_of : Texts) (strict : Bool) (value : Result Data CheckError) (document : Data) (answer : Answer)
+    → value ≡ Ok document → IsNotedAnswer text_of strict document answer → AnswersNoted text_of strict value (Ok answer)
+answered text_of strict value document answer there h =
+    subst (λ (v : Result Data CheckError). AnswersNoted text_of strict v (Ok answer)) (sym there) h
 
 -- what is unchanged is kept
 kept : (known : Option (List ℕ)) → Keeps known known

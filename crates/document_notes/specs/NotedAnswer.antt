@@ -1,6 +1,6 @@
 -- The answer to a document: its report with its notes, and the verdict.
---     AnswersNoted file strict document answer      the answer, or why there is no document
-use Rattle.std.specs.Prelude.{◌≡◌, ◌&&◌, ◌==◌, not, ℕ, Bool, List, length, Option, Result, Ok, Err, string_bytes, if◌then◌else◌}
+--     AnswersNoted text_of strict document answer      the answer, or why there is no document
+use Rattle.std.specs.Prelude.{◌≡◌, ◌&&◌, ◌==◌, not, ℕ, Bool, List, length, Result, Ok, Err, string_bytes, if◌then◌else◌}
 use Rattle.document_report.specs.CheckAnswer.{Answer, verdict_of_report}
 use Rattle.document_report.specs.DocumentReport.{IsReportOf}
 use Rattle.document_report.specs.declared.error.CheckError.{CheckError}
@@ -9,26 +9,29 @@ use Rattle.document_report.specs.declared.report.Verdict.{Verdict}
 use Rattle.document_report.specs.declared.report.Verdict.TheVariants.{Faults}
 use Rattle.serde_json.specs.Data.{Data}
 use Rattle.document_notes.specs.DocumentNotes.{AreNotesIn, NoteAt}
-use Rattle.document_notes.specs.NotedText.{noted_text}
 use Rattle.document_notes.specs.declared.run.Noted.{Noted}
 
 -- a note is a fault, if notes are
 abbrev pub noted_verdict : Bool → Report → List NoteAt → Verdict
 noted_verdict strict report notes = if strict && not (length notes == 0) then Faults else verdict_of_report report
 
-abbrev pub answer_with_notes : Option (List ℕ) → Bool → Report → List NoteAt → Answer
-answer_with_notes file strict report notes =
-    record { text = noted_text file report notes; verdict = noted_verdict strict report notes }
+-- the text of a report and of notes, by a printer
+abbrev pub Texts : Type 0
+Texts = Report → List NoteAt → List ℕ
 
-abbrev pub IsNotedAnswer : Option (List ℕ) → Bool → Data → Answer → Type 0
-IsNotedAnswer file strict document answer =
+abbrev pub answer_with_notes : Texts → Bool → Report → List NoteAt → Answer
+answer_with_notes text_of strict report notes =
+    record { text = text_of report notes; verdict = noted_verdict strict report notes }
+
+abbrev pub IsNotedAnswer : Texts → Bool → Data → Answer → Type 0
+IsNotedAnswer text_of strict document answer =
     (report : Report) × (notes : List NoteAt) × IsReportOf document report × AreNotesIn document notes
-    × (answer ≡ answer_with_notes file strict report notes)
+    × (answer ≡ answer_with_notes text_of strict report notes)
 
-abbrev pub AnswersNoted : Option (List ℕ) → Bool → Result Data CheckError → Result Answer CheckError → Type 0
-AnswersNoted file strict (Ok document) (Ok answer) = IsNotedAnswer file strict document answer
-AnswersNoted file strict (Ok document) (Err fault) = ⊥
-AnswersNoted file strict (Err fault) answer = answer ≡ Err fault
+abbrev pub AnswersNoted : Texts → Bool → Result Data CheckError → Result Answer CheckError → Type 0
+AnswersNoted text_of strict (Ok document) (Ok answer) = IsNotedAnswer text_of strict document answer
+AnswersNoted text_of strict (Ok document) (Err fault) = ⊥
+AnswersNoted text_of strict (Err fault) answer = answer ≡ Err fault
 
 -- the answer of the code, with the bytes of its text
 abbrev pub noted_view : Noted → Answer

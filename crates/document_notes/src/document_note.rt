@@ -1,15 +1,17 @@
 //! The notes of a document.
 
-ghost use Rattle.std.specs.Prelude.{◌≡◌, ◌++◌, ◌∷◌, [], IfOk, OnOk, map};
+ghost use Rattle.std.specs.Prelude.{◌≡◌, ◌++◌, ◌∷◌, [], codes, IfOk, OnOk, map, string_bytes};
 ghost use Rattle.document_notes.specs.DocumentNotes.{AreNotesIn, Gathers, IsNotedInPart, note_at, note_view};
+ghost use Rattle.document_notes.specs.NotedText.{note_line};
 ghost use Rattle.document_report.specs.DocumentPlaces.{locale_place_view};
+ghost use Rattle.rule_notes.specs.CauseTexts.{cause_text};
 ghost use Rattle.serde_json.specs.View.{view};
 
 use crate::language_notes::LanguageNotes;
-use document_report::{LocalePlace, members_of};
+use document_report::{FindingPlace, LocalePlace, members_of};
 use plural_documents::{Findings, add_members};
 use plural_fallback::Part;
-use rule_notes::Note;
+use rule_notes::{Cause, Note};
 use serde_json::Value;
 use std::alloc::{AllocError, Global};
 use std::marker::Model;
@@ -21,6 +23,24 @@ pub struct DocumentNote<'a> {
     pub place: LocalePlace<'a>,
     /// The note, with its category.
     pub note: Note,
+}
+
+impl DocumentNote<'_> {
+    /// Returns the line that is printed: `cardinal ru few: note: range 4..2 is upside down`. It
+    /// allocates; the only error is out of memory.
+    pub fn line(&self, alloc: Global) -> Result<String, AllocError>
+        ensures { IfOk result (λ line. string_bytes line ≡ note_line (note_view self.now)) }
+    {
+        let place = FindingPlace::Text(self.place, self.note.category).text(alloc)?;
+        line_of(alloc, place.as_str(), &self.note.cause)
+    }
+}
+
+// The line of a cause, given what is printed for the place.
+fn line_of(alloc: Global, place: &str, cause: &Cause) -> Result<String, AllocError>
+    ensures { IfOk result (λ line. string_bytes line ≡ place.now ++ (codes ": note: " ++ cause_text cause.now)) }
+{
+    format!(in alloc; "{place}: note: {cause}")
 }
 
 /// The notes of a document, in their order.

@@ -1,18 +1,15 @@
 //! The text of a report with notes.
 
-ghost use Rattle.std.specs.Prelude.{◌≡◌, ◌++◌, codes, IfOk, OnOk, option_map, string_bytes};
+ghost use Rattle.std.specs.Prelude.{◌≡◌, ◌++◌, IfOk, OnOk, option_map, string_bytes};
 ghost use Rattle.document_notes.specs.DocumentNotes as noted;
 ghost use Rattle.document_notes.specs.DocumentNotes.{note_view};
 ghost use Rattle.document_notes.specs.NotedText.{counts_with, line_in, name_in, note_line, noted_counts, noted_text, notes_text};
 ghost use Rattle.document_report.specs.DocumentFindings as listed;
 ghost use Rattle.document_report.specs.DocumentFindings.{finding_line, finding_view};
-ghost use Rattle.document_report.specs.DocumentPlaces.{at_text, finding_place_text, locale_place_view};
-ghost use Rattle.rule_notes.specs.CauseTexts.{cause_text};
 
 use crate::document_note::{DocumentNote, DocumentNotes};
-use document_report::{Counts, Finding, FindingPlace, Report};
+use document_report::{Counts, Finding, Report};
 use plural_documents::{LinePrinter, push_lines};
-use rule_notes::Cause;
 use std::alloc::{AllocError, Global};
 
 /// Returns the text of a report with notes: a line for each finding, then one for each note, and one
@@ -76,7 +73,7 @@ impl<'f, 'a> LinePrinter<DocumentNote<'a>> for NamedLines<'f> {
         note: &DocumentNote<'a>,
         text: &mut String,
     ) -> Result<(), AllocError> {
-        let line = note_line(alloc, note)?;
+        let line = note.line(alloc)?;
         push_line(self.file, line.as_str(), text)
     }
 }
@@ -99,21 +96,6 @@ fn push_name(file: Option<&str>, text: &mut String) -> Result<(), AllocError>
     };
     text.push_str(name)?;
     text.push_str(": ")
-}
-
-// The line of a note.
-fn note_line(alloc: Global, note: &DocumentNote<'_>) -> Result<String, AllocError>
-    ensures { IfOk result (λ line. string_bytes line ≡ note_line (note_view note.now)) }
-{
-    let place = FindingPlace::Text(note.place, note.note.category).text(alloc)?;
-    line_of(alloc, place.as_str(), &note.note.cause)
-}
-
-// The line of a cause, given what is printed for the place.
-fn line_of(alloc: Global, place: &str, cause: &Cause) -> Result<String, AllocError>
-    ensures { IfOk result (λ line. string_bytes line ≡ place.now ++ (codes ": note: " ++ cause_text cause.now)) }
-{
-    format!(in alloc; "{place}: note: {cause}")
 }
 
 // The counts of a report, and of its notes.

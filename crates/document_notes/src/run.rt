@@ -1,6 +1,6 @@
 //! Writes the report of a document with its notes.
 
-ghost use Rattle.std.specs.Prelude.{◌≡◌, Bool, IfErr, IfOk, List, ℕ, option_map};
+ghost use Rattle.std.specs.Prelude.{◌≡◌, IfOk};
 ghost use Rattle.document_notes.specs.NotedAnswer.{AnswersNoted, IsNotedAnswer, noted_verdict, noted_view};
 ghost use Rattle.document_report.specs.CheckAnswer.{IsCheckAnswered, check_origin};
 ghost use Rattle.document_report.specs.CheckedDocument.{document_of_bytes};
@@ -8,21 +8,12 @@ ghost use Rattle.plural_documents.specs.Inputs.{GivesBy};
 ghost use Rattle.serde_json.specs.View.{view};
 
 use crate::document_note::{DocumentNotes, notes_in};
-use crate::noted_lines::noted_text;
+use crate::noted_printer::NotedPrinter;
 use document_report::{CheckError, Report, Verdict, report_of, value_of};
 use plural_documents::write_output;
 use serde_json::Value;
 use std::alloc::{AllocError, Global};
 use std::io::Write;
-
-/// How a report with notes is made.
-#[derive(Clone, Copy, Debug)]
-pub struct Noting<'f> {
-    /// The name of the document's file, if each line begins with it.
-    pub file: Option<&'f str>,
-    /// Whether notes are faults.
-    pub is_strict: bool,
-}
 
 // The text that is written for a document, and its verdict.
 #[derive(Drop)]
@@ -31,22 +22,23 @@ struct Noted {
     verdict: Verdict,
 }
 
-/// Writes the report of the document that bytes write, with its notes ([`noted_text`]), and nothing
-/// else. It allocates. With notes that are faults, the verdict on them is [`Verdict::Faults`].
+/// Writes the report of the document that bytes write, with its notes, as a printer prints them, and
+/// nothing else. It allocates. If notes are faults (`is_strict`), the verdict on them is
+/// [`Verdict::Faults`].
 ///
 /// The errors are those of [`run`](document_report::run::run) from [`CheckError::Json`] on; after
 /// one nothing was written, except by a failed write, which took a beginning of the report.
-pub fn write_noted<W: Write>(
+pub fn write_noted<P: NotedPrinter, W: Write>(
     alloc: Global,
-    noting: Noting<'_>,
+    printer: &P,
+    is_strict: bool,
     bytes: &[u8],
     writer: &mut W,
 ) -> Result<Verdict, CheckError>
-    ensures { IsCheckAnswered
-        (AnswersNoted (option_map (λ name. name.now) noting.entry.file) noting.entry.is_strict (document_of_bytes bytes.now))
+    ensures { IsCheckAnswered (AnswersNoted (P.text_of printer.now) is_strict (document_of_bytes bytes.now))
         (W.contents writer.old) (W.contents writer.new) result }
 {
-    let noted = noted_of_bytes(alloc, noting, bytes)?;
+    let noted = noted_of_bytes(alloc, printer, is_strict, bytes)?;
     match write_output(writer, noted.text.as_str().as_bytes()) {
         Ok(()) => Ok(noted.verdict),
         Err(_) => Err(CheckError::Write),
@@ -54,28 +46,37 @@ pub fn write_noted<W: Write>(
 }
 
 // The answer to bytes.
-fn noted_of_bytes(alloc: Global, noting: Noting<'_>, bytes: &[u8]) -> Result<Noted, CheckError>
+fn noted_of_bytes<P: NotedPrinter>(
+    alloc: Global,
+    printer: &P,
+    is_strict: bool,
+    bytes: &[u8],
+) -> Result<Noted, CheckError>
     ensures { GivesBy check_origin noted_view
-        (AnswersNoted (option_map (λ name. name.now) noting.entry.file) noting.entry.is_strict (document_of_bytes bytes.now)) result }
+        (AnswersNoted (P.text_of printer.now) is_strict (document_of_bytes bytes.now)) result }
 {
     let document = value_of(alloc, bytes)?;
-    match noted_of(alloc, noting, &document) {
+    match noted_of(alloc, printer, is_strict, &document) {
         Ok(noted) => Ok(noted),
         Err(_) => Err(CheckError::Memory),
     }
 }
 
 // The answer to a document.
-fn noted_of(alloc: Global, noting: Noting<'_>, document: &Value) -> Result<Noted, AllocError>
-    ensures { IfOk result (λ noted. IsNotedAnswer (option_map (λ name. name.now) noting.entry.file) noting.entry.is_strict
-        (view document.now) (noted_view noted)) }
+fn noted_of<P: NotedPrinter>(
+    alloc: Global,
+    printer: &P,
+    is_strict: bool,
+    document: &Value,
+) -> Result<Noted, AllocError>
+    ensures { IfOk result (λ noted. IsNotedAnswer (P.text_of printer.now) is_strict (view document.now) (noted_view noted)) }
 {
     let report = report_of(alloc, document)?;
     let notes = notes_in(alloc, document)?;
-    let text = noted_text(alloc, noting.file, &report, &notes)?;
+    let text = printer.print(alloc, &report, &notes)?;
     Ok(Noted {
         text,
-        verdict: verdict_of(noting.is_strict, &report, &notes),
+        verdict: verdict_of(is_strict, &report, &notes),
     })
 }
 

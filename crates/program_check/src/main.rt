@@ -51,9 +51,7 @@ fn answer_asked(rt: &HostRuntime, is_strict: bool, asked: Asked<'_>) -> Result<u
     match asked {
         Asked::Help => help(rt),
         Asked::Version => print(rt, VERSION),
-        Asked::Reports(format, _) if is_strict && format != Format::Text => {
-            Ok(tell_usage(rt, STRICT_FORMAT))
-        }
+        Asked::Reports(Format::Sarif, _) if is_strict => { Ok(tell_usage(rt, STRICT_FORMAT)) }
         Asked::Reports(format, []) => report_input(rt, Way { format, is_strict }),
         Asked::Reports(format, files) => Ok(report_files(rt, Way { format, is_strict }, files)),
     }

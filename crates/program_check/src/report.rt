@@ -1,9 +1,8 @@
 //! The report of a document, over any reader.
 
 use crate::failure::Failure;
-use document_formats::{DocumentFormat, FileFormat};
-use document_notes::run::{Noting, write_noted};
-use document_report::run::run_as;
+use document_formats::NotedFormat;
+use document_notes::run::write_noted;
 use document_report::{CheckError, Verdict};
 use finding_formats::Format;
 use plural_documents::read_input;
@@ -11,7 +10,7 @@ use serde_json::Value;
 use std::alloc::Global;
 use std::io::Read;
 
-// How reports are written: in which format, and whether notes are faults. Only text has notes.
+// How reports are written: in which format, and whether notes are faults.
 #[derive(Clone, Copy)]
 pub(crate) struct Way {
     pub(crate) format: Format,
@@ -29,51 +28,12 @@ pub(crate) fn write_report<R: Read>(
         Ok(bytes) => bytes,
         Err(fault) => return Err(Failure::from(CheckError::from(fault))),
     };
-    match write_report_of(rt, way, file, bytes.as_slice()) {
+    let (bytes, format) = (bytes.as_slice(), way.format);
+    let printer = NotedFormat { file, format };
+    match write_noted(rt.alloc(), &printer, way.is_strict, bytes, &mut rt.stdout()) {
         Ok(verdict) => Ok(verdict),
-        Err(CheckError::Json) => Err(no_json(rt.alloc(), bytes.as_slice())),
+        Err(CheckError::Json) => Err(no_json(rt.alloc(), bytes)),
         Err(error) => Err(Failure::from(error)),
-    }
-}
-
-// Writes the report of the document that bytes write.
-fn write_report_of(
-    rt: &HostRuntime,
-    way: Way,
-    file: Option<&str>,
-    bytes: &[u8],
-) -> Result<Verdict, CheckError> {
-    let is_strict = way.is_strict;
-    match way.format {
-        Format::Text => {
-            let noting = Noting { file, is_strict };
-            write_noted(rt.alloc(), noting, bytes, &mut rt.stdout())
-        }
-        format => write_formatted(rt, format, file, bytes),
-    }
-}
-
-// The same in a format without notes.
-fn write_formatted(
-    rt: &HostRuntime,
-    format: Format,
-    file: Option<&str>,
-    bytes: &[u8],
-) -> Result<Verdict, CheckError> {
-    let mut rest = bytes;
-    let (alloc, mut output) = (rt.alloc(), rt.stdout());
-    match file {
-        Some(file) => {
-            let printer = FileFormat { file, format };
-            run_as(alloc, false, &printer, &mut rest, &mut output)
-        }
-        None => run_as(
-            alloc,
-            false,
-            &DocumentFormat(format),
-            &mut rest,
-            &mut output,
-        ),
     }
 }
 

@@ -1,7 +1,9 @@
 //! Reports of documents with their notes.
 
 use crate::kinds::message_reports::print_lines;
-use document_notes::run::{Noting, write_noted};
+use document_formats::NotedFormat;
+use document_notes::run::write_noted;
+use finding_formats::Format;
 use row_calls::call::Call;
 
 /// Makes the call of a kind of this file. Returns whether there is such a kind.
@@ -14,16 +16,22 @@ pub fn make(kind: &str, call: &mut Call) -> bool {
     true
 }
 
-// The lines of a document's report with its notes, and the status of its verdict.
+// The lines of a document's report with its notes in a format, and the status of its verdict.
 fn noted(call: &mut Call, is_strict: bool) {
-    let file = call.optional_text();
-    let document = call.text();
-    let mut written = Vec::new(call.alloc);
-    let noting = Noting {
-        file: file.as_deref(),
-        is_strict,
+    let word = call.text();
+    let Some(format) = Format::from_word(word.as_str()) else {
+        return call.not("a format");
     };
-    match write_noted(call.alloc, noting, document.as_bytes(), &mut written) {
+    let (file, document) = (call.optional_text(), call.text());
+    let file = file.as_deref();
+    let mut written = Vec::new(call.alloc);
+    match write_noted(
+        call.alloc,
+        &NotedFormat { file, format },
+        is_strict,
+        document.as_bytes(),
+        &mut written,
+    ) {
         Ok(verdict) => {
             print_lines(call, written.as_slice());
             call.print(" | status ");
