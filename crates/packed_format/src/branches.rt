@@ -84,6 +84,7 @@ pub(crate) fn branch_of_word(
 
 // Where the branch of a category is, or that of `other` if there is none. Behind all parts, if there
 // is neither.
+#[inline(always)]
 pub(crate) fn branch_of_category(
     pattern: &PackedPattern<'_>,
     category: PluralCategory,
@@ -104,6 +105,7 @@ pub(crate) fn branch_of_category(
 }
 
 // Where the first branch by a number is that is chosen.
+#[inline(always)]
 pub(crate) fn first_chosen<C: Chooser>(
     pattern: &PackedPattern<'_>,
     chooser: &C,

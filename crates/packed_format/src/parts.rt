@@ -25,6 +25,7 @@ impl<'l, 'a> BlockParts<'l, 'a> {
     ghost use Rattle.std.specs.Prelude.{◌≡◌, drop};
 
     // All parts.
+    #[inline(always)]
     pub(crate) fn of(pattern: &'l PackedPattern<'a>) -> Self
         ensures pattern { result.pattern.now ≡ pattern.now }
         ensures first { result.next ≡ 0 }
@@ -40,6 +41,7 @@ impl<'l, 'a> MessageParts<'a> for BlockParts<'l, 'a> {
 
     ghost parts = { λ it. drop it.next it.pattern.now };
 
+    #[inline(always)]
     fn first(self) -> Option<(Part<'a>, Self)> {
         match self.pattern.get(self.next) {
             Some(part) => Some((
@@ -53,6 +55,7 @@ impl<'l, 'a> MessageParts<'a> for BlockParts<'l, 'a> {
         }
     }
 
+    #[inline(always)]
     fn branch_of_word(self, word: &[u8]) -> Found<Self> {
         let Some(begin) = self.pattern.placed(self.next) else {
             return Found {
@@ -74,6 +77,7 @@ impl<'l, 'a> MessageParts<'a> for BlockParts<'l, 'a> {
         }
     }
 
+    #[inline(always)]
     fn branch_of_category(self, category: PluralCategory) -> Self {
         let Some(begin) = self.pattern.placed(self.next) else {
             return self;
@@ -85,6 +89,7 @@ impl<'l, 'a> MessageParts<'a> for BlockParts<'l, 'a> {
         }
     }
 
+    #[inline(always)]
     fn first_chosen<C: Chooser>(self, chooser: &C) -> Result<Seen<Self>, C::Stop> {
         let Some(begin) = self.pattern.placed(self.next) else {
             return Ok(Seen {
@@ -120,6 +125,7 @@ impl<'l, 'a> MessageSteps for BlockParts<'l, 'a> {
 
     ghost error = { λ f. f };
 
+    #[inline(always)]
     fn step<'s, W: Sink>(
         self,
         alloc: Global,

@@ -14,6 +14,7 @@ use plural_base::PluralCategory;
 
 // Where the next selector of this depth is sought, behind a part. It is behind the branch of a
 // selector.
+#[inline(always)]
 pub(crate) fn next_selector(index: usize, placed: &PlacedPart<'_>, depth: usize) -> usize
     requires { index ≤ 65535 }
     ensures branches { (parts : List SpecPart) → IsPlaced placed.now parts index → branches_of depth (drop result parts) ≡ branches_of depth (drop (index + 1) parts) }
@@ -28,6 +29,7 @@ pub(crate) fn next_selector(index: usize, placed: &PlacedPart<'_>, depth: usize)
 }
 
 // Whether a piece begins a plural or an ordinal.
+#[inline(always)]
 pub(crate) fn is_plural(piece: Piece<'_>) -> bool
     ensures { result ≡ is_plural (piece_view piece.entry) }
 {
@@ -39,6 +41,7 @@ pub(crate) fn is_plural(piece: Piece<'_>) -> bool
 }
 
 // Whether a part has the place of the first branch by a number, or of the next.
+#[inline(always)]
 fn has_next_number(piece: Piece<'_>) -> bool
     ensures { result ≡ has_next_number (piece_view piece.entry) }
 {
@@ -49,6 +52,7 @@ fn has_next_number(piece: Piece<'_>) -> bool
 }
 
 // Where the next selector of this depth is sought that is a number, behind a part.
+#[inline(always)]
 pub(crate) fn next_number(index: usize, placed: &PlacedPart<'_>, depth: usize) -> Option<usize>
     requires { index ≤ 65535 }
     ensures { (parts : List SpecPart) → IsPlaced placed.now parts index → AreNext depth parts index result }
@@ -66,6 +70,7 @@ pub(crate) fn next_number(index: usize, placed: &PlacedPart<'_>, depth: usize) -
 }
 
 // From where on the end of an argument is sought.
+#[inline(always)]
 pub(crate) fn left_place(index: usize, begin: &PlacedPart<'_>) -> usize
     requires { index ≤ 65535 }
     ensures end { (parts : List SpecPart) → IsPlaced begin.now parts index → behind_end begin.now.part.depth (drop result parts) ≡ behind_end begin.now.part.depth (drop (index + 1) parts) }
@@ -79,6 +84,7 @@ pub(crate) fn left_place(index: usize, begin: &PlacedPart<'_>) -> usize
 
 // Where the parts from a branch on are, so many behind the part at a place. Behind all parts, if
 // there is none.
+#[inline(always)]
 pub(crate) fn place_behind(pattern: &PackedPattern<'_>, index: usize, place: usize) -> usize
     requires index { index < length pattern.now }
     requires few { index ≤ 65535 }
@@ -94,6 +100,7 @@ pub(crate) fn place_behind(pattern: &PackedPattern<'_>, index: usize, place: usi
 }
 
 // Which of the places of a plural is that of a category.
+#[inline(always)]
 pub(crate) fn category_index(category: PluralCategory) -> usize
     ensures { (depth : ℕ) (rest : List SpecPart) → slice_index (argument_places Plural depth rest) result ≡ place_or_other (name_of category) depth rest }
 {
