@@ -5,15 +5,17 @@
 --     FaultyRuleAt tokens kind rest      the same of a rule
 --     StandsAt text byte rest      these tokens are left of the text from the byte on
 --     TextFaultyAt text kind byte      the text has the fault at the byte
+--     TextIsRead text      a rule is read from the text
 -- The kinds of fault are those of `Faulty`, `FaultyInSamples` and `FaultyRule`.
 use Rattle.std.specs.Prelude.{◌≡◌, ◌≢◌, ◌⊎◌, ℕ, List, ◌++◌, Some, None, IfSome, length}
 use Rattle.std.specs.List.{filter_map, flat_map}
 use Rattle.plural_reference.specs.declared.ast.Condition.{Condition}
+use Rattle.plural_reference.specs.declared.ast.Rule.{Rule}
 use Rattle.plural_reference.specs.declared.error.ParseError.{ParseError}
 use Rattle.plural_reference.specs.declared.token.Token.{Token}
-use Rattle.plural_reference.specs.Lexer.{first, Piece, IsCut, AreTokensOf}
+use Rattle.plural_reference.specs.Lexer.{first, Piece, IsCut, AreTokensOf, TextReads}
 use Rattle.plural_reference.specs.Parser.{Place, Waits, ReadsUpTo, fault}
-use Rattle.plural_reference.specs.Samples.{SamplePlace, WaitsInSamples, fault_in_samples}
+use Rattle.plural_reference.specs.Samples.{SamplePlace, WaitsInSamples, ReadsRule, fault_in_samples}
 
 -- a beginning of the tokens waits, and what is left after it has this fault
 abbrev pub FaultyAt : List Token → ParseError → List Token → Type 0
@@ -48,3 +50,7 @@ abbrev pub TextFaultyAt : List ℕ → ParseError → ℕ → Type 0
 TextFaultyAt text kind byte =
     (tokens : List Token) × (rest : List Token)
     × AreTokensOf text tokens × FaultyRuleAt tokens kind rest × StandsAt text byte rest
+
+-- a rule is read from the text
+abbrev pub TextIsRead : List ℕ → Type 0
+TextIsRead text = (rule : Rule) × TextReads ReadsRule text rule

@@ -1,5 +1,6 @@
 //! Reading rules (UTS 35 Part 3, Plural Rules Syntax).
 
+mod fault;
 mod front;
 mod samples;
 pub(crate) mod sink;
@@ -29,6 +30,7 @@ use crate::sequence::Sequence;
 use crate::token::Token;
 use std::alloc::{AllocError, Global};
 use std::marker::Model;
+pub use fault::{RuleFault, fault_of};
 pub use whole::is_read_whole;
 
 /// Reads the condition of a rule (UTS 35 Part 3, Plural Rules Syntax) from the longest beginning of

@@ -88,7 +88,7 @@ pub rule_answers : (text : List ℕ) (tokens : List Token) (r : Result Rule Read
 rule_answers text tokens r t h = exactly ReadsRule FaultyRule text tokens r t (one_rule tokens) (rule_said tokens r h)
 
 -- a condition, and samples after it
-rule_is : (tokens middle rest : List Token) (rule : Rule)
+pub rule_is : (tokens middle rest : List Token) (rule : Rule)
     → run begin tokens ≡ Ok (rule.condition, middle) → ReadsAllSamples middle rule.samples rest → rule_of tokens ≡ Ok rule
 rule_is tokens middle rest rule h k =
     ap of_condition h ∙ ap (with_samples rule.condition) k.run_is

@@ -25,7 +25,7 @@ abbrev MayBeCondition : List Token → Type 0
 MayBeCondition tokens = (tokens ≡ []) ⊎ ((c : Condition) × IsCondition tokens c)
 
 -- what was read of the tokens is a condition or nothing
-read_part : (tokens middle : List Token) (c : Condition) → ReadsUpTo tokens c middle
+pub read_part : (tokens middle : List Token) (c : Condition) → ReadsUpTo tokens c middle
     → (part : List Token) × (tokens ≡ part ++ middle) × MayBeCondition part
 read_part tokens middle c (inl (empty, rest, none)) = ([], sym rest, inl refl)
 read_part tokens middle c (inr (spelled, front, is, ends)) = (spelled, front, inr (c, is))
