@@ -28,9 +28,9 @@ use crate::parser::sink::RelationSink;
 use crate::parser::tree::Tree;
 use crate::sequence::Sequence;
 use crate::token::Token;
+pub use fault::{RuleFault, fault_of};
 use std::alloc::{AllocError, Global};
 use std::marker::Model;
-pub use fault::{RuleFault, fault_of};
 pub use whole::is_read_whole;
 
 /// Reads the condition of a rule (UTS 35 Part 3, Plural Rules Syntax) from the longest beginning of

@@ -2,13 +2,13 @@
 -- token, finds the first piece of any cut. From ScanSound and ScanComplete to the law that every
 -- text has exactly one cut.
 use Rattle.std.proofs.Common.{◌≡◌, ◌≢◌, ◌*◌, ◌+◌, ℕ, List, [], ◌∷◌, ◌++◌, Option, Some, None, refl}
-use Rattle.std.proofs.Common.{sym, ap, ◌∙◌, append_assoc, cond, drop, is_some, nat_eq, length, subst, true, arith}
+use Rattle.std.proofs.Common.{sym, ap, ◌∙◌, append_assoc, drop, is_some, length, subst, true, arith}
 use Rattle.std.proofs.lemmas.Bool.{eq-eqb, false≢true}
 use Rattle.std.proofs.lemmas.List.{append-nil, append_cancel_left}
 use Rattle.std.proofs.lemmas.List.Elements.{All-contains, All-from_recursion, recursion_from_All}
 use Rattle.std.specs.Prelude.{IfSome, codes}
 use Rattle.std.specs.List.{AllByRecursion, list_all, cons_option}
-use Rattle.std.specs.Char.{is_ascii_digit, digit_value, IsAsciiDigit}
+use Rattle.std.specs.Char.{digit_value, IsAsciiDigit}
 use Rattle.plural_operands.specs.declared.operand.Operand.TheVariants.{I}
 use Rattle.plural_reference.specs.declared.ast.Operator.TheVariants.{NotEq}
 use Rattle.plural_reference.specs.declared.token.Token.{Token}
@@ -16,9 +16,9 @@ use Rattle.plural_reference.specs.declared.token.Token.TheVariants.{Operand, Ope
 use Rattle.plural_reference.specs.Lexer.{first, Word, marks, keywords, MayFollow, IsDigitRun, IsBegun, BeginsNone, IsPiece}
 use Rattle.plural_reference.specs.Lexer.{space, mark, keyword, number, unknown, too_large, broken, cut_off, Piece, IsCut}
 use Rattle.plural_reference.specs.ReadingLaws.{HaveOneCut}
-use Rattle.plural_reference.specs.Inner.Scan.{Scan, between, in_keyword, in_number, after_i, after_point, begin_piece, keyword_move}
+use Rattle.plural_reference.specs.Inner.Scan.{Scan, between, in_keyword, in_number}
 use Rattle.plural_reference.specs.Inner.Scan.{tokens_of}
-use Rattle.plural_reference.specs.Inner.BehindFirst.{Bite, stops, ends, goes, taken, bite}
+use Rattle.plural_reference.specs.Inner.BehindFirst.{Bite, stops, ends, goes, bite}
 use Rattle.plural_reference.proofs.tokens.ScanComplete.{no_more, no_eq, digit_yes, digit_no, begin_digit, begin_unknown, piece_scans}
 use Rattle.plural_reference.proofs.tokens.ScanSound.{has_tokens}
 

@@ -10,7 +10,7 @@ use Rattle.std.specs.Prelude.{IfSome}
 use Rattle.std.specs.List.{filter_map, flat_map, cons_option}
 use Rattle.plural_reference.specs.declared.token.Token.{Token}
 use Rattle.plural_reference.specs.Lexer.{first, IsPiece, space, mark, keyword, number, unknown, too_large, broken, cut_off}
-use Rattle.plural_reference.specs.Lexer.{Piece, IsCut, AreTokensOf}
+use Rattle.plural_reference.specs.Lexer.{Piece, IsCut}
 use Rattle.plural_reference.specs.FaultPlaces.{StandsAt}
 use Rattle.plural_reference.specs.Inner.Scan.{Scan, between, tokens_of}
 use Rattle.plural_reference.specs.Inner.BehindFirst.{Bite, stops, ends, goes, bite, left_by, rest_from, behind_first, HasFirst}

@@ -1,4 +1,4 @@
-use Rattle.std.proofs.Common.{◌∙◌, ap, sym, subst, Err}
+use Rattle.std.proofs.Common.{◌∙◌, sym, subst, Err}
 use Rattle.std.proofs.lemmas.Result.{err_from_is_err_and}
 use Rattle.plural_reference.specs.RelationSinks.{nothing}
 use Rattle.plural_reference.proofs.reading.ParserSteps.{joins, joint_fault, nothing_joins, condition_is, no_condition, passes_on}

@@ -1,6 +1,5 @@
-use Rattle.std.proofs.Common.{◌≡◌, ◌+◌, length, true, false, subst, arith}
+use Rattle.std.proofs.Common.{subst, arith}
 use Rattle.plural_reference.specs.Inner.BehindFirst.{HasFirst}
-use Rattle.plural_reference.specs.Inner.Scan.{tokens_of}
 use Rattle.plural_reference.proofs.tokens.Walk.{walk_goes_on, walk_stands, walk_ends, one_token_more, no_token_more}
 use Rattle.plural_reference.proofs.parser.fault.last_tokens.Goals as goal
 
