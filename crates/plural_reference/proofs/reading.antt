@@ -1,5 +1,6 @@
 -- What is read of tokens: the reader of conditions and the grammar agree, and the parser takes its
 -- steps.
+pub mod PlacedFaults
 pub mod ReaderComplete
 pub mod ReaderSound
 pub mod Readings

@@ -4,4 +4,5 @@ pub mod RuleReadings
 pub mod RuleTexts
 pub mod Answered
 pub mod WholeRules
+pub mod FaultBytes
 pub mod WorkedRuleTexts

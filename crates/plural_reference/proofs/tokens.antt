@@ -4,6 +4,7 @@ pub mod ScanComplete
 pub mod ScanSound
 pub mod ScanSize
 pub mod CutOnce
+pub mod Walk
 pub mod Alone
 pub mod FirstBytes
 pub mod LargeNumbers

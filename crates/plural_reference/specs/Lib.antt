@@ -2,6 +2,7 @@ pub mod Lexer
 pub mod PluralReferenceErrors
 pub mod Parser
 pub mod Samples
+pub mod FaultPlaces
 pub mod Serializer
 pub mod Reading
 pub mod RelationSinks

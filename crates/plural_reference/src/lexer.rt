@@ -1,8 +1,9 @@
 //! A text as tokens (UTS 35 Part 3, Plural Rules Syntax).
 
-ghost use Rattle.std.specs.Prelude.{◌≡◌, ◌≢◌, ◌≤◌, ◌+◌, ◌*◌, ◌∷◌, [], ℕ, Some, length, min, MatchOption};
+ghost use Rattle.std.specs.Prelude.{◌≡◌, ◌≢◌, ◌≤◌, ◌+◌, ◌*◌, ◌∷◌, [], ℕ, Some, length, min, IfSome, MatchOption};
 ghost use Rattle.plural_reference.specs.Lexer.{first, AreTokensOf, blank};
 ghost use Rattle.std.specs.Iterator.{YieldsFirst, item_count};
+ghost use Rattle.plural_reference.specs.Inner.BehindFirst.{behind_first, behind_keyword};
 ghost use Rattle.plural_reference.specs.Inner.Front.{BeginsAtToken};
 ghost use Rattle.plural_reference.specs.Inner.Scan.{tokens_of, keyword_tokens, number_token};
 
@@ -89,7 +90,8 @@ fn behind_space(text: &[u8]) -> &[u8]
 #[tactic(auto, unfolding(crate::specs::Inner::Scan::tokens_from))]
 pub(crate) fn first_token(text: &[u8]) -> Option<(Token, &[u8])>
     requires { BeginsAtToken text.now }
-    ensures { MatchOption result (tokens_of text.now ≡ []) (λ it. tokens_of text.now ≡ it.0 ∷ tokens_of it.1.now) }
+    ensures tokens { MatchOption result (tokens_of text.now ≡ []) (λ it. tokens_of text.now ≡ it.0 ∷ tokens_of it.1.now) }
+    ensures behind { IfSome result (λ it. behind_first text.now ≡ it.1.now) }
 {
     match text {
         [first, rest @ ..] => Some(token_at(*first, rest)),
@@ -99,10 +101,11 @@ pub(crate) fn first_token(text: &[u8]) -> Option<(Token, &[u8])>
 
 // The token that the byte begins, and the bytes after it.
 #[inline(always)]
-#[tactic(auto, using(crate::proofs::tokens::Alone::i_alone, crate::proofs::tokens::Alone::point_alone), unfolding(crate::specs::Inner::Scan::tokens_from))]
+#[tactic(auto, using(crate::proofs::tokens::Alone::alone), unfolding(crate::specs::Inner::Scan::tokens_from, crate::specs::Inner::BehindFirst::rest_from))]
 fn token_at(first: u8, rest: &[u8]) -> (Token, &[u8])
     requires { first ≢ blank }
-    ensures { tokens_of (first ∷ rest.now) ≡ result.0 ∷ tokens_of result.1.now }
+    ensures tokens { tokens_of (first ∷ rest.now) ≡ result.0 ∷ tokens_of result.1.now }
+    ensures behind { behind_first (first ∷ rest.now) ≡ result.1.now }
 {
     match first {
         b'n' => (Token::Operand(ast::Operand::N), rest),
@@ -149,9 +152,10 @@ pub(crate) fn strip_byte(text: &[u8], byte: u8) -> Option<&[u8]>
 }
 
 // The token of a keyword, if these bytes of it are still expected, and the bytes after it.
-#[tactic(auto, unfolding(crate::specs::Inner::Scan::tokens_from))]
+#[tactic(auto, unfolding(crate::specs::Inner::Scan::tokens_from, crate::specs::Inner::BehindFirst::rest_from))]
 fn keyword<'a>(expected: &[u8], token: Token, text: &'a [u8]) -> (Token, &'a [u8])
-    ensures { keyword_tokens expected.now token text.now ≡ result.0 ∷ tokens_of result.1.now }
+    ensures tokens { keyword_tokens expected.now token text.now ≡ result.0 ∷ tokens_of result.1.now }
+    ensures behind { behind_keyword expected.now token text.now ≡ result.1.now }
 {
     let mut rest = text;
     for byte in expected {
@@ -174,7 +178,8 @@ const TOO_LARGE: u64 = 4_294_967_296;
 pub(crate) fn number(first: u8, text: &[u8]) -> (Token, &[u8])
     requires low { 49 ≤ first }
     requires high { first ≤ 57 }
-    ensures { tokens_of (first ∷ text.now) ≡ result.0 ∷ tokens_of result.1.now }
+    ensures tokens { tokens_of (first ∷ text.now) ≡ result.0 ∷ tokens_of result.1.now }
+    ensures behind { behind_first (first ∷ text.now) ≡ result.1.now }
 {
     let mut value = u64::from(first - b'0');
     let mut rest = text;

@@ -14,7 +14,10 @@ mod token;
 pub use error::{LexerError, ParseError, ReadError};
 pub use lexer::Lexer;
 pub use parser::sink::RelationSink;
-pub use parser::{is_read_whole, parse, parse_condition, parse_without_samples, read_relations};
+pub use parser::{
+    RuleFault, fault_of, is_read_whole, parse, parse_condition, parse_without_samples,
+    read_relations,
+};
 pub use plural_operands::{
     KEPT_LIMIT, KEPT_PLACES, OperandsError, PluralOperands, RawPluralOperands,
 };

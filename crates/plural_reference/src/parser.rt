@@ -1,5 +1,6 @@
 //! Reading rules (UTS 35 Part 3, Plural Rules Syntax).
 
+mod fault;
 mod front;
 mod samples;
 pub(crate) mod sink;
@@ -27,6 +28,7 @@ use crate::parser::sink::RelationSink;
 use crate::parser::tree::Tree;
 use crate::sequence::Sequence;
 use crate::token::Token;
+pub use fault::{RuleFault, fault_of};
 use std::alloc::{AllocError, Global};
 use std::marker::Model;
 pub use whole::is_read_whole;
@@ -135,16 +137,6 @@ impl<'p> Parser<'p> {
         }
     }
 
-    // Takes the next token.
-    #[inline]
-    fn next(&mut self) -> Option<Token>
-        ensures { MatchOption result ((self.old ≡ []) × (self.new ≡ [])) (λ t. self.old ≡ t ∷ self.new) }
-    {
-        let (token, after) = first_token(self.rest)?;
-        self.rest = behind_spaces(after);
-        Some(token)
-    }
-
     // Takes the next token if it is this one.
     #[inline(always)]
     fn take_if(&mut self, token: Token) -> bool
@@ -174,7 +166,7 @@ impl<'p> Parser<'p> {
     // value = Number | Zero
     fn value(&mut self) -> Result<Value, ParseError>
         ensures shorter { length self.new ≤ length self.old }
-        ensures value { MatchResult result (λ v. TakesValue self.old v self.new) (NoValue self.old) }
+        ensures value { MatchResult result (λ v. TakesValue self.old v self.new) (NoValue self.old self.new) }
     {
         let number = self.take_number().ok_or(ParseError::ExpectedValue)?;
         Ok(Value::from(number))
@@ -185,7 +177,7 @@ impl<'p> Parser<'p> {
     #[tactic(auto, using(crate::proofs::reading::ParserSteps::item_steps))]
     fn item(&mut self) -> Result<RangeListItem, ParseError>
         ensures shorter { length self.new ≤ length self.old }
-        ensures item { MatchResult result (λ x. ReadsItem self.old x self.new) (FailsAtItem self.old) }
+        ensures item { MatchResult result (λ x. ReadsItem self.old x self.new) (FailsAtItem self.old self.new) }
     {
         let value = self.value()?;
         if self.take_if(Token::DotDot) {
@@ -203,7 +195,7 @@ impl<'p> Parser<'p> {
         ensures list { IsAnswer
             (λ _. (items : List Item) × ReadsItems self.old items self.new × (first self.new ≢ Some Comma)
             × ((before : Before) → S.holds sink.old before [] → S.holds sink.new before items))
-            (FailsAtItems self.old)
+            (FailsAtItems self.old self.new)
             result }
     {
         let first = self.item()?;
@@ -218,7 +210,7 @@ impl<'p> Parser<'p> {
     // Takes the operand that begins a relation, unless the tokens end or At comes.
     fn operand(&mut self) -> Result<Option<Operand>, ParseError>
         ensures shorter { length self.new ≤ length self.old }
-        ensures operand { MatchResult result (λ o. ReadsOption TakesOperand self.old o self.new) (NoOperand self.old) }
+        ensures operand { MatchResult result (λ o. ReadsOption TakesOperand self.old o self.new) (NoOperand self.old self.new) }
     {
         let Some((token, after)) = first_token(self.rest) else {
             return Ok(None);
@@ -238,7 +230,7 @@ impl<'p> Parser<'p> {
     // expr = (Operand | E) (Modulo value)?
     fn expression(&mut self) -> Result<Option<Expression>, ParseError>
         ensures shorter { length self.new ≤ length self.old }
-        ensures expression { MatchResult result (λ x. ReadsOption ReadsExpression self.old x self.new) (FailsAtOperand self.old) }
+        ensures expression { MatchResult result (λ x. ReadsOption ReadsExpression self.old x self.new) (FailsAtOperand self.old self.new) }
     {
         let Some(operand) = self.operand()? else {
             return Ok(None);
@@ -256,7 +248,7 @@ impl<'p> Parser<'p> {
     // operator = Operator
     fn operator(&mut self) -> Result<Operator, ParseError>
         ensures shorter { length self.new ≤ length self.old }
-        ensures operator { MatchResult result (λ o. self.old ≡ token.Operator o ∷ self.new) (NoOperator self.old) }
+        ensures operator { MatchResult result (λ o. self.old ≡ token.Operator o ∷ self.new) (NoOperator self.old self.new) }
     {
         let (operator, after) = operator_at(self.rest).ok_or(ParseError::ExpectedOperator)?;
         self.rest = behind_spaces(after);
@@ -274,7 +266,7 @@ impl<'p> Parser<'p> {
         ensures relation { IsAnswer
             (λ r. (items : List Item) × ReadsParts self.old r items self.new
             × ((before : Before) → S.holds sink.old before [] → S.holds sink.new before items))
-            (FailsAtOperand self.old)
+            (FailsAtOperand self.old self.new)
             result }
     {
         let Some(expression) = self.expression()? else {
@@ -306,7 +298,7 @@ impl<'p> Parser<'p> {
         requires { S.holds sink.old nothing [] }
         ensures { IsAnswer
             (λ _. (before : Before) × S.holds sink.new before [] × (run begin self.old ≡ Ok (condition_of before, self.new)))
-            (λ e. run begin self.old ≡ Err e)
+            (λ e. run begin self.old ≡ Err (e, self.new))
             result }
     {
         let Some((expression, operator)) = self.relation(alloc, sink)? else {
@@ -324,7 +316,7 @@ impl<'p> Parser<'p> {
 
     // The tree of a condition.
     fn condition(&mut self, alloc: Global) -> Result<Condition, ReadError>
-        ensures { IsAnswer (λ c. run begin self.old ≡ Ok (c, self.new)) (λ e. run begin self.old ≡ Err e) result }
+        ensures { IsAnswer (λ c. run begin self.old ≡ Ok (c, self.new)) (λ e. run begin self.old ≡ Err (e, self.new)) result }
     {
         let mut tree = Tree::new(alloc);
         self.relations(alloc, &mut tree)?;

@@ -21,22 +21,23 @@ use Rattle.plural_reference.specs.Parser.{token_value, operand_of, value_fault, 
 use Rattle.plural_reference.specs.RelationSinks.{Before, with_relation, with_group, joined, closed, condition_of}
 use Rattle.plural_reference.specs.Inner.Reader.{Opened, State, before_operand, after_operand, before_item, after_item}
 use Rattle.plural_reference.specs.Inner.Reader.{relation_of, ended_condition, no_operand, refuse, run, begin}
-use Rattle.plural_reference.specs.Inner.Reader.{ReadsItem, ReadsItems, ReadsExpression, NoDots, NoOperand, Completes, ReadsRelation, FailsAtOperand}
+use Rattle.plural_reference.specs.Inner.Reader.{ReadsItem, ReadsItems, ReadsExpression, NoDots, NoOperand, Completes, ReadsRelation}
+use Rattle.plural_reference.specs.Inner.Reader.{FailsAtItem, FailsAtItems, FailsAtOperand}
 use Rattle.plural_reference.specs.Inner.Reader.{joint, expected_behind}
 use Rattle.plural_reference.proofs.reading.ReaderComplete.{before_item_stop, before_end_stop, after_modulo_stop, operator_stop}
 use Rattle.plural_reference.proofs.reading.ReaderComplete.{after_operand_stop, operand_stop}
 
 -- if no value comes next, an item is a fault
-pub no_item : (old : List Token) (o : Opened) (xs : List RangeListItem)
-    → value_fault (first old) ≡ Some ExpectedValue → run (before_item o xs) old ≡ Err ExpectedValue
-no_item old o xs h = before_item_stop o xs old ExpectedValue h
+pub no_item : (old new : List Token) (o : Opened) (xs : List RangeListItem)
+    → value_fault (first old) ≡ Some ExpectedValue → new ≡ old → run (before_item o xs) old ≡ Err (ExpectedValue, new)
+no_item old new o xs h e = rw e (before_item_stop o xs old ExpectedValue h)
 
 -- the same after the dots of a range
-pub no_end : (old middle after : List Token) (t : Token) (v : Value) (o : Opened) (xs : List RangeListItem)
+pub no_end : (old middle after new : List Token) (t : Token) (v : Value) (o : Opened) (xs : List RangeListItem)
     → old ≡ t ∷ middle → token_value t ≡ Some v → middle ≡ DotDot ∷ after → value_fault (first after) ≡ Some ExpectedValue
-    → run (before_item o xs) old ≡ Err ExpectedValue
+    → new ≡ after → run (before_item o xs) old ≡ Err (ExpectedValue, new)
 unfolding run
-no_end old middle after t v o xs e h f k = rw (e, h, f) (before_end_stop o xs v after ExpectedValue k)
+no_end old middle after new t v o xs e h f k s = rw (e, h, f, s) (before_end_stop o xs v after ExpectedValue k)
 
 -- two values with dots between them are a range
 pub item_range : (old middle after new : List Token) (t u : Token) (v w : Value)
@@ -74,17 +75,16 @@ more_items old middle after new ys x h e k = record {
 }
 
 -- a fault of an item is one of the list
-pub items_fault : (old middle after : List Token) (ys : List RangeListItem) (e : ParseError)
-    → ReadsItems old ys middle → middle ≡ Comma ∷ after → ((o : Opened) (xs : List RangeListItem) → run (before_item o xs) after ≡ Err e)
-    → (o : Opened) → run (before_item o []) old ≡ Err e
+pub items_fault : (old middle after new : List Token) (ys : List RangeListItem) (e : ParseError)
+    → ReadsItems old ys middle → middle ≡ Comma ∷ after → FailsAtItem after new e → FailsAtItems old new e
 unfolding run
-items_fault old middle after ys e h f k o = h.run_is o ∙ ap (run (after_item o h.front h.item)) f ∙ k o (h.front ++ h.item ∷ [])
+items_fault old middle after new ys e h f k o = h.run_is o ∙ ap (run (after_item o h.front h.item)) f ∙ k o (h.front ++ h.item ∷ [])
 
 -- ---- expressions
 
 -- after an operand that no modulus follows
 after_operand_fault : (o : operand.Operand) (b : Before) (new : List Token)
-    → first new ≢ Some Modulo → operator_fault (first new) ≡ Some ExpectedOperator → run (after_operand b o) new ≡ Err ExpectedOperator
+    → first new ≢ Some Modulo → operator_fault (first new) ≡ Some ExpectedOperator → run (after_operand b o) new ≡ Err (ExpectedOperator, new)
 after_operand_fault o b [] n h = after_operand_stop b o [] ExpectedOperator h
 after_operand_fault o b (Modulo ∷ ts) n h = absurd (n refl)
 after_operand_fault o b (Operator op ∷ ts) n h = after_operand_stop b o (Operator op ∷ ts) ExpectedOperator h
@@ -110,16 +110,15 @@ expression_reduced old middle after new t u o v e h f g k = record {
 }
 
 -- if no value follows Modulo, that is the fault
-pub no_modulus : (old middle after : List Token) (t : Token) (o : operand.Operand)
-    → old ≡ t ∷ middle → operand_of t ≡ Some o → middle ≡ Modulo ∷ after → value_fault (first after) ≡ Some ExpectedValue → (b : Before)
-    → run (before_operand b) old ≡ Err ExpectedValue
+pub no_modulus : (old middle after new : List Token) (t : Token) (o : operand.Operand)
+    → old ≡ t ∷ middle → operand_of t ≡ Some o → middle ≡ Modulo ∷ after → value_fault (first after) ≡ Some ExpectedValue
+    → new ≡ after → FailsAtOperand old new ExpectedValue
 unfolding run
-no_modulus old middle after t o e h f k b = rw (e, h, f) (after_modulo_stop b o after ExpectedValue k)
+no_modulus old middle after new t o e h f k s b = rw (e, h, f, s) (after_modulo_stop b o after ExpectedValue k)
 
 -- a token that isn't an operand is a fault if an operand is expected
-pub no_operand_fault : (old : List Token) (e : ParseError)
-    → NoOperand old e → (b : Before) → run (before_operand b) old ≡ Err ExpectedOperand
-no_operand_fault old e h b = operand_stop b None old ExpectedOperand (λ e k. cc) (h.1 None)
+pub no_operand_fault : (old new : List Token) (e : ParseError) → NoOperand old new e → FailsAtOperand old new ExpectedOperand
+no_operand_fault old new e h b = rw h.2 (operand_stop b None old ExpectedOperand (λ e k. cc) (h.1 None))
 
 -- ---- relations
 
@@ -140,10 +139,9 @@ relation_completes old middle after new e op ys h f k n b =
     }
 
 -- a fault of the list is one of the relation
-pub relation_items_fault : (old middle after : List Token) (e : Expression) (op : operator.Operator) (kind : ParseError)
-    → ReadsExpression old e middle → middle ≡ Operator op ∷ after → ((o : Opened) → run (before_item o []) after ≡ Err kind)
-    → (b : Before) → run (before_operand b) old ≡ Err kind
-relation_items_fault old middle after e op kind h f k b = h.goes_on b op after f ∙ k (record { before = b; expression = e; operator = op })
+pub relation_items_fault : (old middle after new : List Token) (e : Expression) (op : operator.Operator) (kind : ParseError)
+    → ReadsExpression old e middle → middle ≡ Operator op ∷ after → FailsAtItems after new kind → FailsAtOperand old new kind
+relation_items_fault old middle after new e op kind h f k b = h.goes_on b op after f ∙ k (record { before = b; expression = e; operator = op })
 
 -- ---- groups
 
@@ -191,7 +189,7 @@ some_relations (g ∷ gs) (x ∷ xs) r = refl
 
 -- if no operand comes next, the reader stops as it does at the end
 unconditional_fault : (b : Before) (rest : List Token) (kind : ParseError)
-    → IsUnconditional rest → no_operand b.groups b.relations ≡ refuse kind → run (before_operand b) rest ≡ Err kind
+    → IsUnconditional rest → no_operand b.groups b.relations ≡ refuse kind → run (before_operand b) rest ≡ Err (kind, rest)
 unfolding run
 unconditional_fault b [] kind u h = rw h refl
 unconditional_fault b (At ∷ ts) kind u h = rw h refl
@@ -199,7 +197,7 @@ unconditional_fault b (_ ∷ ts) kind u h = absurd u
 
 -- if no relation follows And, a relation is expected
 no_relation : (from : State) (old middle after : List Token) (b : Before)
-    → Completes from old b middle → middle ≡ And ∷ after → IsUnconditional after → run from old ≡ Err ExpectedRelation
+    → Completes from old b middle → middle ≡ And ∷ after → IsUnconditional after → run from old ≡ Err (ExpectedRelation, after)
 no_relation from old middle after b h e u =
     goes_on_and from old middle after b h e
     ∙ unconditional_fault b after ExpectedRelation u
@@ -229,16 +227,16 @@ joins false old middle after new b r h e k = more_relations begin old middle aft
 joins true old middle after new b r h e k = next_group old middle after new b r h e k
 
 -- a fault of a relation behind either is one of the condition
-pub joint_fault : (is_after_or : Bool) (old middle after : List Token) (b : Before) (kind : ParseError)
-    → Completes begin old b middle → middle ≡ joint is_after_or ∷ after → FailsAtOperand after kind
-    → run begin old ≡ Err kind
-joint_fault false old middle after b kind h e k = goes_on_and begin old middle after b h e ∙ k b
-joint_fault true old middle after b kind h e k = goes_on_or begin old middle after b h e ∙ k (with_group b)
+pub joint_fault : (is_after_or : Bool) (old middle after new : List Token) (b : Before) (kind : ParseError)
+    → Completes begin old b middle → middle ≡ joint is_after_or ∷ after → FailsAtOperand after new kind
+    → run begin old ≡ Err (kind, new)
+joint_fault false old middle after new b kind h e k = goes_on_and begin old middle after b h e ∙ k b
+joint_fault true old middle after new b kind h e k = goes_on_or begin old middle after b h e ∙ k (with_group b)
 
 -- if no relation is behind either, one is expected there
 pub nothing_joins : (is_after_or : Bool) (old middle after : List Token) (b : Before)
     → Completes begin old b middle → middle ≡ joint is_after_or ∷ after → IsUnconditional after
-    → run begin old ≡ Err (expected_behind is_after_or)
+    → run begin old ≡ Err (expected_behind is_after_or, after)
 nothing_joins false old middle after b h e u = no_relation begin old middle after b h e u
 nothing_joins true old middle after b h e u =
     goes_on_or begin old middle after b h e

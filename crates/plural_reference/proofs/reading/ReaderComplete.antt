@@ -27,6 +27,7 @@ use Rattle.plural_reference.specs.RelationSinks.{Before, with_relation, with_gro
 use Rattle.plural_reference.specs.Inner.Reader.{Opened, State, before_operand, after_operand, after_modulo, after_modulus}
 use Rattle.plural_reference.specs.Inner.Reader.{before_item, after_item, before_end, relation_of}
 use Rattle.plural_reference.specs.Inner.Reader.{ended_condition, refuse, value_move, proceed, run, begin, Outcome, no_operand}
+use Rattle.plural_reference.specs.FaultPlaces.{FaultyAt}
 
 -- if an item is expected, the tokens of an item lead to the state after it
 pub run_item : (o : Opened) (xs : List RangeListItem) (tokens : List Token) (x : RangeListItem) (rest : List Token)
@@ -314,7 +315,7 @@ arrives_after_modulus p h =
 -- if an operand is expected, the fault of what follows is returned, given the fault at the end
 pub operand_stop : (b : Before) (ended : Option ParseError) (rest : List Token) (kind : ParseError)
     → ((e : ParseError) → ended ≡ Some e → no_operand b.groups b.relations ≡ refuse e)
-    → operand_fault ended (first rest) ≡ Some kind → run (before_operand b) rest ≡ Err kind
+    → operand_fault ended (first rest) ≡ Some kind → run (before_operand b) rest ≡ Err (kind, rest)
 unfolding run
 operand_stop b ended [] kind stop h = rw (stop kind h) refl
 operand_stop b ended (At ∷ ts) kind stop h = rw (stop kind h) refl
@@ -322,7 +323,7 @@ operand_stop b ended (_ ∷ ts) kind stop h = cc
 
 -- if an operator is expected, the fault of what follows is returned
 pub operator_stop : (b : Before) (e : Expression) (rest : List Token) (kind : ParseError)
-    → operator_fault (first rest) ≡ Some kind → run (after_modulus b e) rest ≡ Err kind
+    → operator_fault (first rest) ≡ Some kind → run (after_modulus b e) rest ≡ Err (kind, rest)
 unfolding run
 operator_stop b e [] kind h = cc
 operator_stop b e (Operator op ∷ ts) kind h = cc
@@ -330,7 +331,7 @@ operator_stop b e (_ ∷ ts) kind h = cc
 
 -- after an operand, the fault of what follows is returned
 pub after_operand_stop : (b : Before) (o : operand.Operand) (rest : List Token) (kind : ParseError)
-    → fault places.after_operand (first rest) ≡ Some kind → run (after_operand b o) rest ≡ Err kind
+    → fault places.after_operand (first rest) ≡ Some kind → run (after_operand b o) rest ≡ Err (kind, rest)
 unfolding run
 after_operand_stop b o [] kind h = cc
 after_operand_stop b o (Modulo ∷ ts) kind h = cc
@@ -339,27 +340,27 @@ after_operand_stop b o (_ ∷ ts) kind h = cc
 
 -- if a value is expected, a token that is no value gives a fault
 value_stopped : (v : Option Value) (next : Value → State) (ts : List Token) (kind : ParseError) (k : State → Outcome)
-    → (if is_some v then None else Some ExpectedValue) ≡ Some kind → proceed (value_move v next) ts k ≡ Err kind
+    → (if is_some v then None else Some ExpectedValue) ≡ Some kind → proceed (value_move v next) ts k ≡ Err (kind, ts)
 value_stopped None next ts kind k h = cc
 value_stopped (Some v) next ts kind k h = cc
 
 -- if a modulus is expected, the fault of what follows is returned
 pub after_modulo_stop : (b : Before) (o : operand.Operand) (rest : List Token) (kind : ParseError)
-    → value_fault (first rest) ≡ Some kind → run (after_modulo b o) rest ≡ Err kind
+    → value_fault (first rest) ≡ Some kind → run (after_modulo b o) rest ≡ Err (kind, rest)
 unfolding run
 after_modulo_stop b o [] kind h = cc
 after_modulo_stop b o (t ∷ ts) kind h = value_stopped (token_value t) _ (t ∷ ts) kind _ h
 
 -- if an item is expected, the fault of what follows is returned
 pub before_item_stop : (o : Opened) (xs : List RangeListItem) (rest : List Token) (kind : ParseError)
-    → value_fault (first rest) ≡ Some kind → run (before_item o xs) rest ≡ Err kind
+    → value_fault (first rest) ≡ Some kind → run (before_item o xs) rest ≡ Err (kind, rest)
 unfolding run
 before_item_stop o xs [] kind h = cc
 before_item_stop o xs (t ∷ ts) kind h = value_stopped (token_value t) _ (t ∷ ts) kind _ h
 
 -- if the end of a range is expected, the fault of what follows is returned
 pub before_end_stop : (o : Opened) (xs : List RangeListItem) (v : Value) (rest : List Token) (kind : ParseError)
-    → value_fault (first rest) ≡ Some kind → run (before_end o xs v) rest ≡ Err kind
+    → value_fault (first rest) ≡ Some kind → run (before_end o xs v) rest ≡ Err (kind, rest)
 unfolding run
 before_end_stop o xs v [] kind h = cc
 before_end_stop o xs v (t ∷ ts) kind h = value_stopped (token_value t) _ (t ∷ ts) kind _ h
@@ -412,7 +413,7 @@ data WantsValue : State → Type 0 where
 
 -- such a state returns the fault of what follows
 wants_stop : (s : State) → WantsValue s → (rest : List Token) (kind : ParseError) → value_fault (first rest) ≡ Some kind
-    → run s rest ≡ Err kind
+    → run s rest ≡ Err (kind, rest)
 wants_stop _ (wants_item o xs) rest kind h = before_item_stop o xs rest kind h
 wants_stop _ (wants_end o xs v) rest kind h = before_end_stop o xs v rest kind h
 
@@ -447,7 +448,7 @@ arrives_before_value p (inr (inr (spelled, c, e, h, (v, is_value)))) =
 
 -- after tokens that wait at a place, the fault of the next token at that place is returned
 waits_run : (place : places.Place) (before rest : List Token) (kind : ParseError) → Waits place before
-    → fault place (first rest) ≡ Some kind → run begin (before ++ rest) ≡ Err kind
+    → fault place (first rest) ≡ Some kind → run begin (before ++ rest) ≡ Err (kind, rest)
 waits_run places.start before rest kind w h =
     ap (λ l. run begin (l ++ rest)) w
     ∙ operand_stop (record { groups = []; relations = [] }) None rest kind (λ e k. cc) h
@@ -472,6 +473,6 @@ waits_run places.after_modulo before rest kind w h =
 waits_run places.after_modulus before rest kind w h = let a = arrives_after_modulus before w in a.2 rest ∙ operator_stop a.0 a.1 rest kind h
 waits_run places.before_value before rest kind w h = let a = arrives_before_value before w in a.2 rest ∙ wants_stop a.0 a.1 rest kind h
 
--- a fault of the tokens is returned
-pub faulty_run : (tokens : List Token) (kind : ParseError) → Faulty tokens kind → run begin tokens ≡ Err kind
-faulty_run tokens kind h = ap (run begin) h.3 ∙ waits_run h.0 h.1 h.2 kind h.4 h.5
+-- a fault of the tokens is returned, and what it leaves
+pub faulty_run : (tokens : List Token) (kind : ParseError) (rest : List Token) → FaultyAt tokens kind rest → run begin tokens ≡ Err (kind, rest)
+faulty_run tokens kind rest h = ap (run begin) h.2 ∙ waits_run h.0 h.1 rest kind h.3 h.4

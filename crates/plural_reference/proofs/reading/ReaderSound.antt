@@ -18,7 +18,8 @@ use Rattle.plural_reference.specs.declared.error.ParseError.TheVariants.{Expecte
 use Rattle.plural_reference.specs.declared.error.ParseError.TheVariants.{ExpectedRelation, ExpectedOperand}
 use Rattle.plural_reference.specs.Parser as places
 use Rattle.plural_reference.specs.Parser.{token_value, operand_of, IsItem, IsExpression, IsModulus, IsRelation, IsAndCondition}
-use Rattle.plural_reference.specs.Parser.{IsCondition, Separated, Continues, EndsInValue, IsUnconditional, ReadsUpTo, Faulty}
+use Rattle.plural_reference.specs.Parser.{IsCondition, Separated, Continues, EndsInValue, IsUnconditional, ReadsUpTo}
+use Rattle.plural_reference.specs.FaultPlaces.{FaultyAt}
 use Rattle.plural_reference.specs.Parser.{last_item, ConditionThen, IsBeforeOperand, IsAfterOperand, IsAfterModulo, IsAfterModulus}
 use Rattle.plural_reference.specs.Parser.{IsBeforeValue, Waits, fault, operand_fault, operator_fault, value_fault}
 use Rattle.plural_reference.specs.RelationSinks.{Before, with_relation, with_group}
@@ -179,19 +180,19 @@ Spells p (before_end o xs v) = (q : List Token) × (t : Token) × (p ≡ q ++ t 
 -- what is said of tokens by an outcome
 abbrev pub Said : List Token → Outcome → Type 0
 Said tokens (Ok (c, rest)) = ReadsUpTo tokens c rest
-Said tokens (Err kind) = Faulty tokens kind
+Said tokens (Err (kind, rest)) = FaultyAt tokens kind rest
 
 -- what is said of a move, if the tokens p lead to a state and the token t follows
 abbrev pub SaidOfMove : List Token → Token → List Token → Move → Type 0
 SaidOfMove p t ts (go next) = Spells (p ++ t ∷ []) next
 SaidOfMove p t ts (finish c) = ReadsUpTo (p ++ t ∷ ts) c (t ∷ ts)
-SaidOfMove p t ts (refuse kind) = Faulty (p ++ t ∷ ts) kind
+SaidOfMove p t ts (refuse kind) = FaultyAt (p ++ t ∷ ts) kind (t ∷ ts)
 
 -- what is said when the rest ends the reading
 abbrev pub SaidOf : List Token → List Token → Move → Type 0
 SaidOf tokens rest (go next) = ⊥
 SaidOf tokens rest (finish c) = ReadsUpTo tokens c rest
-SaidOf tokens rest (refuse kind) = Faulty tokens kind
+SaidOf tokens rest (refuse kind) = FaultyAt tokens kind rest
 
 -- parts with separators after them are separated parts and one more separator
 pub Terminated-front : {A : Type 0} (separator : Token) (Part : List Token → A → Type 0) (tokens : List Token) (x : A)
@@ -231,17 +232,17 @@ operand_place p groups (r ∷ rs) h =
     )
 
 -- the end or At after And is the fault ExpectedRelation
-and_place : (p : List Token) (rest : List Token) → ConditionThen And p → IsUnconditional rest → Faulty (p ++ rest) ExpectedRelation
-and_place p [] c u = (places.after_and, p, [], refl, c, refl)
-and_place p (At ∷ ts) c u = (places.after_and, p, At ∷ ts, refl, c, refl)
+and_place : (p : List Token) (rest : List Token) → ConditionThen And p → IsUnconditional rest → FaultyAt (p ++ rest) ExpectedRelation rest
+and_place p [] c u = (places.after_and, p, refl, c, refl)
+and_place p (At ∷ ts) c u = (places.after_and, p, refl, c, refl)
 and_place p (_ ∷ ts) c u = absurd u
 
 -- the end or At, if an operand is expected: no condition at the start, and a fault after Or and And
 said_no_operand : (p : List Token) (groups : List AndCondition) (relations : List Relation) (rest : List Token)
     → OperandPlace p groups relations → IsUnconditional rest → SaidOf (p ++ rest) rest (no_operand groups relations)
 said_no_operand p [] [] rest (at_start e) u = inl (refl, ap (λ l. l ++ rest) (sym e), subst (λ l. IsUnconditional (l ++ rest)) (sym e) u)
-said_no_operand p (g ∷ gs) [] [] (behind_or g' gs' c) u = (places.after_or, p, [], refl, c, refl)
-said_no_operand p (g ∷ gs) [] (At ∷ ts) (behind_or g' gs' c) u = (places.after_or, p, At ∷ ts, refl, c, refl)
+said_no_operand p (g ∷ gs) [] [] (behind_or g' gs' c) u = (places.after_or, p, refl, c, refl)
+said_no_operand p (g ∷ gs) [] (At ∷ ts) (behind_or g' gs' c) u = (places.after_or, p, refl, c, refl)
 said_no_operand p (g ∷ gs) [] (_ ∷ ts) (behind_or g' gs' c) u = absurd u
 said_no_operand p groups (r ∷ rs) rest (behind_and groups' r' rs' c) u = and_place p rest c u
 
@@ -254,10 +255,10 @@ move_said p t ts (refuse kind) h = h
 -- if an operand is expected, any other token than an operand or At is the fault ExpectedOperand
 bad_operand : (p : List Token) (groups : List AndCondition) (relations : List Relation) (t : Token) (ts : List Token)
     → OperandPlace p groups relations → ((e : Option ParseError) → operand_fault e (Some t) ≡ Some ExpectedOperand)
-    → Faulty (p ++ t ∷ ts) ExpectedOperand
-bad_operand p groups relations t ts (at_start e) h = (places.start, p, t ∷ ts, refl, e, h None)
-bad_operand p groups relations t ts (behind_or g gs c) h = (places.after_or, p, t ∷ ts, refl, c, h (Some ExpectedAndCondition))
-bad_operand p groups relations t ts (behind_and gs r rs c) h = (places.after_and, p, t ∷ ts, refl, c, h (Some ExpectedRelation))
+    → FaultyAt (p ++ t ∷ ts) ExpectedOperand (t ∷ ts)
+bad_operand p groups relations t ts (at_start e) h = (places.start, p, refl, e, h None)
+bad_operand p groups relations t ts (behind_or g gs c) h = (places.after_or, p, refl, c, h (Some ExpectedAndCondition))
+bad_operand p groups relations t ts (behind_and gs r rs c) h = (places.after_and, p, refl, c, h (Some ExpectedRelation))
 
 -- each such place awaits an operand
 before_operand_is : (p : List Token) (groups : List AndCondition) (relations : List Relation)
@@ -297,7 +298,7 @@ said_operand_next p b o (Operator op) ts h = record {
       };
   items = refl;
 }
-said_operand_next p b o _ ts h = (places.after_operand, p, _ ∷ ts, refl, (h.0, h.1, o, h.2, spells_operand_is h.0 b h.3, h.4), refl)
+said_operand_next p b o _ ts h = (places.after_operand, p, refl, (h.0, h.1, o, h.2, spells_operand_is h.0 b h.3, h.4), refl)
 
 -- an operand and Modulo wait for a modulus
 is_after_modulo : (p q : List Token) (t : Token) (o : operand.Operand) (b : Before) → p ≡ q ++ t ∷ Modulo ∷ []
@@ -330,7 +331,7 @@ said_modulus p b o Zero ts h = (
   refl,
   refl,
 )
-said_modulus p b o _ ts h = (places.after_modulo, p, _ ∷ ts, refl, is_after_modulo p h.0 h.1 o b h.2 h.3 h.4, refl)
+said_modulus p b o _ ts h = (places.after_modulo, p, refl, is_after_modulo p h.0 h.1 o b h.2 h.3 h.4, refl)
 
 -- an operand, Modulo and a modulus wait for an operator
 is_after_modulus : (p : List Token) (b : Before) (e : Expression) → Spells p (after_modulus b e) → IsAfterModulus p
@@ -366,7 +367,7 @@ said_operator p b e (Operator op) ts h = record {
       };
   items = refl;
 }
-said_operator p b e _ ts h = (places.after_modulus, p, _ ∷ ts, refl, is_after_modulus p b e h, refl)
+said_operator p b e _ ts h = (places.after_modulus, p, refl, is_after_modulus p b e h, refl)
 
 -- after an operator a value is expected, with or without a modulus before it
 operator_place : (p : List Token) (o : Opened) → SpellsOpened p o → (m : Option Value) → o.expression.modulus ≡ m → IsBeforeValue p
@@ -443,7 +444,7 @@ said_item : (p : List Token) (o : Opened) (xs : List RangeListItem) (t : Token) 
 said_item p o xs (Number n) ts h =
     record { items_tokens = p; item_tokens = Number n ∷ []; whole = refl; items = h; item = (Number n, refl, refl) }
 said_item p o xs Zero ts h = record { items_tokens = p; item_tokens = Zero ∷ []; whole = refl; items = h; item = (Zero, refl, refl) }
-said_item p o xs _ ts h = (places.before_value, p, _ ∷ ts, refl, before_value_is p o xs h, refl)
+said_item p o xs _ ts h = (places.before_value, p, refl, before_value_is p o xs h, refl)
 
 -- an item that ends its list completes a condition
 item_done : (p : List Token) (o : Opened) (xs : List RangeListItem) (x : RangeListItem) → SpellsItem p o xs x
@@ -519,7 +520,7 @@ said_range_end p o xs v Zero ts h =
       items = h.3;
       item = (h.1, Zero, refl, h.4, refl);
     }
-said_range_end p o xs v _ ts h = (places.before_value, p, _ ∷ ts, refl, dots_place p o xs v h, refl)
+said_range_end p o xs v _ ts h = (places.before_value, p, refl, dots_place p o xs v h, refl)
 
 -- whatever the state, the next token leads on, ends the condition or is a fault as the grammar says
 said_step : (p : List Token) (s : State) (t : Token) (ts : List Token) → Spells p s → SaidOfMove p t ts (step s t)
@@ -534,15 +535,15 @@ said_step p (before_end o xs v) t ts h = said_range_end p o xs v t ts h
 -- whatever the state, the end of the tokens ends the condition or is a fault as the grammar says
 said_end : (p : List Token) (s : State) → Spells p s → SaidOf (p ++ []) [] (at_end s)
 said_end p (before_operand b) h = said_no_operand p b.groups b.relations [] (operand_place p b.groups b.relations h) tt
-said_end p (after_operand b o) h = (places.after_operand, p, [], refl, (h.0, h.1, o, h.2, spells_operand_is h.0 b h.3, h.4), refl)
-said_end p (after_modulo b o) h = (places.after_modulo, p, [], refl, is_after_modulo p h.0 h.1 o b h.2 h.3 h.4, refl)
-said_end p (after_modulus b e) h = (places.after_modulus, p, [], refl, is_after_modulus p b e h, refl)
-said_end p (before_item o xs) h = (places.before_value, p, [], refl, before_value_is p o xs h, refl)
+said_end p (after_operand b o) h = (places.after_operand, p, refl, (h.0, h.1, o, h.2, spells_operand_is h.0 b h.3, h.4), refl)
+said_end p (after_modulo b o) h = (places.after_modulo, p, refl, is_after_modulo p h.0 h.1 o b h.2 h.3 h.4, refl)
+said_end p (after_modulus b e) h = (places.after_modulus, p, refl, is_after_modulus p b e h, refl)
+said_end p (before_item o xs) h = (places.before_value, p, refl, before_value_is p o xs h, refl)
 said_end p (after_item o xs x) h = inr (p, refl, item_done p o xs x h, tt)
-said_end p (before_end o xs v) h = (places.before_value, p, [], refl, dots_place p o xs v h, refl)
+said_end p (before_end o xs v) h = (places.before_value, p, refl, dots_place p o xs v h, refl)
 
 -- what is said of the move at the end is said of the result
-said_at_end : (tokens : List Token) (m : Move) → SaidOf tokens [] m → Said tokens (proceed m [] (λ _. Err ExpectedValue))
+said_at_end : (tokens : List Token) (m : Move) → SaidOf tokens [] m → Said tokens (proceed m [] (λ _. Err (ExpectedValue, [])))
 said_at_end tokens (go s) h = absurd h
 said_at_end tokens (finish c) h = h
 said_at_end tokens (refuse kind) h = h

@@ -24,6 +24,7 @@ use Rattle.plural_reference.specs.Inner.Reader.{run, begin}
 use Rattle.plural_reference.proofs.tokens.ScanSound.{has_tokens, tokens_are}
 use Rattle.plural_reference.proofs.reading.ReaderSound.{said, Said}
 use Rattle.plural_reference.proofs.reading.Readings.{not_both}
+use Rattle.plural_reference.proofs.reading.PlacedFaults.{placed_fault}
 
 abbrev value : ℕ → Value
 value n = record { 0 = n }
@@ -111,8 +112,10 @@ text_reads : (text : List ℕ) (c : Condition) (rest : List Token) → run begin
 text_reads text c rest h = (tokens_of text, has_tokens text, (rest, subst (Said (tokens_of text)) h (said (tokens_of text))))
 
 -- the same of a fault
-text_faulty : (text : List ℕ) (kind : ParseError) → run begin (tokens_of text) ≡ Err kind → TextFaulty Faulty text kind
-text_faulty text kind h = (tokens_of text, has_tokens text, subst (Said (tokens_of text)) h (said (tokens_of text)))
+text_faulty : (text : List ℕ) (kind : ParseError) (rest : List Token) → run begin (tokens_of text) ≡ Err (kind, rest)
+    → TextFaulty Faulty text kind
+text_faulty text kind rest h =
+    (tokens_of text, has_tokens text, placed_fault (tokens_of text) kind rest (subst (Said (tokens_of text)) h (said (tokens_of text))))
 
 -- what has a fault isn't read
 not_read : (text : List ℕ) (kind : ParseError) → TextFaulty Faulty text kind → (c : Condition) → TextReads Reads text c → ⊥
@@ -140,12 +143,12 @@ reads_largest = text_reads (codes "i = 4294967295") _ [] refl
 -- one more is no value
 too_large : TextFaulty Faulty (codes "i = 4294967296") ExpectedValue
 unfolding tokens_from run
-too_large = text_faulty (codes "i = 4294967296") ExpectedValue refl
+too_large = text_faulty (codes "i = 4294967296") ExpectedValue _ refl
 
 -- nothing after And
 and_alone : TextFaulty Faulty (codes "i = 1 and") ExpectedRelation
 unfolding tokens_from run
-and_alone = text_faulty (codes "i = 1 and") ExpectedRelation refl
+and_alone = text_faulty (codes "i = 1 and") ExpectedRelation _ refl
 
 -- `i = 1 and` isn't read as `i = 1`, nor as anything else
 and_alone_not_read : (c : Condition) → TextReads Reads (codes "i = 1 and") c → ⊥
@@ -154,22 +157,22 @@ and_alone_not_read = not_read (codes "i = 1 and") ExpectedRelation and_alone
 -- nothing after Or
 or_alone : TextFaulty Faulty (codes "i = 1 or") ExpectedAndCondition
 unfolding tokens_from run
-or_alone = text_faulty (codes "i = 1 or") ExpectedAndCondition refl
+or_alone = text_faulty (codes "i = 1 or") ExpectedAndCondition _ refl
 
 -- no operator after an operand
 no_operator : TextFaulty Faulty (codes "i 1") ExpectedOperator
 unfolding tokens_from run
-no_operator = text_faulty (codes "i 1") ExpectedOperator refl
+no_operator = text_faulty (codes "i 1") ExpectedOperator _ refl
 
 -- no operand at the start
 no_operand : TextFaulty Faulty (codes "= 1") ExpectedOperand
 unfolding tokens_from run
-no_operand = text_faulty (codes "= 1") ExpectedOperand refl
+no_operand = text_faulty (codes "= 1") ExpectedOperand _ refl
 
 -- no value after an operator
 no_value : TextFaulty Faulty (codes "i = ") ExpectedValue
 unfolding tokens_from run
-no_value = text_faulty (codes "i = ") ExpectedValue refl
+no_value = text_faulty (codes "i = ") ExpectedValue _ refl
 
 -- the empty text is the empty condition
 empty_text : TextReads Reads [] (record { 0 = [] })
@@ -189,32 +192,32 @@ falling_range = text_reads (codes "i = 3..1") _ [] refl
 -- another token in place of an operand after And
 and_then_dot : TextFaulty Faulty (codes "i = 1 and ,") ExpectedOperand
 unfolding tokens_from run
-and_then_dot = text_faulty (codes "i = 1 and ,") ExpectedOperand refl
+and_then_dot = text_faulty (codes "i = 1 and ,") ExpectedOperand _ refl
 
 -- At after Or
 or_at : TextFaulty Faulty (codes "i = 1 or @integer 1") ExpectedAndCondition
 unfolding tokens_from run
-or_at = text_faulty (codes "i = 1 or @integer 1") ExpectedAndCondition refl
+or_at = text_faulty (codes "i = 1 or @integer 1") ExpectedAndCondition _ refl
 
 -- no value after Modulo
 no_modulus : TextFaulty Faulty (codes "i % = 1") ExpectedValue
 unfolding tokens_from run
-no_modulus = text_faulty (codes "i % = 1") ExpectedValue refl
+no_modulus = text_faulty (codes "i % = 1") ExpectedValue _ refl
 
 -- one modulus at most
 modulus_then_modulo : TextFaulty Faulty (codes "i % 5 % 1") ExpectedOperator
 unfolding tokens_from run
-modulus_then_modulo = text_faulty (codes "i % 5 % 1") ExpectedOperator refl
+modulus_then_modulo = text_faulty (codes "i % 5 % 1") ExpectedOperator _ refl
 
 -- nothing after Comma
 comma_alone : TextFaulty Faulty (codes "i = 1,") ExpectedValue
 unfolding tokens_from run
-comma_alone = text_faulty (codes "i = 1,") ExpectedValue refl
+comma_alone = text_faulty (codes "i = 1,") ExpectedValue _ refl
 
 -- nothing after dots
 dots_alone : TextFaulty Faulty (codes "i = 1..") ExpectedValue
 unfolding tokens_from run
-dots_alone = text_faulty (codes "i = 1..") ExpectedValue refl
+dots_alone = text_faulty (codes "i = 1..") ExpectedValue _ refl
 
 -- the complex rule
 abbrev reduced : ℕ → operator.Operator → List RangeListItem → Relation

@@ -19,6 +19,7 @@ use Rattle.plural_reference.proofs.reading.ReaderSound.{Said, said}
 use Rattle.plural_reference.proofs.reading.Readings.{one_reading}
 use Rattle.plural_reference.proofs.samples.SampleSinks.{kept_is_read}
 use Rattle.plural_reference.proofs.rules.RuleReadings.{Given, given, one_rule}
+use Rattle.plural_reference.proofs.reading.PlacedFaults.{placed_fault}
 
 -- ---- one result
 
@@ -59,14 +60,14 @@ exactly Read Fault text tokens r t one h = record {
 
 -- what the reader of conditions gives is read, or is a fault
 condition_said : (tokens rest : List Token) (r : Result Condition ReadError)
-    → IsAnswer (λ c. run begin tokens ≡ Ok (c, rest)) (λ e. run begin tokens ≡ Err e) r → IsAnswer (Reads tokens) (Faulty tokens) r
+    → IsAnswer (λ c. run begin tokens ≡ Ok (c, rest)) (λ e. run begin tokens ≡ Err (e, rest)) r → IsAnswer (Reads tokens) (Faulty tokens) r
 condition_said tokens rest (Ok c) h = (rest, subst (Said tokens) h (said tokens))
-condition_said tokens rest (Err (Parse e)) h = subst (Said tokens) h (said tokens)
+condition_said tokens rest (Err (Parse e)) h = placed_fault tokens e rest (subst (Said tokens) h (said tokens))
 condition_said tokens rest (Err Memory) h = tt
 
 -- so the result for a condition is exact
 pub condition_answers : (text : List ℕ) (tokens rest : List Token) (r : Result Condition ReadError)
-    → AreTokensOf text tokens → IsAnswer (λ c. run begin tokens ≡ Ok (c, rest)) (λ e. run begin tokens ≡ Err e) r
+    → AreTokensOf text tokens → IsAnswer (λ c. run begin tokens ≡ Ok (c, rest)) (λ e. run begin tokens ≡ Err (e, rest)) r
     → AnswersExactly Reads Faulty text r
 condition_answers text tokens rest r t h = exactly Reads Faulty text tokens r t (one_reading tokens) (condition_said tokens rest r h)
 
@@ -87,7 +88,7 @@ pub rule_answers : (text : List ℕ) (tokens : List Token) (r : Result Rule Read
 rule_answers text tokens r t h = exactly ReadsRule FaultyRule text tokens r t (one_rule tokens) (rule_said tokens r h)
 
 -- a condition, and samples after it
-rule_is : (tokens middle rest : List Token) (rule : Rule)
+pub rule_is : (tokens middle rest : List Token) (rule : Rule)
     → run begin tokens ≡ Ok (rule.condition, middle) → ReadsAllSamples middle rule.samples rest → rule_of tokens ≡ Ok rule
 rule_is tokens middle rest rule h k =
     ap of_condition h ∙ ap (with_samples rule.condition) k.run_is
@@ -99,13 +100,13 @@ pub kept_rule_is : (tokens middle rest : List Token) (rule : Rule)
 kept_rule_is tokens middle rest rule h k = rule_is tokens middle rest rule h (kept_is_read ReadsAllSamples middle rule.samples rest k)
 
 -- a fault of the condition is one of the rule
-pub condition_fault : (tokens : List Token) (kind : ParseError) → run begin tokens ≡ Err kind → rule_of tokens ≡ Err kind
-condition_fault tokens kind h = ap of_condition h
+pub condition_fault : (tokens rest : List Token) (kind : ParseError) → run begin tokens ≡ Err (kind, rest) → rule_of tokens ≡ Err kind
+condition_fault tokens rest kind h = ap of_condition h
 
 -- so is a fault of the samples after it
-pub samples_fault : (tokens middle : List Token) (c : Condition) (kind : ParseError)
-    → run begin tokens ≡ Ok (c, middle) → run_samples (after_sections []) middle ≡ Err kind → rule_of tokens ≡ Err kind
-samples_fault tokens middle c kind h k = ap of_condition h ∙ ap (with_samples c) k
+pub samples_fault : (tokens middle rest : List Token) (c : Condition) (kind : ParseError)
+    → run begin tokens ≡ Ok (c, middle) → run_samples (after_sections []) middle ≡ Err (kind, rest) → rule_of tokens ≡ Err kind
+samples_fault tokens middle rest c kind h k = ap of_condition h ∙ ap (with_samples c) k
 
 -- ---- rules without their samples
 

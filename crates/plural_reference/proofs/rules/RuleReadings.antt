@@ -15,6 +15,7 @@ use Rattle.plural_reference.proofs.reading.ReaderComplete.{reads_run, faulty_run
 use Rattle.plural_reference.proofs.reading.ReaderSound.{Said, said}
 use Rattle.plural_reference.proofs.samples.SampleSound.{SaidSamples, said_samples}
 use Rattle.plural_reference.proofs.samples.SampleComplete.{reads_samples_run, faulty_samples_run}
+use Rattle.plural_reference.proofs.reading.PlacedFaults.{fault_place, placed_fault, samples_fault_place, placed_samples_fault}
 
 -- samples that are read come from the lists that the reader gives
 sections_read : (tokens : List Token) (s : Option samples.Samples)
@@ -32,9 +33,9 @@ reads_rule tokens r h =
 
 -- it gives the fault that the tokens have
 pub faulty_rule : (tokens : List Token) (kind : ParseError) → FaultyRule tokens kind → rule_of tokens ≡ Err kind
-faulty_rule tokens kind (inl h) = ap of_condition (faulty_run tokens kind h)
+faulty_rule tokens kind (inl h) = ap of_condition (faulty_run tokens kind h.2 (fault_place tokens kind h))
 faulty_rule tokens kind (inr (c, rest, h, k)) =
-    ap of_condition (reads_run tokens c rest h) ∙ ap (with_samples c) (faulty_samples_run rest kind k)
+    ap of_condition (reads_run tokens c rest h) ∙ ap (with_samples c) (faulty_samples_run rest kind k.2 (samples_fault_place rest kind k))
 
 -- one of the two, as the readers return
 unfoldable pub Given : List Token → RuleOutcome → Type 0
@@ -46,13 +47,13 @@ given_samples : (tokens : List Token) (c : Condition) (rest : List Token) (o : S
     → ReadsUpTo tokens c rest → SaidSamples rest o → Given tokens (with_samples c o)
 unfolding Given
 given_samples tokens c rest (Ok (sections, left)) h k = (rest, h, (sections, k.0, left, k.1, k.2, k.3, refl))
-given_samples tokens c rest (Err kind) h k = inr (c, rest, h, k)
+given_samples tokens c rest (Err (kind, left)) h k = inr (c, rest, h, placed_samples_fault rest kind left k)
 
 -- what it gives of a condition's outcome
 given_condition : (tokens : List Token) (o : Outcome) → Said tokens o → Given tokens (of_condition o)
 unfolding Given
 given_condition tokens (Ok (c, rest)) h = given_samples tokens c rest (run_samples (after_sections []) rest) h (said_samples rest)
-given_condition tokens (Err kind) h = inl h
+given_condition tokens (Err (kind, rest)) h = inl (placed_fault tokens kind rest h)
 
 -- an outcome is one rule
 same_ok : (o : RuleOutcome) (r s : Rule) → o ≡ Ok r → o ≡ Ok s → s ≡ r

@@ -25,7 +25,7 @@ abbrev MayBeCondition : List Token → Type 0
 MayBeCondition tokens = (tokens ≡ []) ⊎ ((c : Condition) × IsCondition tokens c)
 
 -- what was read of the tokens is a condition or nothing
-read_part : (tokens middle : List Token) (c : Condition) → ReadsUpTo tokens c middle
+pub read_part : (tokens middle : List Token) (c : Condition) → ReadsUpTo tokens c middle
     → (part : List Token) × (tokens ≡ part ++ middle) × MayBeCondition part
 read_part tokens middle c (inl (empty, rest, none)) = ([], sym rest, inl refl)
 read_part tokens middle c (inr (spelled, front, is, ends)) = (spelled, front, inr (c, is))
@@ -85,11 +85,12 @@ reads_all tokens (part, left, all, is, (sections, are)) =
 -- ---- What the parser finds
 
 -- an outcome isn't a condition and a fault at once
-no_condition : (o : Outcome) (c : Condition) (rest : List Token) (kind : ParseError) → o ≡ Ok (c, rest) → o ≡ Err kind → ⊥
-no_condition o c rest kind h k = cc
+no_condition : (o : Outcome) (c : Condition) (rest left : List Token) (kind : ParseError) → o ≡ Ok (c, rest) → o ≡ Err (kind, left) → ⊥
+no_condition o c rest left kind h k = cc
 
-no_samples : (o : SampleOutcome) (ss : List Section) (rest : List Token) (kind : ParseError) → o ≡ Ok (ss, rest) → o ≡ Err kind → ⊥
-no_samples o ss rest kind h k = cc
+no_samples : (o : SampleOutcome) (ss : List Section) (rest left : List Token) (kind : ParseError)
+    → o ≡ Ok (ss, rest) → o ≡ Err (kind, left) → ⊥
+no_samples o ss rest left kind h k = cc
 
 -- the rests of equal outcomes are equal
 same_middle : (o : Outcome) (c d : Condition) (a b : List Token) → o ≡ Ok (c, a) → o ≡ Ok (d, b) → a ≡ b
@@ -100,10 +101,10 @@ same_rest : (o : SampleOutcome) (r s : List Section) (a b : List Token) → o �
 same_rest o r s a b h k =
     let same : ◌≡◌ {A = List Section × List Token} (r, a) (s, b) = cc in ap (λ (p : List Section × List Token). p.1) same
 
-pub condition_refused : (tokens : List Token) (kind : ParseError) → run begin tokens ≡ Err kind → ¬ (IsRule tokens)
-condition_refused tokens kind h rule =
+pub condition_refused : (tokens left : List Token) (kind : ParseError) → run begin tokens ≡ Err (kind, left) → ¬ (IsRule tokens)
+condition_refused tokens left kind h rule =
     let all = reads_all tokens rule in
-    no_condition (run begin tokens) all.c all.middle kind all.condition h
+    no_condition (run begin tokens) all.c all.middle left kind all.condition h
 
 -- samples after the same condition
 samples_after : (tokens middle : List Token) (c : Condition) → run begin tokens ≡ Ok (c, middle) → (all : ReadsAll tokens)
@@ -112,11 +113,11 @@ samples_after tokens middle c read all =
     let same = same_middle (run begin tokens) all.c c all.middle middle all.condition read in
     subst (λ l. run_samples (after_sections []) l ≡ Ok (all.sections, [])) same all.samples
 
-pub samples_refused : (tokens middle : List Token) (c : Condition) (kind : ParseError)
-    → run begin tokens ≡ Ok (c, middle) → run_samples (after_sections []) middle ≡ Err kind → ¬ (IsRule tokens)
-samples_refused tokens middle c kind read h rule =
+pub samples_refused : (tokens middle left : List Token) (c : Condition) (kind : ParseError)
+    → run begin tokens ≡ Ok (c, middle) → run_samples (after_sections []) middle ≡ Err (kind, left) → ¬ (IsRule tokens)
+samples_refused tokens middle left c kind read h rule =
     let all = reads_all tokens rule in
-    no_samples (run_samples (after_sections []) middle) all.sections [] kind (samples_after tokens middle c read all) h
+    no_samples (run_samples (after_sections []) middle) all.sections [] left kind (samples_after tokens middle c read all) h
 
 -- it is a rule if and only if nothing is left
 pub rule_if_at_end : (tokens middle rest : List Token) (c : Condition) (stored : Option samples.Samples) (whole : Bool)

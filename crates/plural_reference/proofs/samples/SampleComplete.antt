@@ -31,6 +31,7 @@ use Rattle.plural_reference.specs.Samples as places
 use Rattle.plural_reference.proofs.reading.ReaderComplete.{last-push}
 use Rattle.plural_reference.proofs.samples.SampleSound.{ReadsSections, open-done, last_sample-range, both_false, left_false, right_false}
 use Rattle.plural_reference.proofs.tokens.ScanComplete.{no_eq}
+use Rattle.plural_reference.specs.FaultPlaces.{FaultyInSamplesAt}
 
 -- ---- the text of digits has no mark and no point
 
@@ -526,7 +527,7 @@ reads_samples_run tokens ss rest h =
 
 -- if a type is expected, the fault of what follows is returned
 pub type_stop : (ss : List Section) (rest : List Token) (kind : ParseError) → type_fault (first rest) ≡ Some kind
-    → run_samples (behind_at ss) rest ≡ Err kind
+    → run_samples (behind_at ss) rest ≡ Err (kind, rest)
 unfolding run_samples
 type_stop ss [] kind h = cc
 type_stop ss (Integer ∷ ts) kind h = cc
@@ -535,7 +536,7 @@ type_stop ss (_ ∷ ts) kind h = cc
 
 -- if a sample is expected, the fault of what follows is returned
 pub sample_stop : (p : Partial) (rest : List Token) (kind : ParseError) → sample_fault (first rest) ≡ Some kind
-    → run_samples (awaits_sample p) rest ≡ Err kind
+    → run_samples (awaits_sample p) rest ≡ Err (kind, rest)
 unfolding run_samples
 sample_stop p [] kind h = cc
 sample_stop p (Zero ∷ ts) kind h = cc
@@ -547,7 +548,7 @@ sample_stop p (_ ∷ ts) kind h = cc
 
 -- after a comma, the fault of what follows is returned
 comma_stop : (p : Partial) (rest : List Token) (kind : ParseError)
-    → fault_in_samples places.after_comma (first rest) ≡ Some kind → run_samples (behind_comma p) rest ≡ Err kind
+    → fault_in_samples places.after_comma (first rest) ≡ Some kind → run_samples (behind_comma p) rest ≡ Err (kind, rest)
 unfolding run_samples
 comma_stop p [] kind h = cc
 comma_stop p (Ellipsis ∷ ts) kind h = cc
@@ -560,7 +561,7 @@ comma_stop p (_ ∷ ts) kind h = cc
 
 -- after a mark, the fault of what follows is returned
 pub mark_stop : (p : Partial) (text : DecimalValue) (rest : List Token) (kind : ParseError)
-    → value_fault (first rest) ≡ Some kind → run_samples (behind_mark p text) rest ≡ Err kind
+    → value_fault (first rest) ≡ Some kind → run_samples (behind_mark p text) rest ≡ Err (kind, rest)
 unfolding run_samples
 mark_stop p text [] kind h = cc
 mark_stop p text (Zero ∷ ts) kind h = cc
@@ -677,13 +678,13 @@ arrives_mark q (m, h, inr (spelled, ss, e, k, c)) =
 -- after tokens that wait at a place, the fault of the next token at that place is returned
 sample_waits_run : (place : places.SamplePlace) (before rest : List Token) (kind : ParseError)
     → places.WaitsInSamples place before → fault_in_samples place (first rest) ≡ Some kind
-    → run_samples (after_sections []) (before ++ rest) ≡ Err kind
+    → run_samples (after_sections []) (before ++ rest) ≡ Err (kind, rest)
 sample_waits_run places.after_at before rest kind w h = let a = arrives_at before w in a.1 rest ∙ type_stop a.0 rest kind h
 sample_waits_run places.before_sample before rest kind w h = let a = arrives_sample before w in a.1 rest ∙ sample_stop a.0 rest kind h
 sample_waits_run places.after_comma before rest kind w h = let a = arrives_comma before w in a.1 rest ∙ comma_stop a.0 rest kind h
 sample_waits_run places.after_mark before rest kind w h = let a = arrives_mark before w in a.2 rest ∙ mark_stop a.0 a.1 rest kind h
 
--- a fault of the tokens is returned
-pub faulty_samples_run : (tokens : List Token) (kind : ParseError) → FaultyInSamples tokens kind
-    → run_samples (after_sections []) tokens ≡ Err kind
-faulty_samples_run tokens kind h = ap (run_samples (after_sections [])) h.3 ∙ sample_waits_run h.0 h.1 h.2 kind h.4 h.5
+-- a fault of the tokens is returned, and what it leaves
+pub faulty_samples_run : (tokens : List Token) (kind : ParseError) (rest : List Token) → FaultyInSamplesAt tokens kind rest
+    → run_samples (after_sections []) tokens ≡ Err (kind, rest)
+faulty_samples_run tokens kind rest h = ap (run_samples (after_sections [])) h.2 ∙ sample_waits_run h.0 h.1 rest kind h.3 h.4

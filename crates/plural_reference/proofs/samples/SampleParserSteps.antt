@@ -32,6 +32,7 @@ use Rattle.plural_reference.proofs.samples.SampleComplete.{any-append, digits_no
 use Rattle.plural_reference.proofs.samples.SampleComplete.{after_mark_run, first_digit_run, first_point_run}
 use Rattle.plural_reference.proofs.samples.SampleComplete.{first_mark_run, at_start, tilde_run}
 use Rattle.plural_reference.proofs.samples.SampleComplete.{comma_run, ellipsis_run, type_run, joins_ends, tilde_ends, type_stop, mark_stop}
+use Rattle.plural_reference.specs.Inner.SampleReading.SampleReader.{FailsInSample, FailsAtSample, FailsAtRange, FailsAtList}
 
 -- ---- texts
 
@@ -196,12 +197,13 @@ exponent_joins before mark n old middle new h (m, e, i, w) (t, f, d, v) = record
 }
 
 -- a mark without digits is a fault
-pub no_exponent_value : (before mark : List ℕ) (old middle : List Token)
-    → has_exponent before ≡ false → TakesText IsExponentMark old mark middle → NoDigits middle → (p : Partial)
-    → run_samples (sample_at p before) old ≡ Err ExpectedValue
-no_exponent_value before mark old middle h (m, e, i, w) d p =
-    ap (run_samples (sample_at p before)) e ∙ mark_joins p before m middle i h
-    ∙ mark_stop p (before ++ token_text m) middle ExpectedValue d
+pub no_exponent_value : (before mark : List ℕ) (old middle new : List Token)
+    → has_exponent before ≡ false → TakesText IsExponentMark old mark middle → NoDigits middle → new ≡ middle
+    → FailsInSample before old new ExpectedValue
+no_exponent_value before mark old middle new h (m, e, i, w) d s p =
+    rw s
+    (ap (run_samples (sample_at p before)) e ∙ mark_joins p before m middle i h
+    ∙ mark_stop p (before ++ token_text m) middle ExpectedValue d)
 
 -- ---- samples
 
@@ -289,10 +291,9 @@ range_to lower upper old middle after new h e k = record {
 }
 
 -- a fault of the sample after Tilde is a fault of the range
-pub no_upper : (lower : List ℕ) (old middle after : List Token) (kind : ParseError)
-    → ReadsSample old lower middle → middle ≡ Tilde ∷ after → ((p : Partial) → run_samples (awaits_sample p) after ≡ Err kind)
-    → (p : Partial) → p.lower ≡ None → run_samples (awaits_sample p) old ≡ Err kind
-no_upper lower old middle after kind h e k p n =
+pub no_upper : (lower : List ℕ) (old middle after new : List Token) (kind : ParseError)
+    → ReadsSample old lower middle → middle ≡ Tilde ∷ after → FailsAtSample after new kind → FailsAtRange old new kind
+no_upper lower old middle after new kind h e k p n =
     h.run_is p ∙ ap (run_samples (in_sample p lower)) e ∙ tilde_run p lower after n ∙ k (record p { lower = Some lower })
 
 -- ---- lists
@@ -354,11 +355,10 @@ more_ranges old middle after behind new rs r h e n f k = record {
 }
 
 -- a fault of a range is one of the list
-pub range_fault : (old middle after behind : List Token) (rs : List SampleRange) (kind : ParseError)
+pub range_fault : (old middle after behind new : List Token) (rs : List SampleRange) (kind : ParseError)
     → ReadsRanges old rs middle → middle ≡ Comma ∷ after → first after ≢ Some Ellipsis → behind ≡ after
-    → ((p : Partial) → p.lower ≡ None → run_samples (awaits_sample p) behind ≡ Err kind) → (sections : List Section) (type : Token)
-    → run_samples (awaits_sample (begin_list sections type)) old ≡ Err kind
-range_fault old middle after behind rs kind h e n f k sections type =
+    → FailsAtRange behind new kind → FailsAtList old new kind
+range_fault old middle after behind new rs kind h e n f k sections type =
     to_sample old middle after behind rs h e n f sections type ∙ k (with_ranges sections type rs) refl
 
 -- Comma and an ellipsis end a list
@@ -447,18 +447,18 @@ more_lists old middle after behind new given kind list joined h e f k j =
     }
 
 -- if no type follows At, that is the fault
-pub no_type : (old middle after : List Token) (given : Option samples.Samples)
-    → ReadsLists old given middle → middle ≡ At ∷ after → type_fault (first after) ≡ Some ExpectedSampleType
-    → run_samples (after_sections []) old ≡ Err ExpectedSampleType
-no_type old middle after given h e k =
-    h.run_is ∙ ap (run_samples (after_sections h.sections)) e ∙ at_step h.sections after ∙ type_stop h.sections after ExpectedSampleType k
+pub no_type : (old middle after new : List Token) (given : Option samples.Samples)
+    → ReadsLists old given middle → middle ≡ At ∷ after → type_fault (first after) ≡ Some ExpectedSampleType → new ≡ after
+    → run_samples (after_sections []) old ≡ Err (ExpectedSampleType, new)
+no_type old middle after new given h e k s =
+    rw s
+    (h.run_is ∙ ap (run_samples (after_sections h.sections)) e ∙ at_step h.sections after ∙ type_stop h.sections after ExpectedSampleType k)
 
 -- a fault of a list is one of the samples
-pub list_fault : (old middle after behind : List Token) (given : Option samples.Samples) (kind : SampleType) (e : ParseError)
+pub list_fault : (old middle after behind new : List Token) (given : Option samples.Samples) (kind : SampleType) (e : ParseError)
     → ReadsLists old given middle → middle ≡ At ∷ after → after ≡ type_token kind ∷ behind
-    → ((sections : List Section) (type : Token) → run_samples (awaits_sample (begin_list sections type)) behind ≡ Err e)
-    → run_samples (after_sections []) old ≡ Err e
-list_fault old middle after behind given kind e h f g k = to_list old middle after behind given kind h f g ∙ k h.sections (type_token kind)
+    → FailsAtList behind new e → run_samples (after_sections []) old ≡ Err (e, new)
+list_fault old middle after behind new given kind e h f g k = to_list old middle after behind given kind h f g ∙ k h.sections (type_token kind)
 
 -- lists that no At follows end the samples
 sections_end : (ss : List Section) (rest : List Token) → first rest ≢ Some At → run_samples (after_sections ss) rest ≡ Ok (ss, rest)

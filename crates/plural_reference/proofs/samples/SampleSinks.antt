@@ -138,12 +138,12 @@ keeps_sample keeps number stored old middle new b (read, k, h) more =
     (whole.0, whole.1, a_sample read whole.0 old middle new h whole.2 (begun_not_empty read whole.0 old middle new b h whole.2))
 
 -- a fault in the exponent is one of the sample
-pub exponent_fault : (keeps : Bool) (number : List ℕ) (old middle : List Token) (e : ReadError)
+pub exponent_fault : (keeps : Bool) (number : List ℕ) (old middle new : List Token) (e : ReadError)
     → ReadsStored keeps ReadsNumber old number middle
-    → ((before : List ℕ) → has_exponent before ≡ false → IsStored keeps number before → IsFault (FailsInSample before middle) e)
-    → IsFault (FailsAtSample old) e
-exponent_fault keeps number old middle e (read, k, h) fault =
-    passes_on (FailsInSample read middle) (FailsAtSample old) e (fault read h.no_mark k) (λ kind q p. h.run_is p ∙ q p)
+    → ((before : List ℕ) → has_exponent before ≡ false → IsStored keeps number before → IsFault (FailsInSample before middle new) e)
+    → IsFault (FailsAtSample old new) e
+exponent_fault keeps number old middle new e (read, k, h) fault =
+    passes_on (FailsInSample read middle new) (FailsAtSample old new) e (fault read h.no_mark k) (λ kind q p. h.run_is p ∙ q p)
 
 -- ---- ranges
 
@@ -168,9 +168,9 @@ keeps_range_to keeps lower upper old middle after new (a, k, h) e (b, j, g) = (
 )
 
 -- a fault after a tilde is a fault of the range
-pub upper_fault : (keeps : Bool) (lower : DecimalValue) (old middle after : List Token) (kind : ParseError)
-    → ReadsStored keeps ReadsSample old lower middle → middle ≡ Tilde ∷ after → FailsAtSample after kind → FailsAtRange old kind
-upper_fault keeps lower old middle after kind (read, k, h) e q = no_upper read old middle after kind h e q
+pub upper_fault : (keeps : Bool) (lower : DecimalValue) (old middle after new : List Token) (kind : ParseError)
+    → ReadsStored keeps ReadsSample old lower middle → middle ≡ Tilde ∷ after → FailsAtSample after new kind → FailsAtRange old new kind
+upper_fault keeps lower old middle after new kind (read, k, h) e q = no_upper read old middle after new kind h e q
 
 -- ---- lists
 
@@ -198,10 +198,10 @@ keeps_more_ranges keeps old middle after behind new front list stored (rs, k, h)
 )
 
 -- a fault of a range is one of the list
-pub list_range_fault : (keeps : Bool) (old middle after behind : List Token) (front : List SampleRange) (kind : ParseError)
+pub list_range_fault : (keeps : Bool) (old middle after behind new : List Token) (front : List SampleRange) (kind : ParseError)
     → ReadsStored keeps ReadsRanges old front middle → middle ≡ Comma ∷ after → first after ≢ Some Ellipsis → behind ≡ after
-    → FailsAtRange behind kind → FailsAtList old kind
-list_range_fault keeps old middle after behind front kind (rs, k, h) e n f q = range_fault old middle after behind rs kind h e n f q
+    → FailsAtRange behind new kind → FailsAtList old new kind
+list_range_fault keeps old middle after behind new front kind (rs, k, h) e n f q = range_fault old middle after behind new rs kind h e n f q
 
 -- a list that an ellipsis ends
 pub keeps_list_with_ellipsis : (keeps : Bool) (old middle after new : List Token) (front : List SampleRange)
@@ -247,17 +247,17 @@ keeps_more_lists keeps old middle after behind new given kind list joined (ss, k
 )
 
 -- no type follows At
-pub lists_type_fault : (keeps : Bool) (old middle after : List Token) (given : Option samples.Samples)
+pub lists_type_fault : (keeps : Bool) (old middle after new : List Token) (given : Option samples.Samples)
     → ReadsStored keeps ReadsLists old given middle → middle ≡ At ∷ after → type_fault (first after) ≡ Some ExpectedSampleType
-    → run_samples (after_sections []) old ≡ Err ExpectedSampleType
-lists_type_fault keeps old middle after given (ss, k, h) e n = no_type old middle after ss h e n
+    → new ≡ after → run_samples (after_sections []) old ≡ Err (ExpectedSampleType, new)
+lists_type_fault keeps old middle after new given (ss, k, h) e n s = no_type old middle after new ss h e n s
 
 -- a fault of a list is one of the samples
-pub lists_fault : (keeps : Bool) (old middle after behind : List Token) (given : Option samples.Samples) (kind : SampleType)
+pub lists_fault : (keeps : Bool) (old middle after behind new : List Token) (given : Option samples.Samples) (kind : SampleType)
     (e : ParseError)
-    → ReadsStored keeps ReadsLists old given middle → middle ≡ At ∷ after → after ≡ type_token kind ∷ behind → FailsAtList behind e
-    → run_samples (after_sections []) old ≡ Err e
-lists_fault keeps old middle after behind given kind e (ss, k, h) f g q = list_fault old middle after behind ss kind e h f g q
+    → ReadsStored keeps ReadsLists old given middle → middle ≡ At ∷ after → after ≡ type_token kind ∷ behind → FailsAtList behind new e
+    → run_samples (after_sections []) old ≡ Err (e, new)
+lists_fault keeps old middle after behind new given kind e (ss, k, h) f g q = list_fault old middle after behind new ss kind e h f g q
 
 -- no list follows
 pub keeps_all_lists : (keeps : Bool) (old middle new : List Token) (given : Option samples.Samples)

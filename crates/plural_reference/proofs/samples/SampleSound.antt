@@ -31,6 +31,7 @@ use Rattle.plural_reference.specs.Inner.SampleReading.SampleReader.{mark_move, a
 use Rattle.plural_reference.specs.Samples as places
 use Rattle.plural_reference.proofs.reading.ReaderSound.{Terminated, Separated-last, Terminated-push, Terminated-front}
 use Rattle.plural_reference.proofs.reading.ReaderComplete.{last-push}
+use Rattle.plural_reference.specs.FaultPlaces.{FaultyInSamplesAt}
 
 -- ---- sections
 
@@ -299,19 +300,19 @@ ReadsSections tokens ss rest =
 -- what is said of tokens by a result
 abbrev pub SaidSamples : List Token → SampleOutcome → Type 0
 SaidSamples tokens (Ok (ss, rest)) = ReadsSections tokens ss rest
-SaidSamples tokens (Err kind) = FaultyInSamples tokens kind
+SaidSamples tokens (Err (kind, rest)) = FaultyInSamplesAt tokens kind rest
 
 -- what is said of a move, if the tokens q lead to a state and the token t follows
 abbrev SaidMove : List Token → Token → List Token → SampleMove → Type 0
 SaidMove q t ts (goes s) = SpellsState (q ++ t ∷ []) s
 SaidMove q t ts (ends ss) = ReadsSections (q ++ t ∷ ts) ss (t ∷ ts)
-SaidMove q t ts (refuses kind) = FaultyInSamples (q ++ t ∷ ts) kind
+SaidMove q t ts (refuses kind) = FaultyInSamplesAt (q ++ t ∷ ts) kind (t ∷ ts)
 
 -- what is said of a move at the end of the tokens q
 abbrev SaidEnd : List Token → SampleMove → Type 0
 SaidEnd q (goes s) = ⊥
 SaidEnd q (ends ss) = ReadsSections (q ++ []) ss []
-SaidEnd q (refuses kind) = FaultyInSamples (q ++ []) kind
+SaidEnd q (refuses kind) = FaultyInSamplesAt (q ++ []) kind []
 
 -- ---- the steps
 
@@ -358,7 +359,7 @@ said_behind_at : (q : List Token) (ss : List Section) (t : Token) (ts : List Tok
     → SaidMove q t ts (at_move ss t)
 said_behind_at q ss Integer ts h = (begun q ss Integer tt h, begun_waits q ss Integer tt h)
 said_behind_at q ss Decimal ts h = (begun q ss Decimal tt h, begun_waits q ss Decimal tt h)
-said_behind_at q ss _ ts h = (places.after_at, q, _ ∷ ts, refl, (h.0, ss, h.1, h.2, tt), refl)
+said_behind_at q ss _ ts h = (places.after_at, q, refl, (h.0, ss, h.1, h.2, tt), refl)
 
 -- digits begin a sample, if one is expected
 first_digit : (q : List Token) (p : Partial) (t : Token) → IsDigits t → SpellsPartial q p → InSample (q ++ t ∷ []) p (token_text t)
@@ -384,7 +385,7 @@ first_mark q p t m h w =
 
 -- if a sample is expected, the next token begins one, or has the given fault
 said_start : (q : List Token) (p : Partial) (t : Token) (ts : List Token) → SpellsPartial q p → Awaits q
-    → (sample_fault (Some t) ≡ Some ExpectedValue → FaultyInSamples (q ++ t ∷ ts) ExpectedValue)
+    → (sample_fault (Some t) ≡ Some ExpectedValue → FaultyInSamplesAt (q ++ t ∷ ts) ExpectedValue (t ∷ ts))
     → SaidMove q t ts (sample_move p t)
 said_start q p Zero ts h w bad = first_digit q p Zero tt h
 said_start q p (Number n) ts h w bad = first_digit q p (Number n) tt h
@@ -404,7 +405,7 @@ said_start q p _ ts h w bad = bad refl
 said_awaits : (q : List Token) (p : Partial) (t : Token) (ts : List Token) → SpellsState q (awaits_sample p)
     → SaidMove q t ts (sample_move p t)
 unfolding Awaits
-said_awaits q p t ts h = said_start q p t ts h.0 (inl h.1) (λ e. (places.before_sample, q, t ∷ ts, refl, h.1, e))
+said_awaits q p t ts h = said_start q p t ts h.0 (inl h.1) (λ e. (places.before_sample, q, refl, h.1, e))
 
 -- an ellipsis after ranges, each with its comma, completes the sections
 ellipsis_done : (q : List Token) (p : Partial) (x : SampleRange) (xs : List SampleRange) → p.ranges ≡ x ∷ xs
@@ -441,7 +442,7 @@ said_behind_comma : (q : List Token) (p : Partial) (t : Token) (ts : List Token)
     → SaidMove q t ts (comma_move p t)
 unfolding Awaits
 said_behind_comma q p Ellipsis ts h = said_ellipsis q p p.ranges refl h.3 h.0 h.2
-said_behind_comma q p t ts h = said_start q p t ts h.0 (inr h.1) (λ e. (places.after_comma, q, t ∷ ts, refl, h.1, e))
+said_behind_comma q p t ts h = said_start q p t ts h.0 (inr h.1) (λ e. (places.after_comma, q, refl, h.1, e))
 
 -- if both sides are false, no side holds
 pub both_false : (a b : Bool) → a ≡ false → b ≡ false → a || b ≡ false
@@ -664,7 +665,7 @@ said_behind_mark : (q : List Token) (p : Partial) (text : DecimalValue) (t : Tok
     → SpellsState q (behind_mark p text) → SaidMove q t ts (mark_move p text t)
 said_behind_mark q p text Zero ts h = exponent_grown q p text Zero tt h
 said_behind_mark q p text (Number n) ts h = exponent_grown q p text (Number n) tt h
-said_behind_mark q p text t ts h = (places.after_mark, q, t ∷ ts, refl, h.waits, refl)
+said_behind_mark q p text t ts h = (places.after_mark, q, refl, h.waits, refl)
 
 -- ---- all steps
 
@@ -680,14 +681,14 @@ said_sample_step q (behind_mark p text) t ts h = said_behind_mark q p text t ts 
 -- whatever the state, the end of the tokens ends the samples or is a fault as the grammar says
 said_sample_end : (q : List Token) (s : SampleState) → SpellsState q s → SaidEnd q (samples_at_end s)
 said_sample_end q (after_sections ss) h = (q, refl, h.0, tt)
-said_sample_end q (behind_at ss) h = (places.after_at, q, [], refl, (h.0, ss, h.1, h.2, tt), refl)
-said_sample_end q (awaits_sample p) h = (places.before_sample, q, [], refl, h.1, refl)
-said_sample_end q (behind_comma p) h = (places.after_comma, q, [], refl, h.1, refl)
+said_sample_end q (behind_at ss) h = (places.after_at, q, refl, (h.0, ss, h.1, h.2, tt), refl)
+said_sample_end q (awaits_sample p) h = (places.before_sample, q, refl, h.1, refl)
+said_sample_end q (behind_comma p) h = (places.after_comma, q, refl, h.1, refl)
 said_sample_end q (in_sample p text) h = (q, refl, done q p text h, tt)
-said_sample_end q (behind_mark p text) h = (places.after_mark, q, [], refl, h.waits, refl)
+said_sample_end q (behind_mark p text) h = (places.after_mark, q, refl, h.waits, refl)
 
 -- what is said of the move at the end is said of the result
-end_said : (q : List Token) (m : SampleMove) → SaidEnd q m → SaidSamples (q ++ []) (sample_proceed m [] (λ _. Err ExpectedValue))
+end_said : (q : List Token) (m : SampleMove) → SaidEnd q m → SaidSamples (q ++ []) (sample_proceed m [] (λ _. Err (ExpectedValue, [])))
 end_said q (goes s) h = absurd h
 end_said q (ends ss) h = h
 end_said q (refuses kind) h = h

@@ -2,13 +2,13 @@
 -- token, finds the first piece of any cut. From ScanSound and ScanComplete to the law that every
 -- text has exactly one cut.
 use Rattle.std.proofs.Common.{◌≡◌, ◌≢◌, ◌*◌, ◌+◌, ℕ, List, [], ◌∷◌, ◌++◌, Option, Some, None, refl}
-use Rattle.std.proofs.Common.{sym, ap, ◌∙◌, append_assoc, cond, drop, is_some, nat_eq, length, subst, true, arith}
+use Rattle.std.proofs.Common.{sym, ap, ◌∙◌, append_assoc, drop, is_some, length, subst, true, arith}
 use Rattle.std.proofs.lemmas.Bool.{eq-eqb, false≢true}
 use Rattle.std.proofs.lemmas.List.{append-nil, append_cancel_left}
 use Rattle.std.proofs.lemmas.List.Elements.{All-contains, All-from_recursion, recursion_from_All}
 use Rattle.std.specs.Prelude.{IfSome, codes}
 use Rattle.std.specs.List.{AllByRecursion, list_all, cons_option}
-use Rattle.std.specs.Char.{is_ascii_digit, digit_value, IsAsciiDigit}
+use Rattle.std.specs.Char.{digit_value, IsAsciiDigit}
 use Rattle.plural_operands.specs.declared.operand.Operand.TheVariants.{I}
 use Rattle.plural_reference.specs.declared.ast.Operator.TheVariants.{NotEq}
 use Rattle.plural_reference.specs.declared.token.Token.{Token}
@@ -16,47 +16,25 @@ use Rattle.plural_reference.specs.declared.token.Token.TheVariants.{Operand, Ope
 use Rattle.plural_reference.specs.Lexer.{first, Word, marks, keywords, MayFollow, IsDigitRun, IsBegun, BeginsNone, IsPiece}
 use Rattle.plural_reference.specs.Lexer.{space, mark, keyword, number, unknown, too_large, broken, cut_off, Piece, IsCut}
 use Rattle.plural_reference.specs.ReadingLaws.{HaveOneCut}
-use Rattle.plural_reference.specs.Inner.Scan.{Scan, between, in_keyword, in_number, after_i, after_point, begin_piece, keyword_move}
+use Rattle.plural_reference.specs.Inner.Scan.{Scan, between, in_keyword, in_number}
 use Rattle.plural_reference.specs.Inner.Scan.{tokens_of}
+use Rattle.plural_reference.specs.Inner.BehindFirst.{Bite, stops, ends, goes, bite}
 use Rattle.plural_reference.proofs.tokens.ScanComplete.{no_more, no_eq, digit_yes, digit_no, begin_digit, begin_unknown, piece_scans}
 use Rattle.plural_reference.proofs.tokens.ScanSound.{has_tokens}
 
--- what a byte is to the open piece: the first after it, its last, or one in it
-data Bite : Type 0 where
-  stops : Bite
-  ends : Bite
-  goes : Scan → Bite
-
--- a byte ends the piece if the state after it is between two pieces; otherwise it belongs to the
--- piece, with more to come
-abbrev taken : Scan → Bite
-taken between = ends
-taken (in_keyword k ks t) = goes (in_keyword k ks t)
-taken (in_number n) = goes (in_number n)
-taken after_i = goes after_i
-taken after_point = goes after_point
-
--- what a byte is to the piece that is open in this state
-abbrev bite : Scan → ℕ → Bite
-bite between b = taken (begin_piece b).1
-bite (in_keyword k ks t) b = cond (nat_eq b k) (taken (keyword_move ks t).1) ends
-bite (in_number n) b = cond (is_ascii_digit b) (goes (in_number (n * 10 + digit_value b))) stops
-bite after_i b = cond (nat_eq b 110) (goes (in_keyword 116 (101 ∷ 103 ∷ 101 ∷ 114 ∷ []) Integer)) stops
-bite after_point b = cond (nat_eq b 46) ends stops
-
 -- the bytes that it adds to the piece: none, itself, or itself and what more belongs to the piece
-abbrev bitten : Bite → ℕ → (Scan → List ℕ) → List ℕ
+abbrev pub bitten : Bite → ℕ → (Scan → List ℕ) → List ℕ
 bitten stops b more = []
 bitten ends b more = b ∷ []
 bitten (goes s) b more = b ∷ more s
 
 -- the bytes that belong to the open piece
-unfoldable piece_from : Scan → List ℕ → List ℕ
+unfoldable pub piece_from : Scan → List ℕ → List ℕ
 piece_from s [] = []
 piece_from s (b ∷ bs) = bitten (bite s b) b (λ next. piece_from next bs)
 
 -- the bytes of the first piece of a text
-abbrev first_piece : List ℕ → List ℕ
+abbrev pub first_piece : List ℕ → List ℕ
 first_piece text = piece_from between text
 
 -- ---- marks and keywords
@@ -200,7 +178,7 @@ unknown_bitten b rest h = rw (begin_unknown b h) refl
 -- ---- pieces and cuts
 
 -- a piece in front of a rest is the first piece of the text
-piece_bitten : (piece rest : List ℕ) (token : Option Token) → IsPiece piece rest token → first_piece (piece ++ rest) ≡ piece
+pub piece_bitten : (piece rest : List ℕ) (token : Option Token) → IsPiece piece rest token → first_piece (piece ++ rest) ≡ piece
 unfolding piece_from
 piece_bitten piece rest token (space e t) = rw e refl
 piece_bitten piece rest token (mark t c f k) =
@@ -229,7 +207,7 @@ words_not_empty (([], t) ∷ ws) e = absurd (false≢true e)
 words_not_empty ((b ∷ bs, t) ∷ ws) e = (not_empty b bs, words_not_empty ws e)
 
 -- no piece is empty
-piece_not_empty : (piece rest : List ℕ) (token : Option Token) → IsPiece piece rest token → piece ≢ []
+pub piece_not_empty : (piece rest : List ℕ) (token : Option Token) → IsPiece piece rest token → piece ≢ []
 piece_not_empty piece rest token (space e t) = rw e (not_empty 32 [])
 piece_not_empty piece rest token (mark t c f k) =
     All-contains (λ (w : Word). w.0 ≢ []) marks (piece, t)

@@ -110,19 +110,19 @@ at_end (before_item o xs) = refuse ExpectedValue
 at_end (after_item o xs x) = finish (ended_condition (with_relation o.before (relation_of o (xs ++ x ∷ []))))
 at_end (before_end o xs v) = refuse ExpectedValue
 
--- the condition, and the remaining tokens
+-- the condition or the fault, and the remaining tokens
 abbrev pub Outcome : Type 0
-Outcome = Result (Condition × List Token) ParseError
+Outcome = Result (Condition × List Token) (ParseError × List Token)
 
 -- what follows a move
 abbrev pub proceed : Move → List Token → (State → Outcome) → Outcome
 proceed (go s) rest next = next s
 proceed (finish c) rest next = Ok (c, rest)
-proceed (refuse e) rest next = Err e
+proceed (refuse e) rest next = Err (e, rest)
 
 -- what the reader returns from a state on
 unfoldable pub run : State → List Token → Outcome
-run s [] = proceed (at_end s) [] (λ _. Err ExpectedValue)
+run s [] = proceed (at_end s) [] (λ _. Err (ExpectedValue, []))
 run s (t ∷ ts) = proceed (step s t) (t ∷ ts) (λ next. run next ts)
 
 -- where the reader begins
@@ -170,27 +170,28 @@ ReadsOption Read old (Some x) new = Read old x new
 pub record ReadsExpression (old : List Token) (e : Expression) (new : List Token) : Type 0 where
   pub goes_on : (b : Before) (op : operator.Operator) (rest : List Token) → new ≡ token.Operator op ∷ rest
       → run (before_operand b) old ≡ run (before_item (record { before = b; expression = e; operator = op }) []) rest
-  pub stops : (b : Before) → operator_fault (first new) ≡ Some ExpectedOperator → run (before_operand b) old ≡ Err ExpectedOperator
+  pub stops : (b : Before) → operator_fault (first new) ≡ Some ExpectedOperator → run (before_operand b) old ≡ Err (ExpectedOperator, new)
 
 -- the first token is the value
 abbrev pub TakesValue : List Token → Value → List Token → Type 0
 TakesValue old v new = (t : Token) × (old ≡ t ∷ new) × (token_value t ≡ Some v)
 
--- no value comes next
-abbrev pub NoValue : List Token → ParseError → Type 0
-NoValue old e = (e ≡ ExpectedValue) × (value_fault (first old) ≡ Some ExpectedValue)
+-- no value comes next, and nothing is taken
+abbrev pub NoValue : List Token → List Token → ParseError → Type 0
+NoValue old new e = (e ≡ ExpectedValue) × (value_fault (first old) ≡ Some ExpectedValue) × (new ≡ old)
 
--- no operator comes next
-abbrev pub NoOperator : List Token → ParseError → Type 0
-NoOperator old e = (e ≡ ExpectedOperator) × (operator_fault (first old) ≡ Some ExpectedOperator)
+-- no operator comes next, and nothing is taken
+abbrev pub NoOperator : List Token → List Token → ParseError → Type 0
+NoOperator old new e = (e ≡ ExpectedOperator) × (operator_fault (first old) ≡ Some ExpectedOperator) × (new ≡ old)
 
 -- the first token is the operand
 abbrev pub TakesOperand : List Token → operand.Operand → List Token → Type 0
 TakesOperand old o new = (t : Token) × (old ≡ t ∷ new) × (operand_of t ≡ Some o)
 
--- a token that isn't an operand comes next: a fault wherever one is expected
-abbrev pub NoOperand : List Token → ParseError → Type 0
-NoOperand old e = (e ≡ ExpectedOperand) × ((at_end : Option ParseError) → operand_fault at_end (first old) ≡ Some ExpectedOperand)
+-- a token that isn't an operand comes next: a fault wherever one is expected; nothing is taken
+abbrev pub NoOperand : List Token → List Token → ParseError → Type 0
+NoOperand old new e =
+    (e ≡ ExpectedOperand) × ((at_end : Option ParseError) → operand_fault at_end (first old) ≡ Some ExpectedOperand) × (new ≡ old)
 
 -- what comes between relations: And, or Or before an and-condition
 abbrev pub joint : Bool → Token
@@ -211,14 +212,14 @@ abbrev pub ReadsParts : List Token → Option (Expression × operator.Operator) 
 ReadsParts old None items new = IsUnconditional old × (new ≡ old) × (items ≡ [])
 ReadsParts old (Some (e, op)) items new = ReadsRelation old (relation_of_parts e op items) new
 
--- the reader stops with this fault wherever an item is expected
-abbrev pub FailsAtItem : List Token → ParseError → Type 0
-FailsAtItem old e = (o : Opened) (xs : List RangeListItem) → run (before_item o xs) old ≡ Err e
+-- the reader stops with this fault before the remaining tokens, wherever an item is expected
+abbrev pub FailsAtItem : List Token → List Token → ParseError → Type 0
+FailsAtItem old new e = (o : Opened) (xs : List RangeListItem) → run (before_item o xs) old ≡ Err (e, new)
 
--- the reader stops with this fault wherever a list of items is expected
-abbrev pub FailsAtItems : List Token → ParseError → Type 0
-FailsAtItems old e = (o : Opened) → run (before_item o []) old ≡ Err e
+-- the same wherever a list of items is expected
+abbrev pub FailsAtItems : List Token → List Token → ParseError → Type 0
+FailsAtItems old new e = (o : Opened) → run (before_item o []) old ≡ Err (e, new)
 
--- the reader stops with this fault wherever an operand is expected
-abbrev pub FailsAtOperand : List Token → ParseError → Type 0
-FailsAtOperand old e = (b : Before) → run (before_operand b) old ≡ Err e
+-- the same wherever an operand is expected
+abbrev pub FailsAtOperand : List Token → List Token → ParseError → Type 0
+FailsAtOperand old new e = (b : Before) → run (before_operand b) old ≡ Err (e, new)

@@ -18,12 +18,12 @@ RuleOutcome = Result Rule ParseError
 -- the condition with the samples that are read after it
 abbrev pub with_samples : Condition → SampleOutcome → RuleOutcome
 with_samples c (Ok (sections, rest)) = Ok (record { condition = c; samples = samples_of sections })
-with_samples c (Err kind) = Err kind
+with_samples c (Err (kind, rest)) = Err kind
 
 -- the rule whose condition is read so
 abbrev pub of_condition : Outcome → RuleOutcome
 of_condition (Ok (c, rest)) = with_samples c (run_samples (after_sections []) rest)
-of_condition (Err kind) = Err kind
+of_condition (Err (kind, rest)) = Err kind
 
 -- the rule of the tokens
 abbrev pub rule_of : List Token → RuleOutcome

@@ -4,13 +4,14 @@ mod plain;
 pub(super) mod sink;
 
 ghost use Rattle.std.specs.Prelude.{◌≡◌, ◌≤◌, ◌∷◌, [], Some, None, Err, OnOk, false, List, ℕ, length, string_bytes, IfSome, IsTrue, MatchBool, MatchOption, MatchResult};
-ghost use Rattle.plural_reference.specs.declared.error.ParseError.TheVariants.{ExpectedValue};
+ghost use Rattle.plural_reference.specs.declared.error.ParseError.TheVariants.{ExpectedSampleType, ExpectedValue};
 ghost use Rattle.plural_reference.specs.declared.token.Token.TheVariants.{At};
 ghost use Rattle.plural_reference.specs.Lexer.{first};
 ghost use Rattle.plural_reference.specs.Reading.{IsAnswer};
-ghost use Rattle.plural_reference.specs.Samples.{IsExponentMark, has_exponent, sample_fault, token_text};
+ghost use Rattle.plural_reference.specs.Samples.{IsExponentMark, has_exponent, sample_fault, token_text, type_fault};
 ghost use Rattle.plural_reference.specs.Inner.SampleReading.SampleReader.{after_sections, run_samples, IsStored, ReadsStored, TakesText, NoDigits, NoMark, NoType, type_token, joined_list, ReadsDigits, ReadsNumber, ReadsExponent, ReadsSample, ReadsRange, ReadsSampleList, ReadsAllSamples, FailsInSample, FailsAtSample, FailsAtRange, FailsAtList};
 ghost use Rattle.plural_reference.specs.Inner.SampleReading.PlainSamples.{AreLists, HasSamples};
+ghost use Rattle.plural_reference.specs.Inner.Front.{BeginsAtToken};
 ghost use Rattle.plural_reference.specs.Inner.Scan.{tokens_of};
 
 use super::Parser;
@@ -34,7 +35,7 @@ enum SampleType {
 impl<'p> Parser<'p> {
     // Reads the samples, and leaves them out: most of them by their bytes.
     pub(super) fn leave_samples_out(&mut self, alloc: Global) -> Result<(), ReadError>
-        ensures { IsAnswer (λ _. HasSamples self.old) (λ e. run_samples (after_sections []) self.old ≡ Err e) result }
+        ensures { IsAnswer (λ _. HasSamples self.old) (λ e. run_samples (after_sections []) self.old ≡ Err (e, self.new)) result }
     {
         if self.is_before_plain_samples() {
             return Ok(());
@@ -66,7 +67,7 @@ impl<'p> Parser<'p> {
     pub(super) fn samples<S: Sink>(&mut self, alloc: Global) -> Result<Option<Samples>, ReadError>
         ensures { IsAnswer
             (λ samples. ReadsStored S.keeps ReadsAllSamples self.old samples self.new)
-            (λ e. run_samples (after_sections []) self.old ≡ Err e)
+            (λ e. run_samples (after_sections []) self.old ≡ Err (e, self.new))
             result }
     {
         let mut samples = None;
@@ -81,19 +82,17 @@ impl<'p> Parser<'p> {
     // type = Integer | Decimal
     fn sample_type(&mut self) -> Result<SampleType, ParseError>
         ensures shorter { length self.new ≤ length self.old }
-        ensures kind { MatchResult result (λ kind. self.old ≡ type_token kind ∷ self.new) (NoType self.old) }
+        ensures kind { MatchResult result (λ kind. self.old ≡ type_token kind ∷ self.new) (NoType self.old self.new) }
     {
-        match self.next() {
-            Some(Token::Integer) => Ok(SampleType::Integer),
-            Some(Token::Decimal) => Ok(SampleType::Decimal),
-            _ => Err(ParseError::ExpectedSampleType),
-        }
+        let (kind, after) = type_at(self.rest).ok_or(ParseError::ExpectedSampleType)?;
+        self.rest = behind_spaces(after);
+        Ok(kind)
     }
 
     // list = range (Comma range)* (Comma Ellipsis)?
     fn sample_list<S: Sink>(&mut self, alloc: Global) -> Result<SampleList, ReadError>
         ensures shorter { length self.new ≤ length self.old }
-        ensures list { IsAnswer (λ list. ReadsStored S.keeps ReadsSampleList self.old list self.new) (FailsAtList self.old) result }
+        ensures list { IsAnswer (λ list. ReadsStored S.keeps ReadsSampleList self.old list self.new) (FailsAtList self.old self.new) result }
     {
         let mut ranges = S::begin_list(alloc)?;
         S::push_range(&mut ranges, self.sample_range::<S>(alloc)?)?;
@@ -115,7 +114,7 @@ impl<'p> Parser<'p> {
     // range = sample (Tilde sample)?
     fn sample_range<S: Sink>(&mut self, alloc: Global) -> Result<SampleRange, ReadError>
         ensures shorter { length self.new ≤ length self.old }
-        ensures range { IsAnswer (λ range. ReadsStored S.keeps ReadsRange self.old range self.new) (FailsAtRange self.old) result }
+        ensures range { IsAnswer (λ range. ReadsStored S.keeps ReadsRange self.old range self.new) (FailsAtRange self.old self.new) result }
     {
         let lower_val = self.sample::<S>(alloc)?;
         if !self.take_if(Token::Tilde) {
@@ -134,7 +133,7 @@ impl<'p> Parser<'p> {
     // sample = digits (Dot digits)? ((E | C) (Number | Zero))?, and not empty
     fn sample<S: Sink>(&mut self, alloc: Global) -> Result<DecimalValue, ReadError>
         ensures shorter { length self.new ≤ length self.old }
-        ensures sample { IsAnswer (λ text. ReadsStored S.keeps ReadsSample self.old text self.new) (FailsAtSample self.old) result }
+        ensures sample { IsAnswer (λ text. ReadsStored S.keeps ReadsSample self.old text self.new) (FailsAtSample self.old self.new) result }
     {
         if !self.is_before_sample() {
             return Err(ReadError::Parse(ParseError::ExpectedValue));
@@ -190,7 +189,7 @@ impl<'p> Parser<'p> {
         ensures shorter { length self.new ≤ length self.old }
         ensures exponent { (before : List ℕ) → has_exponent before ≡ false → IsStored S.keeps (string_bytes text.old) before → IsAnswer
             (λ _. ReadsStored S.keeps (ReadsExponent before) self.old (string_bytes text.new) self.new)
-            (FailsInSample before self.old)
+            (FailsInSample before self.old self.new)
             result }
     {
         let Some(mark) = self.take_mark() else {
@@ -215,6 +214,20 @@ impl<'p> Parser<'p> {
         let mark = mark_of(&token)?;
         self.rest = behind_spaces(after);
         Some(mark)
+    }
+}
+
+// The type of samples that the first token is, and the bytes after it.
+fn type_at(text: &[u8]) -> Option<(SampleType, &[u8])>
+    requires { BeginsAtToken text.now }
+    ensures { MatchOption result
+        (type_fault (first (tokens_of text.now)) ≡ Some ExpectedSampleType)
+        (λ it. tokens_of text.now ≡ type_token it.0 ∷ tokens_of it.1.now) }
+{
+    match first_token(text)? {
+        (Token::Integer, after) => Some((SampleType::Integer, after)),
+        (Token::Decimal, after) => Some((SampleType::Decimal, after)),
+        _ => None,
     }
 }
 

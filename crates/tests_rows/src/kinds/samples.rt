@@ -3,9 +3,10 @@
 use crate::kinds::conditions::{next_condition, print_condition, print_read_error};
 use plural_reference::ast::{Rule, SampleList};
 use plural_reference::{
-    is_read_whole, parse, parse_without_samples, serialize, serialize_sample_list,
+    fault_of, is_read_whole, parse, parse_without_samples, serialize, serialize_sample_list,
 };
 use row_calls::call::Call;
+use std::fmt::Write;
 
 /// Makes the call of a kind of this file. Returns whether there is such a kind.
 pub fn make(kind: &str, call: &mut Call) -> bool {
@@ -15,6 +16,7 @@ pub fn make(kind: &str, call: &mut Call) -> bool {
         "rule_without_samples" => rule_without_samples(call),
         "rule_has_condition" => rule_has_condition(call),
         "is_read_whole" => whole(call),
+        "rule_fault" => rule_fault(call),
         "samples" => samples(call),
         "sample_list" => sample_list(call),
         _ => return false,
@@ -97,6 +99,19 @@ fn whole(call: &mut Call) {
     let text = call.text();
     match is_read_whole(call.alloc, text.as_bytes()) {
         Ok(is_whole) => call.print_truth(is_whole),
+        Err(_) => call.out_of_memory(),
+    }
+}
+
+// The fault of a text and its byte, or none.
+fn rule_fault(call: &mut Call) {
+    let text = call.text();
+    match fault_of(call.alloc, text.as_bytes()) {
+        Ok(Some(fault)) => {
+            call.print_error(&fault.kind);
+            let _ = write!(call, " at {}", fault.byte);
+        }
+        Ok(None) => call.print("none"),
         Err(_) => call.out_of_memory(),
     }
 }

@@ -9,7 +9,7 @@ returns-in_err-condition c =
     rw (p.1, p.2)
     (rule_answers _ _ _ c.new-parser.ensures
     (passes_on _ _ c.in_err-condition.field-0.0 c.in_err-condition.ensures
-    (λ kind q. condition_fault _ kind q)))
+    (λ kind q. condition_fault _ _ kind q)))
 
 pub returns-in_err-samples : goal.returns-in_err-samples
 returns-in_err-samples c =
@@ -17,7 +17,7 @@ returns-in_err-samples c =
     rw (p.1, p.2)
     (rule_answers _ _ _ c.new-parser.ensures
     (passes_on _ _ c.in_err-samples.field-0.0 c.in_err-samples.ensures
-    (λ kind q. samples_fault _ _ _ kind c.in_ok-condition.ensures q)))
+    (λ kind q. samples_fault _ _ _ _ kind c.in_ok-condition.ensures q)))
 
 pub returns : goal.returns
 returns c = rule_answers _ _ _ c.new-parser.ensures (kept_rule_is _ _ _ _ c.in_ok-condition.ensures c.in_ok-samples.ensures)

@@ -9,7 +9,7 @@ returns-in_err-relations g c =
     rw (p.1, p.2)
     (without_samples_refuses _ _ _ c.new-parser.ensures
     (passes_on _ _ c.in_err-relations.field-0.0 c.in_err-relations.ensures
-    (λ kind q. condition_fault _ kind q)))
+    (λ kind q. condition_fault _ _ kind q)))
 
 pub returns-in_err-leave_samples_out : goal.returns-in_err-leave_samples_out
 returns-in_err-leave_samples_out g c =
@@ -18,7 +18,7 @@ returns-in_err-leave_samples_out g c =
     rw (p.1, p.2)
     (without_samples_refuses _ _ _ c.new-parser.ensures
     (passes_on _ _ c.in_err-leave_samples_out.field-0.0 c.in_err-leave_samples_out.ensures
-    (λ kind q. samples_fault _ _ _ kind r.2 q)))
+    (λ kind q. samples_fault _ _ _ _ kind r.2 q)))
 
 pub returns : goal.returns
 returns g c =

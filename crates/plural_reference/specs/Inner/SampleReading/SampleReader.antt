@@ -128,19 +128,19 @@ samples_at_end (behind_comma p) = refuses ExpectedValue
 samples_at_end (in_sample p text) = ends (with_sections p (ranges_with p text) false)
 samples_at_end (behind_mark p text) = refuses ExpectedValue
 
--- the sections, and the remaining tokens
+-- the sections or the fault, and the remaining tokens
 abbrev pub SampleOutcome : Type 0
-SampleOutcome = Result (List Section × List Token) ParseError
+SampleOutcome = Result (List Section × List Token) (ParseError × List Token)
 
 -- what follows a move
 abbrev pub sample_proceed : SampleMove → List Token → (SampleState → SampleOutcome) → SampleOutcome
 sample_proceed (goes s) rest next = next s
 sample_proceed (ends sections) rest next = Ok (sections, rest)
-sample_proceed (refuses e) rest next = Err e
+sample_proceed (refuses e) rest next = Err (e, rest)
 
 -- what the reader returns from a state on
 unfoldable pub run_samples : SampleState → List Token → SampleOutcome
-run_samples s [] = sample_proceed (samples_at_end s) [] (λ _. Err ExpectedValue)
+run_samples s [] = sample_proceed (samples_at_end s) [] (λ _. Err (ExpectedValue, []))
 run_samples s (t ∷ ts) = sample_proceed (sample_step s t) (t ∷ ts) (λ next. run_samples next ts)
 
 -- ---- Not a definition of the subject: what the parts of the parser do that read samples, as steps
@@ -254,22 +254,24 @@ pub record ReadsAllSamples (old : List Token) (samples : Option samples.Samples)
   pub run_is : run_samples (after_sections []) old ≡ Ok (sections, new)
   pub samples_are : samples ≡ samples_of sections
 
--- the reader stops with this fault wherever a sample with this text so far continues
-abbrev pub FailsInSample : DecimalValue → List Token → ParseError → Type 0
-FailsInSample before old e = (p : Partial) → run_samples (sample_at p before) old ≡ Err e
+-- the reader stops with this fault before the remaining tokens, wherever a sample with this text so
+-- far continues
+abbrev pub FailsInSample : DecimalValue → List Token → List Token → ParseError → Type 0
+FailsInSample before old new e = (p : Partial) → run_samples (sample_at p before) old ≡ Err (e, new)
 
--- the reader stops with this fault wherever a sample is expected
-abbrev pub FailsAtSample : List Token → ParseError → Type 0
-FailsAtSample old e = (p : Partial) → run_samples (awaits_sample p) old ≡ Err e
+-- the same wherever a sample is expected
+abbrev pub FailsAtSample : List Token → List Token → ParseError → Type 0
+FailsAtSample old new e = (p : Partial) → run_samples (awaits_sample p) old ≡ Err (e, new)
 
--- the reader stops with this fault wherever a range is expected
-abbrev pub FailsAtRange : List Token → ParseError → Type 0
-FailsAtRange old e = (p : Partial) → p.lower ≡ None → run_samples (awaits_sample p) old ≡ Err e
+-- the same wherever a range is expected
+abbrev pub FailsAtRange : List Token → List Token → ParseError → Type 0
+FailsAtRange old new e = (p : Partial) → p.lower ≡ None → run_samples (awaits_sample p) old ≡ Err (e, new)
 
--- the reader stops with this fault wherever a list is expected
-abbrev pub FailsAtList : List Token → ParseError → Type 0
-FailsAtList old e = (sections : List Section) (type : Token) → run_samples (awaits_sample (begin_list sections type)) old ≡ Err e
+-- the same wherever a list is expected
+abbrev pub FailsAtList : List Token → List Token → ParseError → Type 0
+FailsAtList old new e =
+    (sections : List Section) (type : Token) → run_samples (awaits_sample (begin_list sections type)) old ≡ Err (e, new)
 
--- no type of samples comes next
-abbrev pub NoType : List Token → ParseError → Type 0
-NoType old e = (e ≡ ExpectedSampleType) × (type_fault (first old) ≡ Some ExpectedSampleType)
+-- no type of samples comes next, and nothing is taken
+abbrev pub NoType : List Token → List Token → ParseError → Type 0
+NoType old new e = (e ≡ ExpectedSampleType) × (type_fault (first old) ≡ Some ExpectedSampleType) × (new ≡ old)

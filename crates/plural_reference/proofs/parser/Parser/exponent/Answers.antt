@@ -7,7 +7,7 @@ returns-in_default-clause-exponent g c = λ before h k. keeps_no_exponent _ _ be
 
 pub returns-in_default-take_number-clause-exponent : goal.returns-in_default-take_number-clause-exponent
 returns-in_default-take_number-clause-exponent g c =
-    λ before h k. no_exponent_value before _ _ _ h c.in-Some.ensures c.in_default-take_number.ensures.0
+    λ before h k. no_exponent_value before _ _ _ _ h c.in-Some.ensures c.in_default-take_number.ensures.0 c.in_default-take_number.ensures.1
 
 pub returns-clause-exponent : goal.returns-clause-exponent
 returns-clause-exponent g c = λ before h k.

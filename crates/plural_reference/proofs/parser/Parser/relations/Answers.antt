@@ -1,4 +1,4 @@
-use Rattle.std.proofs.Common.{◌∙◌, ap, sym, subst, Err}
+use Rattle.std.proofs.Common.{◌∙◌, sym, subst, Err}
 use Rattle.std.proofs.lemmas.Result.{err_from_is_err_and}
 use Rattle.plural_reference.specs.RelationSinks.{nothing}
 use Rattle.plural_reference.proofs.reading.ParserSteps.{joins, joint_fault, nothing_joins, condition_is, no_condition, passes_on}
@@ -22,12 +22,12 @@ returns-in_err-expression-2 g c =
     let p = err_from_is_err_and c.from_residual-in_err-expression-2.result c.from_residual-in_err-expression-2.ensures.1 in
     rw (p.1, p.2)
     (passes_on _ _ c.in_err-expression-2.field-0.0 c.in_err-expression-2.ensures.relation
-    (λ kind q. joint_fault _ _ _ _ _ kind c.joints.invariant.2 c.in-Some-joint.ensures q))
+    (λ kind q. joint_fault _ _ _ _ _ _ kind c.joints.invariant.2 c.in-Some-joint.ensures q))
 
 pub returns-in_default-2 : goal.returns-in_default-2
 returns-in_default-2 g c =
     let r = rw c.in_default-2.is at c.in_ok-expression-2.ensures.relation in
-    nothing_joins _ _ _ _ _ c.joints.invariant.2 c.in-Some-joint.ensures r.1.0 ∙ ap Err (sym c.expected_behind.ensures)
+    nothing_joins _ _ _ _ _ c.joints.invariant.2 c.in-Some-joint.ensures r.1.0 ∙ (λ i. Err (sym c.expected_behind.ensures i, sym r.1.1 i))
 
 pub joints-preserved : goal.joints-preserved
 joints-preserved g c =

@@ -11,7 +11,7 @@ pub returns-in_err-exponent-clause-sample : goal.returns-in_err-exponent-clause-
 returns-in_err-exponent-clause-sample g c =
     let p = err_from_is_err_and c.from_residual-in_err-exponent.result c.from_residual-in_err-exponent.ensures.1 in
     rw (p.1, p.2)
-    (exponent_fault _ _ _ _ _ (c.in_ok-number.ensures.number (kept_is _ _ _ c.in_ok-text.ensures))
+    (exponent_fault _ _ _ _ _ _ (c.in_ok-number.ensures.number (kept_is _ _ _ c.in_ok-text.ensures))
     c.in_err-exponent.ensures.exponent)
 
 pub returns-clause-sample : goal.returns-clause-sample

@@ -20,7 +20,7 @@ returns-in_err-sample_range-2-clause-list g c =
     let n = c.if-take_if.ensures in
     rw (p.1, p.2)
     (passes_on _ _ c.in_err-sample_range-2.field-0.0 c.in_err-sample_range-2.ensures.range
-    (λ kind q. list_range_fault _ _ _ _ _ _ kind c.list.invariant.read c.list-test.ensures n.0 n.1 q))
+    (λ kind q. list_range_fault _ _ _ _ _ _ _ kind c.list.invariant.read c.list-test.ensures n.0 n.1 q))
 
 pub list-preserved : goal.list-preserved
 list-preserved g c =

@@ -12,7 +12,7 @@ returns-in_err-sample-clause-range g c =
     let p = err_from_is_err_and c.from_residual-in_err-sample.result c.from_residual-in_err-sample.ensures.1 in
     rw (p.1, p.2)
     (passes_on _ _ c.in_err-sample.field-0.0 c.in_err-sample.ensures.sample
-    (λ kind q. upper_fault _ _ _ _ _ kind c.in_ok-lower_val.ensures.sample c.if-not-take_if.ensures q))
+    (λ kind q. upper_fault _ _ _ _ _ _ kind c.in_ok-lower_val.ensures.sample c.if-not-take_if.ensures q))
 
 pub returns-clause-range : goal.returns-clause-range
 returns-clause-range g c =

@@ -10,7 +10,7 @@ pub returns-in_err-kind : goal.returns-in_err-kind
 returns-in_err-kind g c =
     let p = err_from_is_err_and c.from_residual.result c.from_residual.ensures.1 in
     rw (p.1, p.2, c.in_err-kind.ensures.kind.0)
-    (lists_type_fault _ _ _ _ _ c.lists.invariant c.lists-test.ensures c.in_err-kind.ensures.kind.1)
+    (lists_type_fault _ _ _ _ _ _ c.lists.invariant c.lists-test.ensures c.in_err-kind.ensures.kind.1 c.in_err-kind.ensures.kind.2)
 
 pub returns-in_err-list : goal.returns-in_err-list
 returns-in_err-list g c =
@@ -18,7 +18,7 @@ returns-in_err-list g c =
     rw (p.1, p.2)
     (passes_on _ _ c.in_err-list.field-0.0 c.in_err-list.ensures.list
     (λ kind q.
-    lists_fault _ _ _ _ _ _ _ kind c.lists.invariant c.lists-test.ensures c.in_ok-kind.ensures.kind q))
+    lists_fault _ _ _ _ _ _ _ _ kind c.lists.invariant c.lists-test.ensures c.in_ok-kind.ensures.kind q))
 
 pub lists-preserved : goal.lists-preserved
 lists-preserved g c =
