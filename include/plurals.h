@@ -259,6 +259,12 @@ int64_t plurals_table_of_rules(const uint8_t *rules, size_t rules_len, uint8_t *
  * call, and isn't proved. Allocates nothing. */
 int32_t plurals_category_by_table(const uint8_t *table, size_t table_len, uint64_t number);
 
+/* Returns the same of the whole number that a text writes: digits, which a plus may stand before, of a number below 2^64. Of
+ * any other text it is PLURALS_ASK_RULES: then plurals_category is asked with the rules. Of a table of rules a category is the
+ * one that plurals_category returns of the number without its zeros in front. Faults: PLURALS_TABLE_LENGTH; the text isn't
+ * UTF-8. Allocates nothing. */
+int32_t plurals_text_category_by_table(const uint8_t *table, size_t table_len, const char *text, size_t text_len);
+
 /* Returns the category of six operands (docs/NUMBERS.md), or the fault of the rules: for callers that format numbers
  * themselves and know the digits that are shown. i is the integer part, v and w how many fraction digits are shown, with
  * the zeros at the end and without, f and t these digits as a number, c the compact exponent. Any six are allowed, also

@@ -218,6 +218,14 @@ public:
         return static_cast<Category>(found);
     }
 
+    /* Returns the same of the whole number that a text writes in digits; none also of any other text. The fault is that it isn't UTF-8. */
+    Result<std::optional<Category>> category(std::string_view number) const noexcept {
+        std::int32_t found = plurals_text_category_by_table(bytes_, sizeof bytes_, number.data(), number.size());
+        if (found < 0) return Fault(found);
+        if (found == PLURALS_ASK_RULES) return std::optional<Category>();
+        return std::optional<Category>(static_cast<Category>(found));
+    }
+
     /* The bytes of the table, as calls of plurals.h take it. */
     const std::uint8_t *data() const noexcept { return bytes_; }
     static constexpr std::size_t size() noexcept { return PLURALS_TABLE_BYTES; }

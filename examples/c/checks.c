@@ -23,6 +23,7 @@ static void null_with_length_0(void) {
     CHECK(plurals_categories_of_integers(NULL, 0, NULL, 0, NULL, 0) == 0);
     CHECK(plurals_table_of_rules(NULL, 0, NULL, 0) == PLURALS_TABLE_BYTES);
     CHECK(plurals_category_by_table(NULL, 0, 1) == PLURALS_TABLE_LENGTH);
+    CHECK(plurals_text_category_by_table(NULL, 0, NULL, 0) == PLURALS_TABLE_LENGTH);
     CHECK(plurals_category(NULL, 0, "1", 1) == PLURALS_OTHER);
     CHECK(plurals_category(rules, (size_t)length, NULL, 0) == PLURALS_NUMBER_SYNTAX);
     CHECK(plurals_is_exact(NULL, 0, "1", 1) == 1);

@@ -72,7 +72,7 @@ struct text {
     size_t length;
 };
 
-enum kind { RULES, ELEMENTS, NUMBER, PATTERN, PACKED, NAME, VALUE, RULE, DOCUMENT, ELEMENTS_JSON, KEYS, LOCALE, CHAINED, TEXT_OF_ELEMENT, TEXT_OF_RULE, TABLE,
+enum kind { RULES, ELEMENTS, NUMBER, PATTERN, PACKED, NAME, VALUE, DIGITS, RULE, DOCUMENT, ELEMENTS_JSON, KEYS, LOCALE, CHAINED, TEXT_OF_ELEMENT, TEXT_OF_RULE, TABLE,
             KINDS };
 
 /* Of each kind the good ones, which mistakes are made in. */
@@ -87,6 +87,7 @@ static const char *const alphabets[KINDS] = {
     [PATTERN] = "{}'#=,: nsm01plural select other",
     [NAME] = "nsm01",
     [VALUE] = "0123456789+-.cab",
+    [DIGITS] = "0123456789+-",
     [RULE] = "nivwftce%=!,.~@ 0123456789andorinteger",
     [DOCUMENT] = "{}[]:,\"0123456789cardinlots ",
     [ELEMENTS_JSON] = "{}[]:,\"0123456789other one ",
@@ -179,6 +180,8 @@ static void fill_pools(void) {
         struct text text = pools[PATTERN].texts[k];
         pack(&text), add(PACKED, text.bytes, text.length);
     }
+    const char *digits[] = {"0", "7", "+12", "00128", "1000000", "18446744073709551615", "18446744073709551616", "1.0", "-1", "+", ""};
+    for (size_t k = 0; k < sizeof digits / sizeof *digits; k++) add_text(DIGITS, digits[k]);
     add_text(NAME, "n");
     add_text(NAME, "s");
     add_text(VALUE, "a");
@@ -356,6 +359,8 @@ static void make_good(enum kind kind, struct text *text) {
     if (kind == PATTERN) good_pattern(text, 3);
     if (kind == PACKED) good_pattern(text, 2), pack(text);
     if (kind == NAME) append(text, ONE_OF("n", "s", "m", "0"));
+    if (kind == DIGITS) append(text, ONE_OF("", "", "+", "00"));
+    while (kind == DIGITS && below(4)) append(text, ONE_OF("0", "1", "2", "5", "9", "28"));
     if (kind == DOCUMENT) good_document(text);
     if (kind == ELEMENTS_JSON) good_elements(text);
     if (kind == TABLE) good_table(text);
@@ -471,6 +476,10 @@ static int64_t category_by_table(const struct slice *s, uint8_t *out, size_t roo
     (void)out, (void)room;
     return plurals_category_by_table(BLOCK(0), number);
 }
+static int64_t text_category_by_table(const struct slice *s, uint8_t *out, size_t room) {
+    (void)out, (void)room;
+    return plurals_text_category_by_table(BLOCK(0), TEXT(1));
+}
 /* Six integers, or more than the library makes a table for. */
 static size_t fill_many(uint64_t many[MANY]) {
     size_t count = number % 8 ? 6 : MANY;
@@ -549,6 +558,7 @@ static int64_t model_of_signed_integer(const struct slice *s, uint8_t *out) {
 }
 static int64_t model_of_operands(const struct slice *s, uint8_t *out) { return (void)out, model_category_of_operands(s[0], operands); }
 static int64_t model_of_table(const struct slice *s, uint8_t *out) { return (void)out, model_category_by_table(s[0], number); }
+static int64_t model_of_text_by_table(const struct slice *s, uint8_t *out) { return (void)out, model_text_category_by_table(s[0], s[1]); }
 static int64_t model_of_many(const struct slice *s, uint8_t *out) {
     static uint64_t many[MANY];
     size_t count = fill_many(many);
@@ -602,6 +612,8 @@ static const struct export {
     {"plurals_categories_of_integers", categories_of_integers, model_of_many, -1, OF_RULES, 1, {RULES}},
     {"plurals_table_of_rules", table_of_rules, model_of_integer, PLURALS_OTHER, OF_RULES, 1, {RULES}},
     {"plurals_category_by_table", category_by_table, model_of_table, PLURALS_ASK_RULES, OF_TABLE, 1, {TABLE}},
+    {"plurals_text_category_by_table", text_category_by_table, model_of_text_by_table, PLURALS_ASK_RULES, OF_TABLE | OF_UTF8, 2,
+     {TABLE, DIGITS}},
     {"plurals_categories", categories, model_of_categories, 63, OF_RULES, 1, {RULES}},
     {"plurals_ranges_from_document", ranges_from_document, model_of_ranges, -1, OF_MEMORY | OF_UTF8 | OF_TEXT | OF_JSON | OF_DOCUMENT, 2,
      {DOCUMENT, LOCALE}},
@@ -878,6 +890,7 @@ static const struct slice good[KINDS] = {
                      "\6\0\2\0other\1\1\0\1 files\10\0"),
     [NAME] = BYTES("n"),
     [VALUE] = BYTES("1"),
+    [DIGITS] = BYTES("1"),
     [RULE] = BYTES("i = 1 and v = 0"),
     [DOCUMENT] = BYTES("{\"cardinal\":{\"en\":{\"one\":\"i = 1 and v = 0\"}},\"ordinal\":{\"en\":{}},\"ranges\":{\"en\":{\"ranges\":{}}}}"),
     [ELEMENTS_JSON] = BYTES("{\"other\":[0,\"{} items\"],\"one\":[0,\"{} item\"]}"),
@@ -922,6 +935,7 @@ static const struct bad {
     {PACKED, BYTES("\1\0\6\0\0\0"), -125}, {PACKED, BYTES("\1\0\10\0"), -125}, {PACKED, BYTES("\1\0\0\1"), -125},
     {PACKED, BYTES("\1\0\5\0\0\0\0\0\0"), -125},
     {NAME, BYTES("\xff"), -2}, {VALUE, BYTES("\xff"), -2}, {VALUE, BYTES("1\xc3"), -2},
+    {DIGITS, BYTES("\xff"), -2}, {DIGITS, BYTES("1\xc3"), -2},
     {RULE, BYTES("i = 1 or"), -20}, {RULE, BYTES("i = 1 or @integer 1"), -20}, {RULE, BYTES("i = 1 and"), -21}, {RULE, BYTES("i 1"), -22},
     {RULE, BYTES("i % 010 = 1"), -22}, {RULE, BYTES("= 1"), -23}, {RULE, BYTES("i = 1 and or"), -23}, {RULE, BYTES("\ti = 1"), -23},
     {RULE, BYTES("i = "), -24}, {RULE, BYTES("i = 4294967296"), -24}, {RULE, BYTES("i % = 1"), -24}, {RULE, BYTES("@integer 1,"), -24},
@@ -969,7 +983,8 @@ static void try_faults(void) {
                 for (int other = 0; other < BAD; other++) {
                     if (k + 1 == export->slices || bad[other].kind != export->kinds[k + 1]) continue;
                     set_slice(k + 1, bad[other].bytes);
-                    bool is_second = bad[other].fault == PLURALS_UTF8 && bad[b].fault != PLURALS_UTF8 && export->kinds[k] >= RULE;
+                    bool is_second = bad[other].fault == PLURALS_UTF8 && bad[b].fault != PLURALS_UTF8 && export->kinds[k] >= RULE
+                        && export->kinds[k] != TABLE;
                     run_by_hand(is_second ? bad[other].fault : bad[b].fault, NO_BYTES);
                 }
             }

@@ -514,6 +514,22 @@ int64_t model_category_by_table(struct slice table, uint64_t number) {
     return entry > PLURALS_OTHER ? PLURALS_ASK_RULES : entry;
 }
 
+int64_t model_text_category_by_table(struct slice table, struct slice text) {
+    int64_t told = model_category_by_table(table, 0);
+    size_t at = text.length && text.at[0] == '+';
+    uint64_t number = 0;
+    if (told < 0) return told;
+    if (!model_is_utf8(text)) return PLURALS_UTF8;
+    if (at == text.length) return PLURALS_ASK_RULES;
+    for (; at < text.length; at++) {
+        if (text.at[at] < '0' || text.at[at] > '9') return PLURALS_ASK_RULES;
+        uint64_t digit = text.at[at] - (uint64_t)'0';
+        if (number > (UINT64_MAX - digit) / 10) return PLURALS_ASK_RULES;
+        number = 10 * number + digit;
+    }
+    return model_category_by_table(table, number);
+}
+
 int64_t model_category_of_operands(struct slice rules, const uint64_t operands[6]) {
     int64_t fault = model_check_rules(rules);
     struct operands number = {operands[0], operands[1], operands[2], operands[3], operands[4], operands[5]};

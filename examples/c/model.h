@@ -31,6 +31,7 @@ int64_t model_category_of_operands(struct slice rules, const uint64_t operands[6
 int64_t model_category_of_integer(struct slice rules, uint64_t number);
 int64_t model_categories_of_integers(struct slice rules, const uint64_t *numbers, size_t count, uint8_t *out);
 int64_t model_category_by_table(struct slice table, uint64_t number);
+int64_t model_text_category_by_table(struct slice table, struct slice text);
 int64_t model_category(struct slice rules, struct slice number);
 int64_t model_is_exact(struct slice rules, struct slice number);
 int64_t model_sure_category(struct slice rules, struct slice number);

@@ -19,6 +19,7 @@ int32_t __real_plurals_category_of_signed_integer(const uint8_t *, size_t, int64
 int32_t __real_plurals_category_of_operands(const uint8_t *, size_t, uint64_t, size_t, size_t, uint64_t, uint64_t, size_t);
 int32_t __real_plurals_categories(const uint8_t *, size_t);
 int32_t __real_plurals_category_by_table(const uint8_t *, size_t, uint64_t);
+int32_t __real_plurals_text_category_by_table(const uint8_t *, size_t, const char *, size_t);
 int64_t __real_plurals_table_of_rules(const uint8_t *, size_t, uint8_t *, size_t);
 int64_t __real_plurals_categories_of_integers(const uint8_t *, size_t, const uint64_t *, size_t, uint8_t *, size_t);
 int64_t __real_plurals_find_locale(const char *, size_t, const char *, size_t, uint8_t, char *, size_t);
@@ -247,4 +248,10 @@ int64_t __wrap_plurals_packed_format(const uint8_t *cardinal, size_t cardinal_le
     if (bug == 43 && result == PLURALS_PACKED_ORDER) return PLURALS_PACKED_PLACE; /* two faults have one number */
     if (bug == 44 && result > 1 && result <= (int64_t)out_len && out[0] == '-') out[0] = '+'; /* a sign is turned */
     return result;
+}
+
+int32_t __wrap_plurals_text_category_by_table(const uint8_t *table, size_t table_len, const char *text, size_t text_len) {
+    int bug = planted();
+    if (bug == 45 && text_len && text[0] == '-') text++, text_len--; /* a number below 0 is told as its absolute value */
+    return __real_plurals_text_category_by_table(table, table_len, text, text_len);
 }

@@ -38,6 +38,7 @@ static void categories_of_integers(void) {
 }
 static void table_of_rules(void) { result = plurals_table_of_rules(rules, rules_len, out, LONG); }
 static void category_by_table(void) { result = plurals_category_by_table(out, 236, UINT64_MAX); }
+static void text_category_by_table(void) { result = plurals_text_category_by_table(out, 236, number, number_len); }
 static void categories(void) { result = plurals_categories(rules, rules_len); }
 static void ranges(void) { result = plurals_ranges_from_document(text, text_len, "en", 2, out, LONG); }
 static void elements_from_texts(void) {
@@ -77,6 +78,7 @@ static const struct export {
     {"plurals_sure_category", sure_category, false},      {"plurals_is_read_whole", is_read_whole, false},
     {"plurals_table_of_rules", table_of_rules, false},    {"plurals_category_by_table", category_by_table, false},
     {"plurals_categories_of_integers", categories_of_integers, false}, {"plurals_find_locale", find_locale, true},
+    {"plurals_text_category_by_table", text_category_by_table, false},
     {"plurals_pattern_check", pattern_check, false},      {"plurals_pattern_pack", pattern_pack, true},
     {"plurals_pattern_format", pattern_format, true},     {"plurals_packed_format", packed_format, true},
 };

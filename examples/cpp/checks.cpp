@@ -213,6 +213,15 @@ static void patterns() {
     CHECK(plurals::format("{n}", {Argument::text("m", "x")}, *english, *ordinal).fault().text() == "no argument has the name");
 }
 
+static void texts_by_table() {
+    Texts texts;
+    texts.one = "n % 10 = 1";
+    auto table = Rules::from_texts(texts)->table();
+    CHECK(**table.category("1") == Category::one && **table.category("+0071") == Category::one && **table.category("12") == Category::other);
+    CHECK(!*table.category("1.0") && !*table.category("-1") && !*table.category("18446744073709551616"));
+    CHECK(table.category("\xff").fault().number() == PLURALS_UTF8);
+}
+
 static void packed_patterns() {
     using plurals::Argument, plurals::PackedPattern;
     Texts texts;
@@ -253,6 +262,7 @@ int main() {
     elements();
     patterns();
     packed_patterns();
+    texts_by_table();
     std::printf("%d failed\n", failed);
     return failed != 0;
 }

@@ -94,6 +94,7 @@ def _opened() -> ctypes.CDLL:
         "plurals_categories_of_integers": (ctypes.c_int64, [*given, ctypes.POINTER(ctypes.c_uint64), ctypes.c_size_t, *given]),
         "plurals_table_of_rules": (ctypes.c_int64, [*given, *given]),
         "plurals_category_by_table": (ctypes.c_int32, [*given, ctypes.c_uint64]),
+        "plurals_text_category_by_table": (ctypes.c_int32, [*given, *given]),
         "plurals_category_of_operands": (
             ctypes.c_int32,
             [*given, ctypes.c_uint64, ctypes.c_size_t, ctypes.c_size_t, ctypes.c_uint64, ctypes.c_uint64, ctypes.c_size_t],
@@ -342,6 +343,11 @@ class CategoryTable:
         found = cls.__new__(cls)
         found.table = bytes(table)
         return found
+
+    def category_of_text(self, text: str) -> Optional[Category]:
+        """Returns the category of the whole number that a text writes in digits, or None as below, and of any other text."""
+        found = _checked(_library.plurals_text_category_by_table(*_words((self.table, _bytes(text)))))
+        return None if found == _ASK_RULES else Category(_library.plurals_category_name(found).decode())
 
     def category(self, number: int) -> Optional[Category]:
         """Returns the category of an integer, or None where the rules have to be asked, which is nowhere below 128."""

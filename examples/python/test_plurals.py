@@ -301,6 +301,11 @@ def test_patterns():
         assert fault.value.number == number
 
 
+def test_texts_by_table():
+    table = plurals.CategoryTable(Rules.of_locale("ru"))
+    assert [table.category_of_text(text) for text in ("1", "+0022", "5", "1.0", "-1", "", str(2**64))] == ["one", "few", "many", None, None, None, None]
+
+
 def test_packed_patterns():
     text = "{who} sent {n, plural, =0 {no files} one {# file} other {# files}}."
     pattern = plurals.PackedPattern.of_bytes(plurals.PackedPattern(text).block)

@@ -4,13 +4,16 @@
 --     IsToldByTable table n answer      what bytes tell of an integer; if they are a table of
 --         rules, that is the category that the rules choose, or that they are asked, which isn't
 --         told of a number below 128
-use Rattle.std.specs.Prelude.{◌≡◌, ℕ, ◌≤◌, ℤ, pos, List, length, Option, Some, None, MatchOption, Result, Ok, Err}
+--     IsTextToldByTable table text answer      the same of the whole number that a text writes; of
+--         any other text, that the rules are asked
+use Rattle.std.specs.Prelude.{◌≡◌, ◌⊎◌, ℕ, ◌≤◌, ◌<◌, ◌^◌, ℤ, pos, List, length, Option, Some, None, MatchOption, Result, Ok, Err}
+use Rattle.std.specs.Str.Parse.{IsNumeral, digits_value, without_leading_plus}
 use Rattle.icu_plurals.specs.declared.PluralCategory.{PluralCategory}
 use Rattle.icu_plurals.specs.CategoryTables.{IsTableOf, TableTells}
 use Rattle.icu_plurals.specs.FiveRules.{FiveRules, first_category}
 use Rattle.icu_plurals.specs.Operands.{of_whole}
 use Rattle.icu_plurals.specs.PackedTruth.{packed_truth}
-use Rattle.plural_exports.specs.GivenBytes.{ReadsRules}
+use Rattle.plural_exports.specs.GivenBytes.{ReadsRules, ReadsText}
 use Rattle.plural_exports.specs.NumberAnswers.{category_number}
 use Rattle.plural_documents.specs.Steps.{Then}
 use Rattle.plural_exports.specs.declared.fault.Fault.{Fault}
@@ -32,6 +35,29 @@ IsToldOfRules table n told =
 abbrev pub IsToldByTable : List ℕ → ℕ → Result (Option PluralCategory) Fault → Type 0
 IsToldByTable table n (Ok told) = (length table ≡ 236) × TableTells table n told × IsToldOfRules table n told
 IsToldByTable table n (Err fault) = (fault ≡ TableLength) × ¬ (length table ≡ 236)
+
+-- the number that the digits of a text write, before which a plus may stand
+abbrev pub whole_of : List ℕ → ℕ
+whole_of text = digits_value 10 (without_leading_plus text)
+
+-- the text writes a whole number of 64 bits
+abbrev pub WritesWhole : List ℕ → Type 0
+WritesWhole text = IsNumeral 10 (without_leading_plus text) × (whole_of text < 2 ^ 64)
+
+-- what is told of a text: that of the number, if it writes one
+abbrev pub IsToldOfText : List ℕ → List ℕ → Result (Option PluralCategory) Fault → Type 0
+IsToldOfText table text (Ok told) =
+    (WritesWhole text × TableTells table (whole_of text) told × IsToldOfRules table (whole_of text) told)
+    ⊎ (¬ (WritesWhole text) × (told ≡ None))
+IsToldOfText table text (Err fault) = ⊥
+
+-- the bytes are as many as those of a table, or aren't
+abbrev pub ReadsTable : List ℕ → Result (List ℕ) Fault → Type 0
+ReadsTable bytes (Ok table) = (length bytes ≡ 236) × (table ≡ bytes)
+ReadsTable bytes (Err fault) = (fault ≡ TableLength) × ¬ (length bytes ≡ 236)
+
+abbrev pub IsTextToldByTable : List ℕ → List ℕ → Result (Option PluralCategory) Fault → Type 0
+IsTextToldByTable bytes given = Then (ReadsTable bytes) (λ table. Then (ReadsText given) (IsToldOfText table))
 
 -- the number of a category, or 6 if the rules have to be asked
 abbrev pub told_number : Option PluralCategory → ℤ

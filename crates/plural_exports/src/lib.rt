@@ -22,6 +22,7 @@ mod rules;
 mod signed;
 mod sure;
 mod table;
+mod table_text;
 mod whole;
 
 pub use arguments::GivenArgument;
@@ -40,4 +41,5 @@ pub use rules::{check_rules, rules_from_document, rules_from_texts};
 pub use signed::category_of_signed_integer;
 pub use sure::sure_category;
 pub use table::{category_by_table, table_of_rules};
+pub use table_text::text_category_by_table;
 pub use whole::is_read_whole;

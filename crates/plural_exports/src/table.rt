@@ -72,7 +72,7 @@ fn told_by_table(table: &[u8], number: u64) -> Result<Option<PluralCategory>, Fa
 
 // The number of what is told.
 #[inline(always)]
-fn told_number(told: Option<PluralCategory>) -> i32
+pub(crate) fn told_number(told: Option<PluralCategory>) -> i32
     ensures { result ≡ told_number told }
 {
     match told {

@@ -3,7 +3,7 @@
 ghost use Rattle.std.specs.Prelude.{nat_abs};
 ghost use Rattle.plural_exports.specs.NumberAnswers.{AreCategoriesOfIntegers, IsCategoryOfInteger, IsCategoryOfOperands, category_number};
 ghost use Rattle.plural_exports.specs.Results.{Answered, Written};
-ghost use Rattle.plural_exports.specs.TableAnswers.{AreTableFor, IsToldByTable, told_number};
+ghost use Rattle.plural_exports.specs.TableAnswers.{AreTableFor, IsTextToldByTable, IsToldByTable, told_number};
 
 /// Returns the category of an integer, by its number: 0 zero, 1 one, 2 two, 3 few, 4 many, 5 other.
 /// It allocates nothing.
@@ -84,4 +84,16 @@ pub extern "C" fn plurals_category_by_table(table: &[u8], number: u64) -> i32
     ensures { Answered (IsToldByTable table.now number) told_number result }
 {
     plural_exports::category_by_table(table, number)
+}
+
+/// Returns the category that a table has for the whole number that a text writes in digits, with a
+/// plus in front or none, as [`plurals_category_by_table`] returns it; 6 also of any other text. It
+/// allocates nothing.
+///
+/// A fault is negative: the table isn't of 236 bytes, else the text isn't UTF-8.
+#[unsafe(no_mangle)]
+pub extern "C" fn plurals_text_category_by_table(table: &[u8], text: &[u8]) -> i32
+    ensures { Answered (IsTextToldByTable table.now text.now) told_number result }
+{
+    plural_exports::text_category_by_table(table, text)
 }

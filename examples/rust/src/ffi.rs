@@ -42,6 +42,10 @@ mod raw {
         ) -> i64;
         pub fn plurals_table_of_rules(rules: *const u8, rules_len: usize, out: *mut u8, out_len: usize) -> i64;
         pub fn plurals_category_by_table(table: *const u8, table_len: usize, number: u64) -> i32;
+        #[rustfmt::skip]
+        pub fn plurals_text_category_by_table(
+            table: *const u8, table_len: usize, text: *const u8, text_len: usize,
+        ) -> i32;
         pub fn plurals_category(rules: *const u8, rules_len: usize, number: *const u8, number_len: usize) -> i32;
         pub fn plurals_sure_category(rules: *const u8, rules_len: usize, number: *const u8, number_len: usize) -> i32;
         pub fn plurals_is_exact(rules: *const u8, rules_len: usize, number: *const u8, number_len: usize) -> i32;
@@ -162,6 +166,11 @@ pub fn table_of_rules(rules: &[u8]) -> Result<[u8; 236], PluralsError> {
 /// 6 where the rules have to be asked.
 pub fn category_by_table(table: &[u8], number: u64) -> Result<i32, PluralsError> {
     checked(unsafe { raw::plurals_category_by_table(table.as_ptr(), table.len(), number) })
+}
+
+/// 6 also of a text that writes no whole number.
+pub fn text_category_by_table(table: &[u8], text: &str) -> Result<i32, PluralsError> {
+    checked(unsafe { raw::plurals_text_category_by_table(table.as_ptr(), table.len(), text.as_ptr(), text.len()) })
 }
 
 pub fn category(rules: &[u8], number: &str) -> Result<i32, PluralsError> {

@@ -41,6 +41,22 @@ impl CategoryTable {
         let found = ffi::category_by_table(&self.bytes, number).unwrap_or_else(|error| panic!("{error}"));
         PluralCategory::all().find(|it| *it as i32 == found)
     }
+
+    /// The same of the whole number that a text writes in digits; `None` also of any other text.
+    ///
+    /// ```
+    /// use plurals::PluralCategory;
+    ///
+    /// let table = plurals::PluralRules::try_new_cardinal(plurals::CLDR, "ru")?.to_table();
+    /// assert_eq!(table.category_for_text("+0022"), Some(PluralCategory::Few));
+    /// assert_eq!(table.category_for_text("22.0"), None);
+    /// # Ok::<(), plurals::PluralsError>(())
+    /// ```
+    pub fn category_for_text(&self, text: &str) -> Option<PluralCategory> {
+        // The length is right, and the text is UTF-8, so there is no fault.
+        let found = ffi::text_category_by_table(&self.bytes, text).unwrap_or_else(|error| panic!("{error}"));
+        PluralCategory::all().find(|it| *it as i32 == found)
+    }
 }
 
 impl TryFrom<&[u8]> for CategoryTable {

@@ -12,6 +12,7 @@ pub fn make(kind: &str, call: &mut Call) -> bool {
         "exported_operands" => operands(call),
         "exported_number" => number(call),
         "exported_by_table" => by_table(call),
+        "exported_text_by_table" => text_by_table(call),
         "exported_whole" => whole(call),
         "exported_check" => check(call),
         _ => return false,
@@ -101,6 +102,16 @@ fn by_table(call: &mut Call) {
         let number = call.number_of(value);
         call.separate(" ");
         call.print_value(&plural_exports::category_by_table(&table, number));
+    }
+}
+
+// What a table tells of each text.
+fn text_by_table(call: &mut Call) {
+    let table = call.bytes();
+    for value in &call.list() {
+        let text = given_of(call, value);
+        call.separate(" ");
+        call.print_value(&plural_exports::text_category_by_table(&table, &text));
     }
 }
 
