@@ -34,6 +34,15 @@ static void null_with_length_0(void) {
     CHECK(plurals_message(NULL, 0, NULL, 0, "1", 1, NULL, 0) == PLURALS_ELEMENTS_EMPTY);
 }
 
+/* Gives a null number a, the text x as b, 1.5 as n and a null text s, with null arguments between the first two. */
+static void give(struct plurals_argument *given, size_t count) {
+    for (size_t k = 0; k < count; k++) given[k] = (struct plurals_argument){NULL, 0, NULL, 0, PLURALS_TEXT};
+    given[0] = (struct plurals_argument){"a", 1, NULL, 0, PLURALS_NUMBER};
+    given[count - 3] = (struct plurals_argument){"b", 1, "x", 1, PLURALS_TEXT};
+    given[count - 2] = (struct plurals_argument){"n", 1, "1.5", 3, PLURALS_NUMBER};
+    given[count - 1] = (struct plurals_argument){"s", 1, NULL, 0, PLURALS_TEXT};
+}
+
 /* A pattern with many arguments, of which some are null: few are copied where the call stands, more are copied to memory. */
 static void patterns(void) {
     const char *one = "i = 1", *pattern = "{a}{b}{n, plural, one {#} other {}}{s, select, other {.}}";
@@ -45,11 +54,7 @@ static void patterns(void) {
     CHECK(plurals_pattern_format(NULL, 0, NULL, 0, "{", 1, NULL, 0, NULL, 0) == PLURALS_PATTERN_UNCLOSED);
     CHECK(plurals_pattern_format(NULL, 0, rules, 1, "{", 1, NULL, 0, NULL, 0) == PLURALS_RULES_LIST_HEADER);
     for (size_t count = 4; count <= 40; count++) {
-        for (size_t k = 0; k < count; k++) given[k] = (struct plurals_argument){NULL, 0, NULL, 0, PLURALS_TEXT};
-        given[0] = (struct plurals_argument){"a", 1, NULL, 0, PLURALS_NUMBER};
-        given[count - 3] = (struct plurals_argument){"b", 1, "x", 1, PLURALS_TEXT};
-        given[count - 2] = (struct plurals_argument){"n", 1, "1.5", 3, PLURALS_NUMBER};
-        given[count - 1] = (struct plurals_argument){"s", 1, NULL, 0, PLURALS_TEXT};
+        give(given, count);
         memset(out, 77, sizeof out);
         CHECK(plurals_pattern_format(rules, (size_t)length, NULL, 0, pattern, strlen(pattern), given, count, NULL, 0) == 5);
         CHECK(plurals_pattern_format(rules, (size_t)length, NULL, 0, pattern, strlen(pattern), given, count, out, 5) == 5);
@@ -78,11 +83,7 @@ static void packed_patterns(void) {
     CHECK(plurals_packed_format(NULL, 0, NULL, 0, block, (size_t)length, NULL, 0, NULL, 0) == PLURALS_ARGUMENT_MISSING);
     CHECK(plurals_packed_format(NULL, 0, NULL, 0, block, 1, given, SIZE_MAX / sizeof *given, NULL, 0) == PLURALS_PACKED_LIST_HEADER);
     for (size_t count = 4; count <= 40; count++) {
-        for (size_t k = 0; k < count; k++) given[k] = (struct plurals_argument){NULL, 0, NULL, 0, PLURALS_TEXT};
-        given[0] = (struct plurals_argument){"a", 1, NULL, 0, PLURALS_NUMBER};
-        given[count - 3] = (struct plurals_argument){"b", 1, "x", 1, PLURALS_TEXT};
-        given[count - 2] = (struct plurals_argument){"n", 1, "1.5", 3, PLURALS_NUMBER};
-        given[count - 1] = (struct plurals_argument){"s", 1, NULL, 0, PLURALS_TEXT};
+        give(given, count);
         memset(out, 77, sizeof out);
         CHECK(plurals_packed_format(NULL, 0, NULL, 0, block, (size_t)length, given, count, out, 1) == 2 && out[0] == 77);
         CHECK(plurals_packed_format(NULL, 0, NULL, 0, block, (size_t)length, given, count, out, 2) == 2);
