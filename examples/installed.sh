@@ -32,11 +32,14 @@ need() {
     done
 }
 
-# Prints what a command prints, and compares it with the file stdout.
-compare() {
+# Prints what a command prints, and compares it with a file of the examples.
+compare_with() {
+    local file=$1
+    shift
     "$@" | tee "$work/stdout"
-    if ! cmp -s "$work/stdout" "$examples/stdout"; then
-        echo "$name: it isn't what examples/stdout has" >&2
+    if ! cmp -s "$work/stdout" "$examples/$file"; then
+        echo "$name: it isn't what examples/$file has" >&2
         exit 1
     fi
 }
+compare() { compare_with stdout "$@"; }

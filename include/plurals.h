@@ -38,9 +38,9 @@
  *
  * Stack
  *     The calls that read JSON, which are plurals_rules_from_document, plurals_find_locale, plurals_ranges_from_document and
- *     plurals_elements_from_json, and those of patterns but plurals_pattern_check take at most 131072 bytes of stack, which
- *     JSON that is nested 127 deep needs, about 1 KB a level; deeper JSON is refused by PLURALS_JSON. All other calls take
- *     at most 4096 bytes of stack. examples/c/run-stack runs each call with so much; no proof bounds it. It counts what malloc of
+ *     plurals_elements_from_json, and those of patterns and catalogues but plurals_pattern_check and plurals_catalog_check,
+ *     take at most 131072 bytes of stack, which JSON that is nested 127 deep needs, about 1 KB a level; deeper JSON is refused
+ *     by PLURALS_JSON. All other calls take at most 4096 bytes of stack. examples/c/run-stack runs each call with so much; no proof bounds it. It counts what malloc of
  *     glibc takes; it doesn't count what the loader takes where it binds a call at its first use.
  *
  * Threads
@@ -181,7 +181,14 @@ enum plurals_fault {
     PLURALS_PACKING_COUNT_LIMIT = -130, /* it has more than 65535 parts */
     PLURALS_PACKING_PART = -131,        /* the name of an argument with branches has more than 255 bytes */
     PLURALS_PACKING_ORDER = -132,       /* a part stands where it may not; no text has this fault */
-    PLURALS_PACKING_START_LIMIT = -133  /* a part would start after 65535 */
+    PLURALS_PACKING_START_LIMIT = -133, /* a part would start after 65535 */
+
+    /* of a catalogue of messages; a block in it that isn't one of a pattern has the faults above */
+    PLURALS_CATALOG_HEADER = -140, /* the count of messages, or where the keys and blocks end, is cut off */
+    PLURALS_CATALOG_LENGTH = -141, /* the last block doesn't end where the catalogue ends */
+    PLURALS_CATALOG_END = -142,    /* a key or a block ends before it begins */
+    PLURALS_CATALOG_ORDER = -143,  /* a key isn't above the key before it */
+    PLURALS_NO_KEY = -144          /* no message has the key */
 };
 
 /* What an argument of a pattern is. */
@@ -347,6 +354,19 @@ int32_t plurals_pattern_check(const uint8_t *block, size_t block_len);
 int64_t plurals_packed_format(const uint8_t *cardinal, size_t cardinal_len, const uint8_t *ordinal, size_t ordinal_len,
                               const uint8_t *block, size_t block_len, const struct plurals_argument *arguments,
                               size_t arguments_len, char *out, size_t out_len);
+
+/* Returns 0 if the bytes are a catalogue of messages (docs/FORMATS.md), else their fault, which is from PLURALS_CATALOG_HEADER
+ * to PLURALS_CATALOG_ORDER, or that of the first block that isn't one of a pattern. Takes time in proportion to the catalogue.
+ * Allocates nothing. */
+int32_t plurals_catalog_check(const uint8_t *catalog, size_t catalog_len);
+
+/* Writes what the message under a key of a catalogue says, as plurals_packed_format does of its block. The key is looked up
+ * by halves, and its block is checked; no other byte is. So a catalogue is passed to plurals_catalog_check once, before. Of
+ * bytes that are none the call says some block that stands in them, or returns a fault, and reads nothing else. Faults, in the
+ * order in which they are looked for: PLURALS_NO_KEY; those of plurals_packed_format. Allocates as that does. */
+int64_t plurals_catalog_say(const uint8_t *cardinal, size_t cardinal_len, const uint8_t *ordinal, size_t ordinal_len,
+                            const uint8_t *catalog, size_t catalog_len, const char *key, size_t key_len,
+                            const struct plurals_argument *arguments, size_t arguments_len, char *out, size_t out_len);
 
 /* ---- What follows is in the installed library alone, and isn't proved. None of it allocates. */
 

@@ -503,6 +503,34 @@ private:
     Bytes block_;
 };
 
+/* A catalogue of messages (docs/FORMATS.md). The bytes stay the caller's, and live as long as it. */
+class Catalog {
+public:
+    static Result<Catalog> from_bytes(std::string_view bytes) noexcept {
+        std::int32_t found = plurals_catalog_check(reinterpret_cast<const std::uint8_t *>(bytes.data()), bytes.size());
+        if (found < 0) return Fault(found);
+        return Catalog(bytes);
+    }
+
+    /* Returns what the message under a key says, as plurals::format does of its pattern; PLURALS_NO_KEY if there is none. */
+    Result<Bytes> say(std::string_view key, const Argument *arguments, std::size_t count, const Rules &cardinal,
+                      const Rules &ordinal) const noexcept {
+        return Bytes::written([&](std::uint8_t *out, std::size_t room) {
+            return plurals_catalog_say(cardinal.block().data(), cardinal.block().size(), ordinal.block().data(),
+                                       ordinal.block().size(), reinterpret_cast<const std::uint8_t *>(bytes_.data()), bytes_.size(),
+                                       key.data(), key.size(), arguments, count, reinterpret_cast<char *>(out), room);
+        });
+    }
+    Result<Bytes> say(std::string_view key, std::initializer_list<Argument> arguments, const Rules &cardinal,
+                      const Rules &ordinal) const noexcept {
+        return say(key, arguments.begin(), arguments.size(), cardinal, ordinal);
+    }
+
+private:
+    explicit Catalog(std::string_view bytes) noexcept : bytes_(bytes) {}
+    std::string_view bytes_;
+};
+
 }  // namespace plurals
 
 #endif

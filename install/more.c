@@ -99,6 +99,12 @@ const char *plurals_fault_text(int64_t fault) {
     case PLURALS_PACKING_PART: return "the pattern has a name that is too long for a block";
     case PLURALS_PACKING_ORDER: return "the pattern has a part that stands where it may not";
     case PLURALS_PACKING_START_LIMIT: return "the pattern is too long for one block";
+
+    case PLURALS_CATALOG_HEADER: return "the catalogue: its head is cut off";
+    case PLURALS_CATALOG_LENGTH: return "the catalogue has another length";
+    case PLURALS_CATALOG_END: return "the catalogue: a key or a block has a wrong end";
+    case PLURALS_CATALOG_ORDER: return "the catalogue: a key is out of order";
+    case PLURALS_NO_KEY: return "no message has the key";
     default: return NULL;
     }
 }

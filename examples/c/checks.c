@@ -91,6 +91,27 @@ static void packed_patterns(void) {
     }
 }
 
+/* The catalogue of docs/FORMATS.md, with null and many arguments as above. Want of memory for them hides no missing key. */
+static void catalogs(void) {
+    static const uint8_t catalog[] = "\1\0\0\0\2\0\0\0\13\0\0\0hi\1\0\0\0hello";
+    enum { LENGTH = sizeof catalog - 1 };
+    struct plurals_argument given[40];
+    char out[8];
+    CHECK(plurals_catalog_check(catalog, LENGTH) == 0);
+    CHECK(plurals_catalog_check(catalog, LENGTH - 1) == PLURALS_CATALOG_LENGTH);
+    CHECK(plurals_catalog_check(NULL, 0) == PLURALS_CATALOG_HEADER);
+    CHECK(plurals_catalog_say(NULL, 0, NULL, 0, NULL, 0, NULL, 0, NULL, 0, NULL, 0) == PLURALS_NO_KEY);
+    CHECK(plurals_catalog_say(NULL, 0, NULL, 0, catalog, LENGTH, "ho", 2, given, SIZE_MAX / sizeof *given, NULL, 0) == PLURALS_NO_KEY);
+    CHECK(plurals_catalog_say(catalog, 1, NULL, 0, catalog, LENGTH, "hi", 2, given, SIZE_MAX / sizeof *given, NULL, 0) == PLURALS_RULES_LIST_HEADER);
+    for (size_t count = 4; count <= 40; count++) {
+        give(given, count);
+        memset(out, 77, sizeof out);
+        CHECK(plurals_catalog_say(NULL, 0, NULL, 0, catalog, LENGTH, "hi", 2, given, count, out, 4) == 5 && out[0] == 77);
+        CHECK(plurals_catalog_say(NULL, 0, NULL, 0, catalog, LENGTH, "hi", 2, given, count, out, 5) == 5);
+        CHECK(!memcmp(out, "hello", 5) && out[5] == 77);
+    }
+}
+
 static void pattern_of_the_page(void) {
     uint8_t cardinal[64], *ordinal = NULL;
     size_t ordinal_len = 0;
@@ -106,6 +127,13 @@ static void pattern_of_the_page(void) {
     length = plurals_packed_format(cardinal, cardinal_len, ordinal, ordinal_len, block, block_len,
                                    arguments, 2, out, sizeof out);
     CHECK(length == 19 && !memcmp(out, "Ann sent 1.0 files.", 19));
+    uint8_t catalog[256] = {1, 0, 0, 0, 4, 0, 0, 0, (uint8_t)(4 + block_len), 0, 0, 0, 's', 'e', 'n', 't'};
+    size_t catalog_len = 16 + (size_t)block_len;
+    memcpy(catalog + 16, block, (size_t)block_len);
+    int32_t fault = plurals_catalog_check(catalog, catalog_len);
+    length = plurals_catalog_say(cardinal, cardinal_len, ordinal, ordinal_len, catalog, catalog_len, "sent", 4,
+                                 arguments, 2, out, sizeof out);
+    CHECK(fault == 0 && length == 19 && !memcmp(out, "Ann sent 1.0 files.", 19));
 }
 
 /* Eight parameters, of which the compiler passes some in memory. */
@@ -256,6 +284,7 @@ int main(void) {
     null_with_length_0();
     patterns();
     packed_patterns();
+    catalogs();
     pattern_of_the_page();
     operands();
     tables();

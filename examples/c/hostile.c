@@ -72,7 +72,7 @@ struct text {
     size_t length;
 };
 
-enum kind { RULES, ELEMENTS, NUMBER, PATTERN, PACKED, NAME, VALUE, DIGITS, RULE, DOCUMENT, ELEMENTS_JSON, KEYS, LOCALE, CHAINED, TEXT_OF_ELEMENT, TEXT_OF_RULE, TABLE,
+enum kind { RULES, ELEMENTS, NUMBER, PATTERN, PACKED, CATALOG, MESSAGE_KEY, NAME, VALUE, DIGITS, RULE, DOCUMENT, ELEMENTS_JSON, KEYS, LOCALE, CHAINED, TEXT_OF_ELEMENT, TEXT_OF_RULE, TABLE,
             KINDS };
 
 /* Of each kind the good ones, which mistakes are made in. */
@@ -85,6 +85,7 @@ static struct pool {
 static const char *const alphabets[KINDS] = {
     [NUMBER] = "0123456789+-.c",
     [PATTERN] = "{}'#=,: nsm01plural select other",
+    [MESSAGE_KEY] = "abk",
     [NAME] = "nsm01",
     [VALUE] = "0123456789+-.cab",
     [DIGITS] = "0123456789+-",
@@ -142,6 +143,26 @@ static void good_table(struct text *text) {
     for (size_t k = 0; k < text->length; k++) text->bytes[k] = (uint8_t)(k < 8 ? (below(k + 1) || k > 1 ? 0 : next()) : below(7));
 }
 
+static void append_four(struct text *text, size_t number) {
+    for (int k = 0; k < 4 && text->length < MOST_BYTES; k++) text->bytes[text->length++] = (uint8_t)(number >> 8 * k);
+}
+
+/* The catalogue of blocks under these keys, if it isn't too long. */
+static void catalog_of(struct text *text, const char *const *keys, const struct text *blocks, size_t count) {
+    size_t end = 0;
+    text->length = 0;
+    append_four(text, count);
+    for (size_t k = 0; k < count; k++) append_four(text, end += strlen(keys[k])), append_four(text, end += blocks[k].length);
+    if (text->length + end > MOST_BYTES) {
+        text->length = 0;
+        return;
+    }
+    for (size_t k = 0; k < count; k++) {
+        memcpy(text->bytes + text->length, keys[k], strlen(keys[k])), text->length += strlen(keys[k]);
+        memcpy(text->bytes + text->length, blocks[k].bytes, blocks[k].length), text->length += blocks[k].length;
+    }
+}
+
 static void fill_pools(void) {
     static struct text table;
     for (int k = 0; k < 8; k++) good_table(&table), add(TABLE, table.bytes, table.length);
@@ -179,7 +200,11 @@ static void fill_pools(void) {
     for (size_t k = 0; k < pools[PATTERN].count; k++) {
         struct text text = pools[PATTERN].texts[k];
         pack(&text), add(PACKED, text.bytes, text.length);
+        static struct text catalog;
+        catalog_of(&catalog, (const char *const[]){"k"}, &text, 1), add(CATALOG, catalog.bytes, catalog.length);
     }
+    const char *keys[] = {"", "a", "k", "kk"};
+    for (size_t k = 0; k < sizeof keys / sizeof *keys; k++) add_text(MESSAGE_KEY, keys[k]);
     const char *digits[] = {"0", "7", "+12", "00128", "1000000", "18446744073709551615", "18446744073709551616", "1.0", "-1", "+", ""};
     for (size_t k = 0; k < sizeof digits / sizeof *digits; k++) add_text(DIGITS, digits[k]);
     add_text(NAME, "n");
@@ -349,6 +374,20 @@ static void good_elements(struct text *text) {
     append(text, "}");
 }
 
+static void good_catalog(struct text *text) {
+    static const char *const keys[] = {"", "a", "aa", "ab", "b", "k", "ka"};
+    enum { MOST = sizeof keys / sizeof *keys };
+    static struct text blocks[MOST];
+    const char *chosen[MOST];
+    size_t count = 0;
+    for (size_t k = 0; k < MOST; k++) {
+        if (below(2)) continue;
+        blocks[count].length = 0, good_pattern(&blocks[count], 1), pack(&blocks[count]);
+        chosen[count++] = keys[k];
+    }
+    catalog_of(text, chosen, blocks, count);
+}
+
 /* Makes the input good, if there is a way for its kind. */
 static void make_good(enum kind kind, struct text *text) {
     static uint8_t block[MODEL_BYTES];
@@ -358,6 +397,8 @@ static void make_good(enum kind kind, struct text *text) {
     else if (kind == VALUE) append(text, ONE_OF("a", "one", "", "\xc3\xa9"));
     if (kind == PATTERN) good_pattern(text, 3);
     if (kind == PACKED) good_pattern(text, 2), pack(text);
+    if (kind == CATALOG) good_catalog(text);
+    if (kind == MESSAGE_KEY) append(text, ONE_OF("", "a", "ab", "b", "k", "c"));
     if (kind == NAME) append(text, ONE_OF("n", "s", "m", "0"));
     if (kind == DIGITS) append(text, ONE_OF("", "", "+", "00"));
     while (kind == DIGITS && below(4)) append(text, ONE_OF("0", "1", "2", "5", "9", "28"));
@@ -546,6 +587,14 @@ static int64_t packed_format(const struct slice *s, uint8_t *out, size_t room) {
     return plurals_packed_format(BLOCK(0), BLOCK(1), BLOCK(2), arguments_of(s), arguments_len, (char *)out, room);
 }
 
+static int64_t catalog_check(const struct slice *s, uint8_t *out, size_t room) {
+    (void)out, (void)room;
+    return plurals_catalog_check(BLOCK(0));
+}
+static int64_t catalog_say(const struct slice *s, uint8_t *out, size_t room) {
+    return plurals_catalog_say(BLOCK(0), BLOCK(1), BLOCK(2), TEXT(7), arguments_of(s), arguments_len, (char *)out, room);
+}
+
 /* The same by the model. */
 
 static int64_t model_of_document(const struct slice *s, uint8_t *out) { return model_rules_from_document(s[0], s[1], type, out); }
@@ -585,10 +634,15 @@ static int64_t model_of_packed(const struct slice *s, uint8_t *out) {
     return model_packed_format(s[0], s[1], s[2], arguments_of(s), arguments_len, out);
 }
 
+static int64_t model_of_catalog_check(const struct slice *s, uint8_t *out) { return (void)out, model_catalog_check(s[0]); }
+static int64_t model_of_catalog(const struct slice *s, uint8_t *out) {
+    return model_catalog_say(s[0], s[1], s[2], s[7], arguments_of(s), arguments_len, out);
+}
+
 /* Groups of faults, as bits. */
 enum { OF_MEMORY = 1, OF_UTF8 = 2, OF_TYPE = 4, OF_NUMBER = 8, OF_TEXT = 16, OF_RULES = 32, OF_PACKED_RULES = 64, OF_ELEMENTS = 128,
        OF_PACKED_ELEMENTS = 256, OF_JSON = 512, OF_DOCUMENT = 1024, OF_BOUND = 2048, OF_TABLE = 4096, OF_PATTERN = 8192, OF_ARGUMENT = 16384, OF_KEY = 32768,
-       OF_PACKED = 65536, OF_PACKING = 131072 };
+       OF_PACKED = 65536, OF_PACKING = 131072, OF_CATALOG = 262144, OF_NO_KEY = 524288 };
 
 static const struct export {
     const char *name;
@@ -634,6 +688,9 @@ static const struct export {
     {"plurals_pattern_check", pattern_check, model_of_pattern_check, 0, OF_PACKED, 1, {PACKED}},
     {"plurals_packed_format", packed_format, model_of_packed, -1, OF_MEMORY | OF_UTF8 | OF_RULES | OF_PACKED | OF_ARGUMENT, 7,
      {RULES, RULES, PACKED, NAME, VALUE, NAME, VALUE}},
+    {"plurals_catalog_check", catalog_check, model_of_catalog_check, 0, OF_PACKED | OF_CATALOG, 1, {CATALOG}},
+    {"plurals_catalog_say", catalog_say, model_of_catalog, -1, OF_MEMORY | OF_UTF8 | OF_RULES | OF_PACKED | OF_ARGUMENT | OF_NO_KEY, 8,
+     {RULES, RULES, CATALOG, NAME, VALUE, NAME, VALUE, MESSAGE_KEY}},
 };
 enum { EXPORTS = sizeof exports / sizeof *exports };
 
@@ -722,6 +779,11 @@ static struct fault {
     FAULT(PLURALS_PACKING_PART, OF_PACKING),
     FAULT(PLURALS_PACKING_ORDER, OF_PACKING),
     FAULT(PLURALS_PACKING_START_LIMIT, OF_PACKING),
+    FAULT(PLURALS_CATALOG_HEADER, OF_CATALOG),
+    FAULT(PLURALS_CATALOG_LENGTH, OF_CATALOG),
+    FAULT(PLURALS_CATALOG_END, OF_CATALOG),
+    FAULT(PLURALS_CATALOG_ORDER, OF_CATALOG),
+    FAULT(PLURALS_NO_KEY, OF_NO_KEY),
 };
 enum { FAULTS = sizeof faults / sizeof *faults };
 
@@ -766,8 +828,8 @@ static bool is_all(const uint8_t *bytes, size_t count, uint8_t byte) {
     return true;
 }
 
-/* Whether the call says a pattern, or its block, with arguments. */
-static bool has_arguments(void) { return export->ask == pattern_format || export->ask == packed_format; }
+/* Whether the call says a pattern, its block, or one of a catalogue, with arguments. */
+static bool has_arguments(void) { return export->ask == pattern_format || export->ask == packed_format || export->ask == catalog_say; }
 
 /* Asks once, with so much room for the result and the given allocation refused, and checks what is returned and written. */
 static void ask(size_t room, int64_t refuse) {
@@ -779,7 +841,10 @@ static void ask(size_t room, int64_t refuse) {
     bool is_refused = refuse != 0 && asked >= refuse;
     expect(live == 0, "it keeps memory, or frees what isn't its own", result);
     expect(asked == 0 || (export->faults & OF_MEMORY), "it takes memory", result);
-    expect(result == (is_refused ? PLURALS_MEMORY : wanted), "the model returns something else", result);
+    bool is_told = wanted != MODEL_UNTOLD, is_wanted = !is_told || result == wanted;
+    /* A block is said again where memory ran out. */
+    bool is_said_again = is_wanted && (export->ask == packed_format || export->ask == catalog_say);
+    expect(is_refused ? result == PLURALS_MEMORY || is_said_again : is_wanted, "the model returns something else", result);
     size_t written = 0;
     if (result < 0) {
         struct fault *fault = fault_of(result);
@@ -794,7 +859,7 @@ static void ask(size_t room, int64_t refuse) {
         if (export->greatest < 0) written = (uint64_t)result <= room ? (size_t)result : 0;
         else expect(result <= export->greatest, "it is out of range", result);
     }
-    expect(memcmp(out, wanted_bytes, written) == 0, "the model writes something else", result);
+    expect(!is_told || memcmp(out, wanted_bytes, written) == 0, "the model writes something else", result);
     expect(is_all(out + written, room - written, before), "it writes what is no result", result);
     for (int k = 0; k < export->slices; k++)
         expect(memcmp(slices[k].at, inputs[k], slices[k].length) == 0, "it writes to its input", result);
@@ -831,7 +896,7 @@ static void run_slices(void) {
     ask(below(2) ? 0 : below(RANDOM_BYTES + 1), 0);
     expect(asked == taken, "it takes another number of blocks, when asked again", wanted);
     if (taken > 0) ask(RANDOM_BYTES, 1 + (int64_t)below((size_t)taken));
-    if (export->greatest < 0 && wanted >= 0) ask_for_bytes((size_t)wanted);
+    if (export->greatest < 0 && wanted >= 0 && wanted != MODEL_UNTOLD) ask_for_bytes((size_t)wanted);
 }
 
 static void run_case(void) {
@@ -888,6 +953,8 @@ static const struct slice good[KINDS] = {
     [PATTERN] = BYTES("{n, plural, one {# file} other {# files}}"),
     [PACKED] = BYTES("\10\0\24\0\33\0\35\0\44\0\55\0\57\0\67\0\3\0\6\0\0\0\4\0\1\0\4\0\4\0\4\0\4\0\1n\6\0\2\0one\1\1\0\1 file"
                      "\6\0\2\0other\1\1\0\1 files\10\0"),
+    [CATALOG] = BYTES("\1\0\0\0\1\0\0\0\x0a\0\0\0k\1\0\0\0hello"),
+    [MESSAGE_KEY] = BYTES("k"),
     [NAME] = BYTES("n"),
     [VALUE] = BYTES("1"),
     [DIGITS] = BYTES("1"),
@@ -934,6 +1001,7 @@ static const struct bad {
     {PACKED, BYTES("\1\0\6\0"), -124}, {PACKED, BYTES("\1\0\6\0\1\0"), -124}, {PACKED, BYTES("\1\0\7\0\0\0\0\1"), -124},
     {PACKED, BYTES("\1\0\6\0\0\0"), -125}, {PACKED, BYTES("\1\0\10\0"), -125}, {PACKED, BYTES("\1\0\0\1"), -125},
     {PACKED, BYTES("\1\0\5\0\0\0\0\0\0"), -125},
+    {MESSAGE_KEY, BYTES(""), -144}, {MESSAGE_KEY, BYTES("kk"), -144}, {MESSAGE_KEY, BYTES("j"), -144},
     {NAME, BYTES("\xff"), -2}, {VALUE, BYTES("\xff"), -2}, {VALUE, BYTES("1\xc3"), -2},
     {DIGITS, BYTES("\xff"), -2}, {DIGITS, BYTES("1\xc3"), -2},
     {RULE, BYTES("i = 1 or"), -20}, {RULE, BYTES("i = 1 or @integer 1"), -20}, {RULE, BYTES("i = 1 and"), -21}, {RULE, BYTES("i 1"), -22},
@@ -983,8 +1051,9 @@ static void try_faults(void) {
                 for (int other = 0; other < BAD; other++) {
                     if (k + 1 == export->slices || bad[other].kind != export->kinds[k + 1]) continue;
                     set_slice(k + 1, bad[other].bytes);
-                    bool is_second = bad[other].fault == PLURALS_UTF8 && bad[b].fault != PLURALS_UTF8 && export->kinds[k] >= RULE
+                    bool is_late = bad[other].fault == PLURALS_UTF8 && bad[b].fault != PLURALS_UTF8 && export->kinds[k] >= RULE
                         && export->kinds[k] != TABLE;
+                    bool is_second = is_late || bad[other].kind == MESSAGE_KEY;
                     run_by_hand(is_second ? bad[other].fault : bad[b].fault, NO_BYTES);
                 }
             }
@@ -1225,6 +1294,16 @@ static struct slice packed_of(struct slice pattern) {
     return (struct slice){block.bytes, block.length};
 }
 
+/* The catalogue of a short block, under the key k. */
+static struct slice keyed(struct slice bytes) {
+    static const char *const keys[] = {"k"};
+    static struct text block, catalog;
+    block.length = bytes.length;
+    memcpy(block.bytes, bytes.at, bytes.length);
+    catalog_of(&catalog, keys, &block, 1);
+    return (struct slice){catalog.bytes, catalog.length};
+}
+
 static void try_written(void) {
     for (size_t row = 0; row < sizeof written / sizeof *written; row++) {
         export = export_of(written[row].name);
@@ -1234,6 +1313,9 @@ static void try_written(void) {
         if (export->ask != pattern_format) continue;
         export = export_of("plurals_packed_format");
         set_slice(2, packed_of(written[row].slices[2]));
+        run_by_hand((int64_t)written[row].bytes.length, written[row].bytes);
+        export = export_of("plurals_catalog_say");
+        set_slice(2, keyed(packed_of(written[row].slices[2]))), set_slice(7, slice_of("k"));
         run_by_hand((int64_t)written[row].bytes.length, written[row].bytes);
     }
 }
@@ -1252,6 +1334,33 @@ static const struct {
     {"{n}", "1", 2, PLURALS_ARGUMENT_KIND}, {"", "1", UINT32_MAX, PLURALS_ARGUMENT_KIND},
 };
 
+/* Catalogues with their fault, each beginning with the greatest of what is wrong. */
+static const struct {
+    struct slice bytes;
+    int fault;
+} catalogs[] = {
+    {BYTES(""), -140}, {BYTES("\0\0\0"), -140}, {BYTES("\1\0\0\0"), -140}, {BYTES("\xff\xff\xff\xff\0\0\0\0"), -140}, {BYTES("\0\0\0\0\0"), -141},
+    {BYTES("\1\0\0\0\1\0\0\0\0\0\0\1k"), -141}, {BYTES("\1\0\0\0\2\0\0\0\1\0\0\0k"), -142},
+    {BYTES("\2\0\0\0\1\0\0\0\0\0\0\0\0\0\0\0\0\0\0\0"), -142},
+    {BYTES("\2\0\0\0\0\0\0\0\0\0\0\0\0\0\0\0\0\0\0\0"), -143}, {BYTES("\2\0\0\0\1\0\0\0\1\0\0\0\2\0\0\0\2\0\0\0ba"), -143},
+    {BYTES("\2\0\0\0\1\0\0\0\2\0\0\0\3\0\0\0\3\0\0\0a\1b"), -120},
+};
+
+static void try_catalogs(void) {
+    export = export_of("plurals_catalog_check");
+    for (size_t row = 0; row < sizeof catalogs / sizeof *catalogs; row++) set_slice(0, catalogs[row].bytes), run_by_hand(catalogs[row].fault, NO_BYTES);
+    for (int b = 0; b < BAD; b++) {
+        if (bad[b].kind != PACKED) continue;
+        export = export_of("plurals_catalog_check");
+        set_slice(0, keyed(bad[b].bytes)), run_by_hand(bad[b].fault, NO_BYTES);
+        export = export_of("plurals_catalog_say");
+        set_good();
+        set_slice(2, keyed(bad[b].bytes)), run_by_hand(bad[b].fault, NO_BYTES);
+        set_slice(0, slice_of("\1")), run_by_hand(PLURALS_RULES_LIST_HEADER, NO_BYTES);
+        set_slice(7, NO_BYTES), run_by_hand(PLURALS_NO_KEY, NO_BYTES);
+    }
+}
+
 static void try_arguments(void) {
     export = export_of("plurals_pattern_format");
     for (size_t row = 0; row < sizeof uses / sizeof *uses; row++) {
@@ -1263,6 +1372,8 @@ static void try_arguments(void) {
         export = export_of("plurals_packed_format");
         set_slice(2, packed_of(slice_of(uses[row].pattern))), run_by_hand(uses[row].fault, NO_BYTES);
         set_slice(2, slice_of("\1")), run_by_hand(PLURALS_PACKED_LIST_HEADER, NO_BYTES);
+        export = export_of("plurals_catalog_say");
+        set_slice(2, keyed(packed_of(slice_of(uses[row].pattern)))), set_slice(7, slice_of("k")), run_by_hand(uses[row].fault, NO_BYTES);
         export = export_of("plurals_pattern_format");
     }
 }
@@ -1430,6 +1541,7 @@ int main(int count, char **words) {
     try_wholes();
     try_written();
     try_keys();
+    try_catalogs();
     try_arguments();
     try_limits();
     expect_each_fault();

@@ -35,6 +35,9 @@ int64_t __real_plurals_message(const uint8_t *, size_t, const uint8_t *, size_t,
 int64_t __real_plurals_pattern_format(const uint8_t *, size_t, const uint8_t *, size_t, const char *, size_t, const struct plurals_argument *,
                                       size_t, char *, size_t);
 int64_t __real_plurals_pattern_pack(const char *, size_t, uint8_t *, size_t);
+int32_t __real_plurals_catalog_check(const uint8_t *, size_t);
+int64_t __real_plurals_catalog_say(const uint8_t *, size_t, const uint8_t *, size_t, const uint8_t *, size_t, const char *, size_t,
+                                   const struct plurals_argument *, size_t, char *, size_t);
 int32_t __real_plurals_pattern_check(const uint8_t *, size_t);
 int64_t __real_plurals_packed_format(const uint8_t *, size_t, const uint8_t *, size_t, const uint8_t *, size_t, const struct plurals_argument *,
                                      size_t, char *, size_t);
@@ -254,4 +257,22 @@ int32_t __wrap_plurals_text_category_by_table(const uint8_t *table, size_t table
     int bug = planted();
     if (bug == 45 && text_len && text[0] == '-') text++, text_len--; /* a number below 0 is told as its absolute value */
     return __real_plurals_text_category_by_table(table, table_len, text, text_len);
+}
+
+int32_t __wrap_plurals_catalog_check(const uint8_t *catalog, size_t catalog_len) {
+    int bug = planted();
+    int32_t result = __real_plurals_catalog_check(catalog, catalog_len);
+    if (bug == 46 && result == PLURALS_CATALOG_ORDER) return 0; /* keys may fall */
+    return result;
+}
+
+int64_t __wrap_plurals_catalog_say(const uint8_t *cardinal, size_t cardinal_len, const uint8_t *ordinal, size_t ordinal_len,
+                                   const uint8_t *catalog, size_t catalog_len, const char *key, size_t key_len,
+                                   const struct plurals_argument *arguments, size_t arguments_len, char *out, size_t out_len) {
+    int bug = planted();
+    if (bug == 47 && key_len > 1) key_len = 1; /* the first byte of a key decides */
+    int64_t result = __real_plurals_catalog_say(cardinal, cardinal_len, ordinal, ordinal_len, catalog, catalog_len, key, key_len, arguments,
+                                                arguments_len, out, out_len);
+    if (bug == 48 && result == PLURALS_NO_KEY) return 0; /* a message that isn't there is empty */
+    return result;
 }

@@ -63,6 +63,14 @@ static void packed_format(void) {
     result = plurals_packed_format(rules, rules_len, rules, rules_len, block, block_len, &argument, 1, (char *)out, LONG);
 }
 
+static uint8_t catalog[2 * LONG];
+static size_t catalog_len;
+static void catalog_check(void) { result = plurals_catalog_check(catalog, catalog_len); }
+static void catalog_say(void) {
+    struct plurals_argument argument = {"n", 1, number, number_len, PLURALS_NUMBER};
+    result = plurals_catalog_say(rules, rules_len, rules, rules_len, catalog, catalog_len, "k", 1, &argument, 1, (char *)out, LONG);
+}
+
 static const struct export {
     const char *name;
     void (*ask)(void);
@@ -81,9 +89,10 @@ static const struct export {
     {"plurals_text_category_by_table", text_category_by_table, false},
     {"plurals_pattern_check", pattern_check, false},      {"plurals_pattern_pack", pattern_pack, true},
     {"plurals_pattern_format", pattern_format, true},     {"plurals_packed_format", packed_format, true},
+    {"plurals_catalog_check", catalog_check, false},      {"plurals_catalog_say", catalog_say, true},
 };
 /* Those of patterns stand at the end. */
-enum { EXPORTS = sizeof exports / sizeof *exports, PATTERNS = EXPORTS - 4 };
+enum { EXPORTS = sizeof exports / sizeof *exports, PATTERNS = EXPORTS - 6 };
 
 /* ---- a call on a thread with so much stack left */
 
@@ -177,6 +186,15 @@ static void try_numbers(void) {
     }
 }
 
+/* The catalogue of the block under the key k. */
+static void make_catalog(void) {
+    const size_t numbers[] = {1, 1, 1 + block_len};
+    catalog_len = 0;
+    for (size_t k = 0; k < 12; k++) catalog[catalog_len++] = (uint8_t)(numbers[k / 4] >> 8 * (k % 4));
+    catalog[catalog_len++] = 'k';
+    memcpy(catalog + catalog_len, block, block_len), catalog_len += block_len;
+}
+
 static void try_patterns(void) {
     static const char *const inner[] = {"#", "{n}", "{n,plural,=1{}one{}other{#}}", "{n,plural,offset:1 =1{}other{#}}", "'{' {m}", "{n, x"};
     for (size_t k = 0; k < sizeof inner / sizeof *inner; k++)
@@ -187,6 +205,7 @@ static void try_patterns(void) {
             text_len += rest;
             int64_t length = plurals_pattern_pack(text, text_len, block, LONG);
             block_len = length < 0 ? 0 : (size_t)length;
+            make_catalog();
             repeat(number, &number_len, "1", "", 0, "");
             for (size_t export = PATTERNS; export < EXPORTS; export++) try_export(&exports[export]);
             repeat(number, &number_len, "-", "9", 32766, ".5");

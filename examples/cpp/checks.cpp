@@ -247,6 +247,18 @@ static void packed_patterns() {
     CHECK(again->format({}, *english, *ordinal)->size() == 0 && moved.block().size() > 0);
 }
 
+static void catalogs() {
+    using plurals::Argument, plurals::Catalog;
+    auto rules = Rules::from_texts({});
+    const std::string_view bytes("\1\0\0\0\2\0\0\0\13\0\0\0hi\1\0\0\0hello", 23);
+    auto catalog = Catalog::from_bytes(bytes);
+    CHECK(catalog->say("hi", {}, *rules, *rules)->view() == "hello");
+    CHECK(catalog->say("hi", {Argument::text("name", "Ann")}, *rules, *rules)->view() == "hello");
+    CHECK(catalog->say("ho", {}, *rules, *rules).fault().number() == PLURALS_NO_KEY);
+    CHECK(Catalog::from_bytes(bytes.substr(1)).fault().number() == PLURALS_CATALOG_HEADER);
+    CHECK(Catalog::from_bytes({}).fault().number() == PLURALS_CATALOG_HEADER);
+}
+
 int main() {
     static_assert(PLURALS_VERSION_MAJOR == 0);
     CHECK(plurals_version() == std::string_view(PLURALS_VERSION));
@@ -262,6 +274,7 @@ int main() {
     elements();
     patterns();
     packed_patterns();
+    catalogs();
     texts_by_table();
     std::printf("%d failed\n", failed);
     return failed != 0;

@@ -19,7 +19,7 @@ from enum import Enum
 from pathlib import Path
 from typing import Any, Iterable, Optional, Union
 
-__all__ = ["Category", "CategoryTable", "Elements", "Fault", "Number", "PackedPattern", "Ranges", "Rules", "Written", "find_locale", "format_pattern", "is_read_whole", "text_of", "version"]
+__all__ = ["Catalog", "Category", "CategoryTable", "Elements", "Fault", "Number", "PackedPattern", "Ranges", "Rules", "Written", "find_locale", "format_pattern", "is_read_whole", "text_of", "version"]
 
 Number = Union[int, float, Decimal, str]
 _HERE = Path(__file__).resolve()
@@ -111,6 +111,8 @@ def _opened() -> ctypes.CDLL:
         "plurals_pattern_pack": (ctypes.c_int64, [*given, *given]),
         "plurals_pattern_check": (ctypes.c_int32, [*given]),
         "plurals_packed_format": (ctypes.c_int64, [*given * 3, ctypes.POINTER(_Argument), ctypes.c_size_t, *given]),
+        "plurals_catalog_check": (ctypes.c_int32, [*given]),
+        "plurals_catalog_say": (ctypes.c_int64, [*given * 4, ctypes.POINTER(_Argument), ctypes.c_size_t, *given]),
         "plurals_category_name": (ctypes.c_char_p, [ctypes.c_int32]),
         "plurals_fault_text": (ctypes.c_char_p, [ctypes.c_int64]),
         "plurals_version": (ctypes.c_char_p, []),
@@ -419,7 +421,7 @@ def format_pattern(pattern: str, cardinal: Rules, ordinal: Optional[Rules] = Non
     >>> format_pattern("{who} has {n, plural, =0 {no files} one {# file} other {# files}}.", english, who="Ann", n=1)
     'Ann has 1 file.'
     """
-    return _said(_library.plurals_pattern_format, _bytes(pattern), cardinal, ordinal, arguments)
+    return _said(_library.plurals_pattern_format, (_bytes(pattern),), cardinal, ordinal, arguments)
 
 
 class PackedPattern:
@@ -448,14 +450,35 @@ class PackedPattern:
 
     def format(self, cardinal: Rules, ordinal: Optional[Rules] = None, /, **arguments: Number) -> str:
         """Returns what it says, as format_pattern does of the pattern's text."""
-        return _said(_library.plurals_packed_format, self.block, cardinal, ordinal, arguments)
+        return _said(_library.plurals_packed_format, (self.block,), cardinal, ordinal, arguments)
 
 
-def _said(export: Any, pattern: bytes, cardinal: Rules, ordinal: Optional[Rules], arguments: dict[str, Number]) -> str:
-    """Returns what a pattern says, of which these are the text or the block."""
+class Catalog:
+    """A catalogue of messages (docs/FORMATS.md).
+
+    >>> catalog = Catalog(b"\\1\\0\\0\\0\\2\\0\\0\\0\\x0b\\0\\0\\0hi\\1\\0\\0\\0hello")
+    >>> catalog.say("hi", Rules.of_locale("en"))
+    'hello'
+    """
+
+    __slots__ = ("block",)
+    block: bytes
+
+    def __init__(self, block: bytes) -> None:
+        """Takes the bytes of a catalogue. Others are a fault."""
+        _checked(_library.plurals_catalog_check(block, len(block)))
+        self.block = bytes(block)
+
+    def say(self, key: str, cardinal: Rules, ordinal: Optional[Rules] = None, /, **arguments: Number) -> str:
+        """Returns what the message under a key says, as format_pattern does of its pattern. That there is none is a fault."""
+        return _said(_library.plurals_catalog_say, (self.block, _bytes(key)), cardinal, ordinal, arguments)
+
+
+def _said(export: Any, pattern: tuple[bytes, ...], cardinal: Rules, ordinal: Optional[Rules], arguments: dict[str, Number]) -> str:
+    """Returns what a pattern says, of which these are the text or the block, or the catalogue and the key."""
     given = [(_bytes(name), _bytes(text_of(value)), _is_text(value)) for name, value in arguments.items()]
     passed = (_Argument * len(given))(*[(name, len(name), value, len(value), kind) for name, value, kind in given])
-    words = _words((cardinal.block, ordinal.block if ordinal is not None else b"", pattern))
+    words = _words((cardinal.block, ordinal.block if ordinal is not None else b"", *pattern))
     return _written(export, *words, passed, len(given)).decode()
 
 

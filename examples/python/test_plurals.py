@@ -324,6 +324,22 @@ def test_packed_patterns():
         assert fault.value.number == number
 
 
+def test_catalogs():
+    block = plurals.PackedPattern("{who} has {n, plural, one {# file} other {# files}}.").block
+    ends = b"\4\0\0\0" + bytes([4 + len(block)]) + b"\0\0\0"
+    catalog = plurals.Catalog(b"\1\0\0\0" + ends + b"has\xff" + block)
+    with pytest.raises(Fault) as fault:
+        catalog.say("has", ENGLISH)
+    assert fault.value.number == -144
+    catalog = plurals.Catalog(catalog.block.replace(b"has\xff", b"has "))
+    assert catalog.say("has ", ENGLISH, who="Ann", n=1) == "Ann has 1 file."
+    assert catalog.say("has ", ENGLISH, None, who="Ann", n=Decimal("1.0")) == "Ann has 1.0 files."
+    for given, number in ((b"", -140), (b"\0\0\0\0\0", -141), (catalog.block[:-1], -141), (catalog.block.replace(b"\1\0\0\0", b"\2\0\0\0", 1), -141)):
+        with pytest.raises(Fault) as fault:
+            plurals.Catalog(given)
+        assert fault.value.number == number
+
+
 def test_byte_0_is_no_end():
     assert Elements('{"other":[0,"a\\u0000b"]}').text(ENGLISH, 1) == "a\0b"
     with pytest.raises(Fault):

@@ -15,7 +15,7 @@ use Rattle.document_formats.specs.declared.code.Code.TheVariants.{WrongSample, N
 
 abbrev pub code_of_text : TextFault → Code
 code_of_text (text.TooLong bytes) = LongText
-code_of_text (text.Unread error) = Unread
+code_of_text (text.Unread kind byte) = Unread
 code_of_text (text.Partly printed) = PartlyRead
 code_of_text text.Order = SampleOrder
 code_of_text text.Condition = Condition

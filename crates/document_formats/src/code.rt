@@ -195,7 +195,7 @@ fn of_text(fault: &TextFault) -> Code
 {
     match fault {
         TextFault::TooLong(_) => Code::LongText,
-        TextFault::Unread(_) => Code::Unread,
+        TextFault::Unread(..) => Code::Unread,
         TextFault::Partly(_) => Code::PartlyRead,
         TextFault::Order => Code::SampleOrder,
         TextFault::Condition => Code::Condition,

@@ -173,7 +173,7 @@ module _ (one : TextsGiveOneAnswer) where
       → IsFoundInCategoryText rules category bytes all → all.faults ≡ []
       → (rule : List PackedRelation) × (rule_of_text bytes ≡ Ok rule)
   text_gives rules category bytes all (inl (long, is)) none = absurd (let e = ap (λ (f : Findings). f.faults) is in cc)
-  text_gives rules category bytes all (inr (short, inl (error, read, is))) none =
+  text_gives rules category bytes all (inr (short, inl (kind, byte, read, faulty, is))) none =
       absurd (let e = ap (λ (f : Findings). f.faults) is in cc)
   text_gives rules category bytes all (inr (short, inr (rule, (reads, (packed, given)), h))) none =
       (packed, sym ((one bytes (Ok packed)).0 given))

@@ -11,7 +11,7 @@ pub(crate) fn fault_copy(alloc: Global, fault: &TextFault) -> Result<TextFault, 
 {
     match fault {
         TextFault::TooLong(bytes) => Ok(TextFault::TooLong(*bytes)),
-        TextFault::Unread(error) => Ok(TextFault::Unread(*error)),
+        TextFault::Unread(kind, byte) => Ok(TextFault::Unread(*kind, *byte)),
         TextFault::Partly(printed) => Ok(TextFault::Partly(rule_copy(alloc, printed)?)),
         TextFault::Order => Ok(TextFault::Order),
         TextFault::Condition => Ok(TextFault::Condition),

@@ -31,6 +31,9 @@ pub record TwoRules : Type 0 where
   pub cardinal : FiveRules
   pub ordinal : FiveRules
 
+abbrev pub both : FiveRules → FiveRules → TwoRules
+both cardinal ordinal = record { cardinal = cardinal; ordinal = ordinal }
+
 -- `{name}` prints the argument as it is given
 abbrev pub shown_value : List ℕ → Option Value → Step
 shown_value name None = Fails Missing name

@@ -8,10 +8,10 @@ ghost use Rattle.message_format.specs.Inner.FormatViews.{IsWithin};
 
 use crate::numbers::Compared;
 use crate::source::{Found, MessageParts, Seen};
+use crate::text_rules::TextRules;
 use crate::walks::first_chosen;
 use fixed_decimal::CompactDecimal;
 use message_pattern::{Part, Piece};
-use plural_base::PluralRules;
 use std::alloc::{AllocError, Global};
 
 // The parts that follow the end of an argument at this depth.
@@ -63,14 +63,14 @@ pub fn has_branch_of_value(
 
 // The branch for a number: the first of its value, else that of the category of the number less the
 // offset, else `other`.
-pub(crate) fn branch_of_number<'p, P: MessageParts<'p>>(
+pub(crate) fn branch_of_number<'p, R: TextRules, P: MessageParts<'p>>(
     alloc: Global,
-    rules: &PluralRules<'_>,
+    rules: &R,
     number: &CompactDecimal,
     less: &CompactDecimal,
     argument: P,
 ) -> Result<Found<P>, AllocError>
-    ensures branch { IfOk result (λ x. IsBranchOfNumber rules.now number.now less.now (branches_at (P.parts argument)) (P.parts x.branch)) }
+    ensures branch { IfOk result (λ x. IsBranchOfNumber (R.rules rules.now) number.now less.now (branches_at (P.parts argument)) (P.parts x.branch)) }
     ensures within { IfOk result (λ x. IsWithin (P.parts argument) (P.parts x.branch) (P.parts x.left)) }
 {
     let Seen { branch, left } = branch_of_value(alloc, number, argument)?;

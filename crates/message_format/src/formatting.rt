@@ -43,6 +43,14 @@ pub fn format<'p>(
         Ok(said) => said,
         Err(_) => return Err(FormatError::Memory),
     };
-    say(alloc, arguments, rules, b"", pattern.parts(), &mut said)?;
+    say(
+        alloc,
+        arguments,
+        rules.cardinal,
+        rules.ordinal,
+        b"",
+        pattern.parts(),
+        &mut said,
+    )?;
     Ok(said)
 }

@@ -16,6 +16,7 @@ mod shown;
 mod sink;
 mod source;
 mod steps;
+mod text_rules;
 mod walks;
 
 pub use arguments::{Argument, Value};
@@ -27,3 +28,4 @@ pub use shown::Shown;
 pub use sink::{Sink, TextLength};
 pub use source::{Chooser, Found, MessageParts, Seen};
 pub use steps::Rules;
+pub use text_rules::TextRules;

@@ -15,9 +15,9 @@ use crate::error::{ArgumentFault, FormatError};
 use crate::numbers::number_of_text;
 use crate::shown::Shown;
 use crate::source::{Found, MessageParts};
+use crate::text_rules::TextRules;
 use fixed_decimal::laws::{numbers_are_read_again, texts_write_one_number};
 use fixed_decimal::{CompactDecimal, DecimalError, UnsignedDecimal};
-use plural_base::PluralRules;
 use std::alloc::Global;
 
 // The offset that digits write.
@@ -33,9 +33,9 @@ fn offset_of(alloc: Global, digits: &[u8]) -> Result<UnsignedDecimal, DecimalErr
 }
 
 // A plural of a number, by the number less an offset.
-fn counted_by<'s, 'p, P: MessageParts<'p>>(
+fn counted_by<'s, 'p, R: TextRules, P: MessageParts<'p>>(
     alloc: Global,
-    rules: &PluralRules<'_>,
+    rules: &R,
     name: &'p [u8],
     offset: &UnsignedDecimal,
     argument: P,
@@ -43,7 +43,7 @@ fn counted_by<'s, 'p, P: MessageParts<'p>>(
 ) -> Result<(Shown<'s>, Found<P>), FormatError<'p>>
     requires number { IsWithinLimit number.now.significand.absolute }
     requires offset { IsWithinLimit offset.now }
-    ensures step { GivesStep P.parts (λ step. (less : SignedNumber) × IsDifference number.now.significand offset.now less × IsCountedBy rules.now name.now (branches_at (P.parts argument)) number.now less step) result }
+    ensures step { GivesStep P.parts (λ step. (less : SignedNumber) × IsDifference number.now.significand offset.now less × IsCountedBy (R.rules rules.now) name.now (branches_at (P.parts argument)) number.now less step) result }
     ensures within { ChoosesWithin P.parts (P.parts argument) result }
 {
     numbers_are_read_again();
@@ -59,16 +59,16 @@ fn counted_by<'s, 'p, P: MessageParts<'p>>(
 }
 
 // A plural of a number, with the digits of an offset.
-fn less<'s, 'p, P: MessageParts<'p>>(
+fn less<'s, 'p, R: TextRules, P: MessageParts<'p>>(
     alloc: Global,
-    rules: &PluralRules<'_>,
+    rules: &R,
     name: &'p [u8],
     digits: &[u8],
     argument: P,
     number: &CompactDecimal,
 ) -> Result<(Shown<'s>, Found<P>), FormatError<'p>>
     requires { IsWithinLimit number.now.significand.absolute }
-    ensures step { GivesStep P.parts (λ step. IsLess rules.now name.now (branches_at (P.parts argument)) digits.now number.now step) result }
+    ensures step { GivesStep P.parts (λ step. IsLess (R.rules rules.now) name.now (branches_at (P.parts argument)) digits.now number.now step) result }
     ensures within { ChoosesWithin P.parts (P.parts argument) result }
 {
     if number.exponent() != 0 {
@@ -81,15 +81,16 @@ fn less<'s, 'p, P: MessageParts<'p>>(
 }
 
 // A plural with an offset, of the text of a number.
-pub(crate) fn counted_less<'s, 'p, P: MessageParts<'p>>(
+#[inline(never)]
+pub(crate) fn counted_less<'s, 'p, R: TextRules, P: MessageParts<'p>>(
     alloc: Global,
-    rules: &PluralRules<'_>,
+    rules: &R,
     name: &'p [u8],
     digits: &[u8],
     argument: P,
     text: &str,
 ) -> Result<(Shown<'s>, Found<P>), FormatError<'p>>
-    ensures step { GivesStep P.parts (λ step. IsCountedLess rules.now name.now (branches_at (P.parts argument)) digits.now text.now step) result }
+    ensures step { GivesStep P.parts (λ step. IsCountedLess (R.rules rules.now) name.now (branches_at (P.parts argument)) digits.now text.now step) result }
     ensures within { ChoosesWithin P.parts (P.parts argument) result }
 {
     match CompactDecimal::from_str(alloc, text) {

@@ -2,7 +2,8 @@
 
 ghost use Rattle.std.specs.Prelude.{ℕ, List};
 ghost use Rattle.message_format.specs.FormatArguments.{arguments_view};
-ghost use Rattle.message_format.specs.Inner.FormatViews.{AreFewer, GivesOutcome, StepsTo, two_rules};
+ghost use Rattle.message_format.specs.FormatSteps.{both};
+ghost use Rattle.message_format.specs.Inner.FormatViews.{AreFewer, GivesOutcome, StepsTo};
 
 use crate::arguments::{Argument, value_named};
 use crate::branches::behind_end;
@@ -10,7 +11,8 @@ use crate::error::FormatError;
 use crate::shown::Shown;
 use crate::sink::Sink;
 use crate::source::MessageParts;
-use crate::steps::{Rules, chosen, shown_value};
+use crate::steps::{chosen, shown_value};
+use crate::text_rules::TextRules;
 use message_pattern::{Part, Piece};
 use std::alloc::Global;
 
@@ -38,28 +40,31 @@ pub trait MessageSteps: Copy {
 
     /// Says the first part, if it is a text, `#` or `{name}`, and returns how the message goes on;
     /// none at its end.
-    fn step<'s, W: Sink>(
+    fn step<'s, R: TextRules, W: Sink>(
         self,
         alloc: Global,
         arguments: &'s [Argument<'s>],
-        rules: &Rules<'_, '_>,
+        cardinal: &R,
+        ordinal: &R,
         hash: &'s [u8],
         said: &mut W,
     ) -> Result<Option<Next<'s, Self>>, Self::Fault>
-        ensures said { (before : List ℕ) → W.IsSaid said.old before → StepsTo parts error (arguments_view arguments.now) (two_rules rules.now) hash.now (parts self) before (W.IsSaid said.new) result }
+        ensures said { (before : List ℕ) → W.IsSaid said.old before → StepsTo parts error (arguments_view arguments.now) (both (R.rules cardinal.now) (R.rules ordinal.now)) hash.now (parts self) before (W.IsSaid said.new) result }
         ensures fewer { AreFewer parts (parts self) result };
 }
 
 /// Makes a step of parts: [`MessageSteps::step`] for each type of parts.
-pub fn step_of<'s, 'p, P: MessageParts<'p>, W: Sink>(
+#[inline(always)]
+pub fn step_of<'s, 'p, R: TextRules, P: MessageParts<'p>, W: Sink>(
     parts: P,
     alloc: Global,
     arguments: &'s [Argument<'s>],
-    rules: &Rules<'_, '_>,
+    cardinal: &R,
+    ordinal: &R,
     hash: &'s [u8],
     said: &mut W,
 ) -> Result<Option<Next<'s, P>>, FormatError<'p>>
-    ensures said { (before : List ℕ) → W.IsSaid said.old before → StepsTo P.parts (λ f. f) (arguments_view arguments.now) (two_rules rules.now) hash.now (P.parts parts) before (W.IsSaid said.new) result }
+    ensures said { (before : List ℕ) → W.IsSaid said.old before → StepsTo P.parts (λ f. f) (arguments_view arguments.now) (both (R.rules cardinal.now) (R.rules ordinal.now)) hash.now (P.parts parts) before (W.IsSaid said.new) result }
     ensures fewer { AreFewer P.parts (P.parts parts) result }
 {
     let Some(found) = parts.first() else {
@@ -90,7 +95,9 @@ pub fn step_of<'s, 'p, P: MessageParts<'p>, W: Sink>(
         }
         Piece::Begin(kind, name, offset) => {
             let value = value_named(name, arguments);
-            let (shown, taken) = chosen(alloc, rules, hash, kind, name, offset, parts, value)?;
+            let (shown, taken) = chosen(
+                alloc, cardinal, ordinal, hash, kind, name, offset, parts, value,
+            )?;
             let rest = behind_end(found.0.depth, taken.left);
             let branch = Some((shown, taken.branch));
             Ok(Some(Next { branch, rest }))
@@ -108,34 +115,44 @@ impl<'l, 'p> MessageSteps for &'l [Part<'p>] {
 
     ghost error = { λ f. f };
 
-    fn step<'s, W: Sink>(
+    fn step<'s, R: TextRules, W: Sink>(
         self,
         alloc: Global,
         arguments: &'s [Argument<'s>],
-        rules: &Rules<'_, '_>,
+        cardinal: &R,
+        ordinal: &R,
         hash: &'s [u8],
         said: &mut W,
     ) -> Result<Option<Next<'s, Self>>, FormatError<'p>> {
-        step_of(self, alloc, arguments, rules, hash, said)
+        step_of(self, alloc, arguments, cardinal, ordinal, hash, said)
     }
 }
 
 /// Says the message at the front of parts, where `#` is a text, behind what was said before.
-pub fn say<'s, S: MessageSteps, W: Sink>(
+pub fn say<'s, R: TextRules, S: MessageSteps, W: Sink>(
     alloc: Global,
     arguments: &'s [Argument<'s>],
-    rules: &Rules<'_, '_>,
+    cardinal: &R,
+    ordinal: &R,
     hash: &'s [u8],
     parts: S,
     said: &mut W,
 ) -> Result<(), S::Fault>
-    ensures { (before : List ℕ) → W.IsSaid said.old before → GivesOutcome S.error (arguments_view arguments.now) (two_rules rules.now) hash.now (S.parts parts) before (W.IsSaid said.new) result }
+    ensures { (before : List ℕ) → W.IsSaid said.old before → GivesOutcome S.error (arguments_view arguments.now) (both (R.rules cardinal.now) (R.rules ordinal.now)) hash.now (S.parts parts) before (W.IsSaid said.new) result }
 {
     let mut left = parts;
-    'parts: while let Some(next) = left.step(alloc, arguments, rules, hash, said)? {
+    'parts: while let Some(next) = left.step(alloc, arguments, cardinal, ordinal, hash, said)? {
         let Next { branch, rest } = next;
         if let Some((shown, branch)) = branch {
-            say(alloc, &*arguments, rules, shown.as_bytes(), branch, said)?;
+            say(
+                alloc,
+                &*arguments,
+                cardinal,
+                ordinal,
+                shown.as_bytes(),
+                branch,
+                said,
+            )?;
         }
         left = rest;
     }

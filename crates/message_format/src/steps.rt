@@ -5,8 +5,8 @@ ghost use Rattle.fixed_decimal.specs.Written.{CompactNumber, WritesCompact};
 ghost use Rattle.message_pattern.specs.PatternParts.{offset_view};
 ghost use Rattle.message_format.specs.FormatBranches.{Equals};
 ghost use Rattle.message_format.specs.FormatParts.{branches_at, AreLeftOf, IsFirst};
-ghost use Rattle.message_format.specs.FormatSteps.{shown_value, selected, IsCounted, IsPlural, IsChoice};
-ghost use Rattle.message_format.specs.Inner.FormatViews.{any_value, GivesStep, GivesText, ChoosesWithin, two_rules};
+ghost use Rattle.message_format.specs.FormatSteps.{both, shown_value, selected, IsCounted, IsPlural, IsChoice};
+ghost use Rattle.message_format.specs.Inner.FormatViews.{any_value, GivesStep, GivesText, ChoosesWithin};
 
 use crate::arguments::Value;
 use crate::branches::branch_of_number;
@@ -15,6 +15,7 @@ use crate::offsets::counted_less;
 use crate::plain::plain_of;
 use crate::shown::Shown;
 use crate::source::{Found, MessageParts};
+use crate::text_rules::TextRules;
 use fixed_decimal::CompactDecimal;
 use fixed_decimal::laws::texts_write_one_number;
 use message_pattern::ArgumentKind;
@@ -46,6 +47,7 @@ pub(crate) fn shown_value<'s, 'p>(
 }
 
 // A select of a value.
+#[inline(always)]
 fn selected<'s, 'p, P: MessageParts<'p>>(
     hash: &'s [u8],
     name: &'p [u8],
@@ -66,14 +68,15 @@ fn selected<'s, 'p, P: MessageParts<'p>>(
 }
 
 // A plural without an offset, of the text of a number, by its digits.
-fn counted_by_digits<'s, 'p, P: MessageParts<'p>>(
+#[inline(never)]
+fn counted_by_digits<'s, 'p, R: TextRules, P: MessageParts<'p>>(
     alloc: Global,
-    rules: &PluralRules<'_>,
+    rules: &R,
     name: &'p [u8],
     argument: P,
     text: &'s str,
 ) -> Result<(Shown<'s>, Found<P>), FormatError<'p>>
-    ensures step { GivesStep P.parts (λ step. IsCounted rules.now name.now (branches_at (P.parts argument)) text.now step) result }
+    ensures step { GivesStep P.parts (λ step. IsCounted (R.rules rules.now) name.now (branches_at (P.parts argument)) text.now step) result }
     ensures within { ChoosesWithin P.parts (P.parts argument) result }
 {
     match CompactDecimal::from_str(alloc, text) {
@@ -87,9 +90,10 @@ fn counted_by_digits<'s, 'p, P: MessageParts<'p>>(
 
 // A plural without an offset, of the text of a number that no branch has the value of, by its
 // category.
-fn counted_by_category<'s, 'p, P: MessageParts<'p>>(
+#[inline(always)]
+fn counted_by_category<'s, 'p, R: TextRules, P: MessageParts<'p>>(
     alloc: Global,
-    rules: &PluralRules<'_>,
+    rules: &R,
     name: &'p [u8],
     argument: P,
     left: P,
@@ -97,7 +101,7 @@ fn counted_by_category<'s, 'p, P: MessageParts<'p>>(
 ) -> Result<(Shown<'s>, Found<P>), FormatError<'p>>
     requires none { (x : CompactNumber) → WritesCompact text.now x → IsFirst (λ s. Equals x s) (branches_at (P.parts argument)) None }
     requires left { AreLeftOf (P.parts argument) (P.parts left) }
-    ensures step { GivesStep P.parts (λ step. IsCounted rules.now name.now (branches_at (P.parts argument)) text.now step) result }
+    ensures step { GivesStep P.parts (λ step. IsCounted (R.rules rules.now) name.now (branches_at (P.parts argument)) text.now step) result }
     ensures within { ChoosesWithin P.parts (P.parts argument) result }
 {
     let category = match rules.category_for_text(alloc, text) {
@@ -109,14 +113,15 @@ fn counted_by_category<'s, 'p, P: MessageParts<'p>>(
 }
 
 // A plural without an offset, of the text of a number.
-fn counted<'s, 'p, P: MessageParts<'p>>(
+#[inline(always)]
+fn counted<'s, 'p, R: TextRules, P: MessageParts<'p>>(
     alloc: Global,
-    rules: &PluralRules<'_>,
+    rules: &R,
     name: &'p [u8],
     argument: P,
     text: &'s str,
 ) -> Result<(Shown<'s>, Found<P>), FormatError<'p>>
-    ensures step { GivesStep P.parts (λ step. IsCounted rules.now name.now (branches_at (P.parts argument)) text.now step) result }
+    ensures step { GivesStep P.parts (λ step. IsCounted (R.rules rules.now) name.now (branches_at (P.parts argument)) text.now step) result }
     ensures within { ChoosesWithin P.parts (P.parts argument) result }
 {
     // A text writes one number at most.
@@ -138,15 +143,16 @@ fn counted<'s, 'p, P: MessageParts<'p>>(
 }
 
 // A plural of a value.
-fn plural<'s, 'p, P: MessageParts<'p>>(
+#[inline(always)]
+fn plural<'s, 'p, R: TextRules, P: MessageParts<'p>>(
     alloc: Global,
-    rules: &PluralRules<'_>,
+    rules: &R,
     name: &'p [u8],
     offset: Option<&'p [u8]>,
     argument: P,
     value: Option<Value<'s>>,
 ) -> Result<(Shown<'s>, Found<P>), FormatError<'p>>
-    ensures step { GivesStep P.parts (λ step. IsPlural rules.now name.now (offset_view offset.entry) (branches_at (P.parts argument)) (any_value value.entry) step) result }
+    ensures step { GivesStep P.parts (λ step. IsPlural (R.rules rules.now) name.now (offset_view offset.entry) (branches_at (P.parts argument)) (any_value value.entry) step) result }
     ensures within { ChoosesWithin P.parts (P.parts argument) result }
 {
     match value {
@@ -160,9 +166,11 @@ fn plural<'s, 'p, P: MessageParts<'p>>(
 }
 
 // What an argument chooses.
-pub(crate) fn chosen<'s, 'p, P: MessageParts<'p>>(
+#[inline(always)]
+pub(crate) fn chosen<'s, 'p, R: TextRules, P: MessageParts<'p>>(
     alloc: Global,
-    rules: &Rules<'_, '_>,
+    cardinal: &R,
+    ordinal: &R,
     hash: &'s [u8],
     kind: ArgumentKind,
     name: &'p [u8],
@@ -170,12 +178,12 @@ pub(crate) fn chosen<'s, 'p, P: MessageParts<'p>>(
     argument: P,
     value: Option<Value<'s>>,
 ) -> Result<(Shown<'s>, Found<P>), FormatError<'p>>
-    ensures step { GivesStep P.parts (λ step. IsChoice (two_rules rules.now) hash.now kind name.now (offset_view offset.entry) (branches_at (P.parts argument)) (any_value value.entry) step) result }
+    ensures step { GivesStep P.parts (λ step. IsChoice (both (R.rules cardinal.now) (R.rules ordinal.now)) hash.now kind name.now (offset_view offset.entry) (branches_at (P.parts argument)) (any_value value.entry) step) result }
     ensures within { ChoosesWithin P.parts (P.parts argument) result }
 {
     match kind {
-        ArgumentKind::Plural => plural(alloc, rules.cardinal, name, offset, argument, value),
-        ArgumentKind::Ordinal => plural(alloc, rules.ordinal, name, offset, argument, value),
+        ArgumentKind::Plural => plural(alloc, cardinal, name, offset, argument, value),
+        ArgumentKind::Ordinal => plural(alloc, ordinal, name, offset, argument, value),
         ArgumentKind::Select => selected(hash, name, argument, value),
     }
 }

@@ -1,16 +1,13 @@
 //! A catalogue, borrowed from the bytes that it is packed in.
 
-ghost use Rattle.std.specs.Prelude.{◌≡◌, ◌≢◌, ◌↔◌, ◌<◌, ◌≤◌, ◌==◌, ℕ, List, length, slice_get, option_map, IfOk, Ok, Err};
-ghost use Rattle.std.specs.Cmp.Lexicographic.{slice_cmp};
-ghost use Rattle.std.specs.declared.cmp.Ordering.TheVariants.{Less};
-ghost use Rattle.std.specs.Ordering.{nat_cmp};
+ghost use Rattle.std.specs.Prelude.{◌≡◌, ◌↔◌, ◌==◌, List, length, slice_get, option_map, IfOk, Ok, Err};
 ghost use Rattle.packed_catalog.specs.CatalogBytes.{CatalogBytes, Entry, value_under};
-ghost use Rattle.packed_catalog.specs.CatalogFaults.{HasFault, count_in, data_in, key_in};
-ghost use Rattle.packed_catalog.specs.Inner.CatalogReading.{IsBlock};
+ghost use Rattle.packed_catalog.specs.CatalogFaults.{HasFault};
 
 use crate::error::CatalogError;
+use crate::finding::find_value;
 use crate::numbers::{count_of, data, number, start_of};
-use crate::reading::{compared, first_bad_end, first_low_key, piece};
+use crate::reading::{first_bad_end, first_low_key, piece};
 use std::marker::Model;
 
 /// Values by key, borrowed from the bytes that they are packed in.
@@ -122,40 +119,6 @@ impl<'a> PackedCatalog<'a> {
     pub fn get(&self, key: &[u8]) -> Option<&'a [u8]>
         ensures { option_map (λ value. value.now) result ≡ value_under key.now self.now }
     {
-        let bytes = self.bytes;
-        let content = data(bytes);
-        let count = number(bytes, 0);
-        let index = first_from(bytes, content, count, key);
-        if index >= count || piece(bytes, content, 2 * index) != key {
-            return None;
-        }
-        Some(piece(bytes, content, 2 * index + 1))
+        find_value(self.bytes, key)
     }
-}
-
-// The place of the first entry whose key isn't below another, or the count of entries.
-fn first_from(bytes: &[u8], content: &[u8], count: usize, key: &[u8]) -> usize
-    requires block { IsBlock bytes.now }
-    requires content { content.now ≡ data_in bytes.now }
-    requires count { count ≡ count_in bytes.now }
-    ensures within { result ≤ count }
-    ensures below { (k : ℕ) → k < result → slice_cmp nat_cmp (key_in bytes.now k) key.now ≡ Less }
-    ensures above { (k : ℕ) → result ≤ k → k < count → slice_cmp nat_cmp (key_in bytes.now k) key.now ≢ Less }
-{
-    let (mut low, mut high) = (0, count);
-    // How many bytes the keys before and from there on have in common with the key.
-    let (mut low_shared, mut high_shared) = (0, 0);
-    while low < high {
-        let middle = low + (high - low) / 2;
-        let other = piece(bytes, content, 2 * middle);
-        let (shared, is_below) = compared(other, key, low_shared.min(high_shared));
-        if is_below {
-            low = middle + 1;
-            low_shared = shared;
-        } else {
-            high = middle;
-            high_shared = shared;
-        }
-    }
-    low
 }

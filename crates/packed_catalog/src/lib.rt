@@ -4,6 +4,7 @@
 mod catalog;
 mod entry;
 mod error;
+mod finding;
 pub mod laws;
 mod numbers;
 mod packing;
@@ -12,4 +13,5 @@ mod reading;
 pub use catalog::PackedCatalog;
 pub use entry::CatalogEntry;
 pub use error::{CatalogError, PackCatalogError};
+pub use finding::find_value;
 pub use packing::pack;

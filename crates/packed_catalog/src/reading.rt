@@ -31,9 +31,8 @@ pub(crate) fn is_below(key: &[u8], other: &[u8]) -> bool
 // How many bytes at the front a key has in common with another, if so many are known to be, and
 // whether it is below the other.
 pub(crate) fn compared(key: &[u8], other: &[u8], known: usize) -> (usize, bool)
-    requires { SharesFront known key.now other.now }
-    ensures shares { SharesFront result.0 key.now other.now }
-    ensures below { IsTrue result.1 ↔ (slice_cmp nat_cmp key.now other.now ≡ Less) }
+    ensures shares { SharesFront known key.now other.now → SharesFront result.0 key.now other.now }
+    ensures below { SharesFront known key.now other.now → IsTrue result.1 ↔ (slice_cmp nat_cmp key.now other.now ≡ Less) }
 {
     let both = key.len().min(other.len());
     for i in known..both {

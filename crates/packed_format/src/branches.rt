@@ -27,18 +27,19 @@ fn branch_of_keyword(
 {
     let mut at = index + 1;
     while let Some(placed) = pattern.placed(at) {
+        let here = at;
         let part = placed.part();
+        at = next_selector(here, &placed, depth);
         if part.depth <= depth {
             let Piece::Branch(selector) = part.piece else {
                 return None;
             };
             if let Selector::Keyword(other) = selector {
                 if other == word {
-                    return Some(at + 1);
+                    return Some(here + 1);
                 }
             }
         }
-        at = next_selector(at, &placed, depth);
     }
     None
 }
@@ -127,6 +128,7 @@ pub(crate) fn first_chosen<C: Chooser>(
             return Ok(None);
         };
         let part = placed.part();
+        next = next_number(at, &placed, depth);
         if part.depth <= depth {
             let Piece::Branch(selector) = part.piece else {
                 return Ok(None);
@@ -139,7 +141,6 @@ pub(crate) fn first_chosen<C: Chooser>(
                 return Ok(Some(at + 1));
             }
         }
-        next = next_number(at, &placed, depth);
     }
     Ok(None)
 }

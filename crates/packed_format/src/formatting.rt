@@ -3,17 +3,19 @@
 ghost use Rattle.std.specs.Prelude.{[], ℕ, List};
 ghost use Rattle.message_format.specs.FormatArguments.{arguments_view};
 ghost use Rattle.message_format.specs.FormatMeaning.{SaysExactly};
+ghost use Rattle.message_format.specs.FormatSteps.{both};
 ghost use Rattle.message_format.specs.Inner.FormatViews.{GivesOutcome, outcome_of, two_rules};
 
 use crate::parts::BlockParts;
 use arrayvec::ArrayVec;
 use message_format::laws::one_outcome;
-use message_format::{Argument, FormatError, Rules, Sink, TextLength, say};
+use message_format::{Argument, FormatError, Rules, Sink, TextLength, TextRules, say};
 use packed_pattern::PackedPattern;
+use plural_base::PreparedRules;
 use std::alloc::Global;
 
 // How many bytes a text has at most that is said once, and then copied.
-const SHORT: usize = 256;
+const SHORT: usize = 240;
 
 /// Says a packed pattern with its arguments, under the rules of a language, behind what was said
 /// before. It reads the block in place: the parts of a branch that isn't chosen aren't read. It
@@ -31,7 +33,29 @@ pub fn say_packed<'a, W: Sink>(
     ensures { (before : List ℕ) → W.IsSaid said.old before
         → GivesOutcome (λ f. f) (arguments_view arguments.now) (two_rules rules.now) [] pattern.now before (W.IsSaid said.new) result }
 {
-    say(alloc, arguments, rules, b"", BlockParts::of(pattern), said)
+    say_by(
+        alloc,
+        pattern,
+        arguments,
+        rules.cardinal,
+        rules.ordinal,
+        said,
+    )
+}
+
+/// Says a packed pattern as [`say_packed`] does, under prepared rules.
+pub fn say_prepared<'a, 'r, W: Sink>(
+    alloc: Global,
+    pattern: &PackedPattern<'a>,
+    arguments: &[Argument<'_>],
+    cardinal: &PreparedRules<'r>,
+    ordinal: &PreparedRules<'r>,
+    said: &mut W,
+) -> Result<(), FormatError<'a>>
+    ensures { (before : List ℕ) → W.IsSaid said.old before
+        → GivesOutcome (λ f. f) (arguments_view arguments.now) (both cardinal.now ordinal.now) [] pattern.now before (W.IsSaid said.new) result }
+{
+    say_by(alloc, pattern, arguments, cardinal, ordinal, said)
 }
 
 /// Returns what a packed pattern says with its arguments, as [`format`](message_format::format) does
@@ -45,32 +69,85 @@ pub fn format_packed<'a>(
 ) -> Result<Vec<u8>, FormatError<'a>>
     ensures { SaysExactly (arguments_view arguments.now) (two_rules rules.now) pattern.now (outcome_of result) }
 {
+    format_by(alloc, pattern, arguments, rules.cardinal, rules.ordinal)
+}
+
+/// Returns what a packed pattern says as [`format_packed`] does, under prepared rules.
+pub fn format_prepared<'a, 'r>(
+    alloc: Global,
+    pattern: &PackedPattern<'a>,
+    arguments: &[Argument<'_>],
+    cardinal: &PreparedRules<'r>,
+    ordinal: &PreparedRules<'r>,
+) -> Result<Vec<u8>, FormatError<'a>>
+    ensures { SaysExactly (arguments_view arguments.now) (both cardinal.now ordinal.now) pattern.now (outcome_of result) }
+{
+    format_by(alloc, pattern, arguments, cardinal, ordinal)
+}
+
+// Says a packed pattern under rules of either form.
+#[inline(always)]
+fn say_by<'a, R: TextRules, W: Sink>(
+    alloc: Global,
+    pattern: &PackedPattern<'a>,
+    arguments: &[Argument<'_>],
+    cardinal: &R,
+    ordinal: &R,
+    said: &mut W,
+) -> Result<(), FormatError<'a>>
+    ensures { (before : List ℕ) → W.IsSaid said.old before
+        → GivesOutcome (λ f. f) (arguments_view arguments.now) (both (R.rules cardinal.now) (R.rules ordinal.now)) [] pattern.now before (W.IsSaid said.new) result }
+{
+    say(
+        alloc,
+        arguments,
+        cardinal,
+        ordinal,
+        b"",
+        BlockParts::of(pattern),
+        said,
+    )
+}
+
+// What a packed pattern says under rules of either form.
+#[inline(always)]
+fn format_by<'a, R: TextRules>(
+    alloc: Global,
+    pattern: &PackedPattern<'a>,
+    arguments: &[Argument<'_>],
+    cardinal: &R,
+    ordinal: &R,
+) -> Result<Vec<u8>, FormatError<'a>>
+    ensures { SaysExactly (arguments_view arguments.now) (both (R.rules cardinal.now) (R.rules ordinal.now)) pattern.now (outcome_of result) }
+{
     one_outcome();
     let mut short = ArrayVec::<u8, SHORT>::new();
-    match say_packed(alloc, pattern, arguments, rules, &mut short) {
+    match say_by(alloc, pattern, arguments, cardinal, ordinal, &mut short) {
         Ok(()) => {
             let mut said = Vec::with_capacity(alloc, short.len())?;
             said.extend_from_slice(short.as_slice())?;
             Ok(said)
         }
-        Err(FormatError::Memory) => format_long(alloc, pattern, arguments, rules),
+        Err(FormatError::Memory) => format_long(alloc, pattern, arguments, cardinal, ordinal),
         Err(fault) => Err(fault),
     }
 }
 
 // The same of a text that may be long: it is said twice, the first time to count its bytes.
-fn format_long<'a>(
+#[inline(never)]
+fn format_long<'a, R: TextRules>(
     alloc: Global,
     pattern: &PackedPattern<'a>,
     arguments: &[Argument<'_>],
-    rules: &Rules<'_, '_>,
+    cardinal: &R,
+    ordinal: &R,
 ) -> Result<Vec<u8>, FormatError<'a>>
-    ensures { SaysExactly (arguments_view arguments.now) (two_rules rules.now) pattern.now (outcome_of result) }
+    ensures { SaysExactly (arguments_view arguments.now) (both (R.rules cardinal.now) (R.rules ordinal.now)) pattern.now (outcome_of result) }
 {
     one_outcome();
     let mut length = TextLength { count: 0 };
-    say_packed(alloc, pattern, arguments, rules, &mut length)?;
+    say_by(alloc, pattern, arguments, cardinal, ordinal, &mut length)?;
     let mut said = Vec::with_capacity(alloc, length.count)?;
-    say_packed(alloc, pattern, arguments, rules, &mut said)?;
+    say_by(alloc, pattern, arguments, cardinal, ordinal, &mut said)?;
     Ok(said)
 }

@@ -6,4 +6,4 @@ mod formatting;
 mod parts;
 mod steps;
 
-pub use formatting::{format_packed, say_packed};
+pub use formatting::{format_packed, format_prepared, say_packed, say_prepared};

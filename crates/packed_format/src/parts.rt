@@ -5,7 +5,7 @@ ghost use Rattle.std.specs.Prelude.{◌≤◌, length};
 use crate::branches::{branch_of_category, branch_of_word, first_chosen};
 use crate::steps::left_place;
 use message_format::{
-    Argument, Chooser, FormatError, Found, MessageParts, MessageSteps, Next, Rules, Seen, Sink,
+    Argument, Chooser, FormatError, Found, MessageParts, MessageSteps, Next, Seen, Sink, TextRules,
     step_of,
 };
 use message_pattern::Part;
@@ -126,14 +126,15 @@ impl<'l, 'a> MessageSteps for BlockParts<'l, 'a> {
     ghost error = { λ f. f };
 
     #[inline(always)]
-    fn step<'s, W: Sink>(
+    fn step<'s, R: TextRules, W: Sink>(
         self,
         alloc: Global,
         arguments: &'s [Argument<'s>],
-        rules: &Rules<'_, '_>,
+        cardinal: &R,
+        ordinal: &R,
         hash: &'s [u8],
         said: &mut W,
     ) -> Result<Option<Next<'s, Self>>, FormatError<'a>> {
-        step_of(self, alloc, arguments, rules, hash, said)
+        step_of(self, alloc, arguments, cardinal, ordinal, hash, said)
     }
 }

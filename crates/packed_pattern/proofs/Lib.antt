@@ -5,3 +5,5 @@ pub mod BlockFaults
 pub mod PartsPacked
 pub mod Joined
 pub mod BehindPlaces
+pub mod PartsAhead
+pub mod PartsWalked

@@ -14,6 +14,7 @@ use crate::parts::ItemParts;
 use crate::placed::PlacedPart;
 use crate::places::places_of;
 use crate::source::PartSource;
+use crate::walk::is_block;
 use message_pattern::{Part, Pattern};
 use packed_list::PackedList;
 use packed_list::laws::read_again;
@@ -87,6 +88,7 @@ impl<'a> PackedPattern<'a> {
     }
 
     /// Returns the number of parts.
+    #[inline]
     pub fn len(&self) -> usize
         ensures { result ≡ length self.now }
     {
@@ -94,6 +96,7 @@ impl<'a> PackedPattern<'a> {
     }
 
     /// Returns the part at a place.
+    #[inline(always)]
     pub fn get(&self, index: usize) -> Option<Part<'a>>
         ensures { option_map part_view result ≡ slice_get self.now index }
     {
@@ -102,7 +105,7 @@ impl<'a> PackedPattern<'a> {
     }
 
     /// Returns the part at a place, with its places.
-    #[inline]
+    #[inline(always)]
     pub fn placed(&self, index: usize) -> Option<PlacedPart<'a>>
         ensures { MatchOption result (slice_get self.now index ≡ None) (λ placed. IsPlaced placed self.now index) }
     {
@@ -139,11 +142,15 @@ fn parts_of<'a>(alloc: Global, list: &PackedList<'a>) -> Result<Vec<Part<'a>>, A
     Ok(parts)
 }
 
-// What is wrong with the first bad item, or else with the order of the parts.
+// What is wrong with the first bad item, or else with the order of the parts. A block is told by one
+// look at each item.
 fn items_fault(list: &PackedList<'_>) -> Option<BlockError>
     requires { length list.now ≤ 65535 }
     ensures { result ≡ items_fault list.now }
 {
+    if is_block(list) {
+        return None;
+    }
     if let Some(fault) = first_fault_of(list) {
         return Some(fault);
     }

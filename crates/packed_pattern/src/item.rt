@@ -81,6 +81,7 @@ fn has_digits(offset: Option<&[u8]>) -> bool
 }
 
 // The kind that a number names.
+#[inline(always)]
 fn kind_in(tag: u8) -> ArgumentKind
     ensures { result ≡ kind_in tag }
 {
@@ -92,6 +93,7 @@ fn kind_in(tag: u8) -> ArgumentKind
 }
 
 // No digits are no offset.
+#[inline(always)]
 fn offset_in(digits: &[u8]) -> Option<&[u8]>
     ensures { offset_view result ≡ offset_in digits.now }
 {
@@ -102,6 +104,7 @@ fn offset_in(digits: &[u8]) -> Option<&[u8]>
 }
 
 // The beginning of an argument.
+#[inline(always)]
 fn begin_in(kind: ArgumentKind, content: &[u8]) -> Piece<'_>
     ensures { piece_view result ≡ begin_in kind content.now }
 {
@@ -115,6 +118,7 @@ fn begin_in(kind: ArgumentKind, content: &[u8]) -> Piece<'_>
 }
 
 // How many places a form has.
+#[inline(always)]
 pub(crate) fn place_count(tag: u8) -> usize
     ensures count { result ≡ place_count tag }
     ensures few { result ≤ 8 }
@@ -128,6 +132,7 @@ pub(crate) fn place_count(tag: u8) -> usize
 }
 
 // The piece of a form in what it has of its own.
+#[inline(always)]
 fn piece_in(tag: u8, own: &[u8]) -> Piece<'_>
     ensures { piece_view result ≡ piece_in tag own.now }
 {
@@ -143,6 +148,7 @@ fn piece_in(tag: u8, own: &[u8]) -> Piece<'_>
 }
 
 // The bytes of the places of a form, as many as there are, and what stands behind them.
+#[inline(always)]
 fn split_places(tag: u8, content: &[u8]) -> (&[u8], &[u8])
     ensures places { result.0.now ≡ take (place_room tag) content.now }
     ensures own { result.1.now ≡ drop (place_room tag) content.now }
@@ -150,14 +156,29 @@ fn split_places(tag: u8, content: &[u8]) -> (&[u8], &[u8])
     content.split_at((2 * place_count(tag)).min(content.len()))
 }
 
+// The piece of a form in what follows the depth. A form without places has no bytes of theirs.
+#[inline(always)]
+fn piece_of(tag: u8, content: &[u8]) -> Piece<'_>
+    ensures { piece_view result ≡ piece_in tag (drop (place_room tag) content.now) }
+{
+    match tag {
+        0 => Piece::Text(content),
+        1 => Piece::Hash,
+        2 => Piece::Argument(content),
+        8 => Piece::End,
+        _ => piece_in(tag, split_places(tag, content).1),
+    }
+}
+
 // The part that an item holds, if it is one.
+#[inline(always)]
 pub(crate) fn part_in(item: &[u8]) -> Part<'_>
     ensures { part_view result ≡ part_in item.now }
 {
     match item {
         [tag, depth, content @ ..] => Part {
             depth: usize::from(*depth),
-            piece: piece_in(*tag, split_places(*tag, content).1),
+            piece: piece_of(*tag, content),
         },
         _ => Part {
             depth: 0,

@@ -1,6 +1,7 @@
 //! Patterns of messages, packed as blocks of bytes that are read in place.
 #![tactic(auto)]
 
+mod ahead;
 mod block;
 mod error;
 mod item;
@@ -12,6 +13,7 @@ mod place_bytes;
 mod placed;
 mod places;
 mod source;
+mod walk;
 
 pub use block::PackedPattern;
 pub use error::{BlockError, PackPatternError};

@@ -32,7 +32,7 @@ impl<'a> Model for PlacedPart<'a> {
 
 impl<'a> PlacedPart<'a> {
     /// Returns the part.
-    #[inline]
+    #[inline(always)]
     pub fn part(&self) -> Part<'a>
         ensures { part_view result ≡ self.now.part }
     {
@@ -40,7 +40,7 @@ impl<'a> PlacedPart<'a> {
     }
 
     /// Returns a place, and 0 if there are fewer.
-    #[inline]
+    #[inline(always)]
     pub fn place(&self, index: usize) -> usize
         ensures place { result ≡ slice_index self.now.places index }
         ensures few { result ≤ 65535 }
@@ -53,7 +53,7 @@ impl<'a> PlacedPart<'a> {
 }
 
 // The number in the pair of bytes at a place, and 0 if there are fewer.
-#[inline]
+#[inline(always)]
 fn number_at(content: &[u8], index: usize) -> usize
     requires { index < 8 }
     ensures number { (count : ℕ) → index < count → result ≡ slice_index (numbers count content.now) index }

@@ -14,11 +14,13 @@ use Rattle.icu_plurals.specs.FiveRules.{five, passes}
 use Rattle.icu_plurals.specs.Lexer.{AreTokensOf, TextReads, TextFaulty}
 use Rattle.icu_plurals.specs.PackedRelations.{PackedRelation}
 use Rattle.icu_plurals.specs.PackedTree.{packed, Packs}
-use Rattle.icu_plurals.specs.Reading.{AnswersExactly}
+use Rattle.icu_plurals.specs.Reading.{AnswersExactly, AnswersUnlessMemory}
 use Rattle.icu_plurals.specs.RuleOfText.{IsPackedFrom}
 use Rattle.icu_plurals.specs.RuleTexts.{IsRefused}
 use Rattle.icu_plurals.specs.Samples.{ReadsCondition, ReadsRule, FaultyRule}
+use Rattle.plural_reference.specs.FaultPlaces.{FaultyRuleAt, TextFaultyAt, TextIsRead}
 use Rattle.plural_reference.specs.PrintingLaws.{ConditionsOfTextsAreSpellable}
+use Rattle.plural_reference.specs.declared.parser.fault.RuleFault.{RuleFault}
 use Rattle.plural_checker.specs.Inner.TextReadings.{HasNoRule, IfRefused, IsReading, IsShortRuleOf}
 use Rattle.plural_checker.specs.LanguageTexts.{is_long}
 use Rattle.plural_checker.specs.TextChecks.{AreRulesIfRead, IsReadAsRule}
@@ -41,12 +43,29 @@ reads_rule text bytes tokens rule is short are few spellable answers =
           (spellable bytes rule.condition (tokens, are, (reads.0, reads.1))) reads.1,
     )
 
--- the tokens have a fault
-pub reads_fault : (text bytes : List ℕ) (tokens : List Token) (kind : ParseError) → bytes ≡ text → is_long text ≡ false
-    → AreTokensOf bytes tokens → AnswersExactly ReadsRule FaultyRule bytes (Err (read.Parse kind)) → IsReading text (Refused kind)
-reads_fault text bytes tokens kind is short are answers =
-    let faulty : TextFaulty FaultyRule text kind = subst (λ b. TextFaulty FaultyRule b kind) is (tokens, are, answers.only tokens are) in
-    (short, inr (kind, faulty, refl))
+-- a text with a fault isn't read
+pub is_not_read : (bytes : List ℕ) (kind : ParseError) → AnswersExactly ReadsRule FaultyRule bytes (Err (read.Parse kind))
+    → ¬ (TextIsRead bytes)
+is_not_read bytes kind answers (rule, (tokens, are, reads)) = by (answers.read tokens rule are reads)
+  where
+    by : AnswersUnlessMemory (Err (read.Parse kind)) (Ok rule) → ⊥
+    by (inl same) = cc
+    by (inr same) = cc
+
+-- tokens with a fault at a place have it
+faulty_there : (tokens rest : List Token) (kind : ParseError) → FaultyRuleAt tokens kind rest → FaultyRule tokens kind
+faulty_there tokens rest kind (inl (place, before, is, waits, has)) = inl (place, before, rest, is, waits, has)
+faulty_there tokens rest kind (inr (c, middle, reads, (place, before, is, waits, has))) =
+    inr (c, middle, reads, (place, before, rest, is, waits, has))
+
+-- a text with this fault
+pub reads_fault : (text bytes : List ℕ) (fault : RuleFault) → bytes ≡ text → is_long text ≡ false
+    → TextFaultyAt bytes fault.kind fault.byte → IsReading text (Refused fault)
+reads_fault text bytes fault is short (tokens, rest, are, faulty, stands) = (
+  short,
+  inr (fault.kind, subst (λ b. TextFaulty FaultyRule b fault.kind) is (tokens, are, faulty_there tokens rest fault.kind faulty), refl),
+  subst (λ b. TextFaultyAt b fault.kind fault.byte) is (tokens, rest, are, faulty, stands),
+)
 
 -- the text is read as the rule's condition
 reads_condition : (text : List ℕ) (rule : tree.Rule) → TextReads ReadsRule text rule → TextReads ReadsCondition text rule.condition

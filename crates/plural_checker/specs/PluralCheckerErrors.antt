@@ -3,8 +3,8 @@ use Rattle.std.specs.Prelude.{ℕ, List, ◌++◌, codes}
 use Rattle.std.specs.Fmt.{decimal}
 use Rattle.icu_plurals.specs.Categories.{name_of}
 use Rattle.icu_plurals.specs.Written.{error_text}
-use Rattle.icu_plurals.specs.RuleOfText.{rule_error_text}
 use Rattle.icu_plurals.specs.Serializer.{sample_range_text}
+use Rattle.plural_reference.specs.PluralReferenceErrors.{parse_error_text}
 use Rattle.plural_checker.specs.declared.fault.Fault.{Fault}
 use Rattle.plural_checker.specs.declared.fault.NumberFault.{NumberFault}
 use Rattle.plural_checker.specs.declared.fault.NumberFault.TheVariants.{Text, Outside, Category}
@@ -34,7 +34,7 @@ sample_fault_text (Number number fault) = number ++ wrong_number_text fault
 
 abbrev pub text_fault_text : TextFault → List ℕ
 text_fault_text (TooLong bytes) = codes "text of " ++ decimal bytes ++ codes " bytes"
-text_fault_text (Unread error) = rule_error_text error
+text_fault_text (Unread kind byte) = parse_error_text kind ++ codes " at byte " ++ decimal byte
 text_fault_text (Partly printed) = codes "read as " ++ printed
 text_fault_text Order = codes "samples out of order"
 text_fault_text Condition = codes "has a condition"

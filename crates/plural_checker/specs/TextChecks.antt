@@ -7,6 +7,7 @@
 use Rattle.std.specs.Prelude.{◌≡◌, ◌≢◌, ◌⊎◌, ℕ, List, [], ◌∷◌, length, filter, Bool, true, false, Option, Some, None, Result, Ok, Err, IsTrue, IsFalse}
 use Rattle.icu_plurals.specs.declared.PluralCategory.{PluralCategory}
 use Rattle.icu_plurals.specs.declared.PluralCategory.TheVariants.{Zero, One, Two, Few, Many, Other}
+use Rattle.icu_plurals.specs.declared.provider.rules.reference.ParseError.{ParseError}
 use Rattle.icu_plurals.specs.declared.provider.rules.reference.Token.{Token}
 use Rattle.icu_plurals.specs.declared.provider.rules.reference.Token.TheVariants as token
 use Rattle.icu_plurals.specs.declared.provider.rules.reference.ast.AndCondition.{AndCondition}
@@ -15,7 +16,7 @@ use Rattle.icu_plurals.specs.declared.provider.rules.reference.ast.SampleList.{S
 use Rattle.icu_plurals.specs.declared.provider.rules.reference.ast.SampleRange.{SampleRange}
 use Rattle.icu_plurals.specs.declared.provider.rules.reference.ast.Samples as samples
 use Rattle.icu_plurals.specs.declared.provider.rules.runtime.ast.RuleError.{RuleError}
-use Rattle.icu_plurals.specs.declared.provider.rules.runtime.ast.RuleError.TheVariants.{Memory}
+use Rattle.icu_plurals.specs.declared.provider.rules.runtime.ast.RuleError.TheVariants.{Memory, Parse}
 use Rattle.icu_plurals.specs.declared.Five.{Five}
 use Rattle.icu_plurals.specs.FiveRules.{FiveRules}
 use Rattle.icu_plurals.specs.Lexer.{AreTokensOf, TextReads}
@@ -24,6 +25,7 @@ use Rattle.icu_plurals.specs.RuleOfText.{TextGives}
 use Rattle.icu_plurals.specs.RuleTexts.{AreRulesOf, IsFirstRefused}
 use Rattle.icu_plurals.specs.Samples.{ReadsRule, TextIsRule}
 use Rattle.icu_plurals.specs.Serializer.{rule_text}
+use Rattle.plural_reference.specs.FaultPlaces.{TextFaultyAt}
 use Rattle.plural_checker.specs.Findings.{Findings, no_findings, fault_alone, FindsBoth, EachFinds, IsReportOfFindings}
 use Rattle.plural_checker.specs.LanguageTexts.{SixTexts, has_long, is_long}
 use Rattle.plural_checker.specs.NumberChecks.{IsCheckedRange}
@@ -128,10 +130,11 @@ condition_findings category groups = no_findings
 abbrev pub IsFoundInCondition : PluralCategory → Rule → Findings → Type 0
 IsFoundInCondition category rule found = found ≡ condition_findings category rule.condition.0
 
--- the text gives no rule; or it gives one, which is checked
+-- the text gives no rule, and has its fault at this byte; or it gives one, which is checked
 abbrev pub IsFoundInRule : Option FiveRules → PluralCategory → List ℕ → Findings → Type 0
 IsFoundInRule rules category text found =
-    ((error : RuleError) × IsReadAsRule text (Err error) × (found ≡ fault_alone (record { category = category; kind = Unread error })))
+    ((kind : ParseError) × (byte : ℕ) × IsReadAsRule text (Err (Parse kind)) × TextFaultyAt text kind byte
+    × (found ≡ fault_alone (record { category = category; kind = Unread kind byte })))
     ⊎ ((rule : Rule) × IsReadAsRule text (Ok rule)
     × FindsBoth (IsFoundInReading category text rule)
     (FindsBoth (IsFoundInCondition category rule) (IsFoundInSamples rules category rule.samples)) found)

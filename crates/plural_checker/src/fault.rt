@@ -8,8 +8,8 @@ ghost use Rattle.plural_checker.specs.PluralCheckerErrors.{sample_fault_text, te
 
 use crate::printed_rule::PrintedRule;
 use icu_plurals::provider::RawPluralCategory;
+use icu_plurals::provider::rules::reference::ParseError;
 use icu_plurals::provider::rules::reference::ast::{DecimalValue, SampleRange};
-use icu_plurals::provider::rules::runtime::ast::RuleError;
 use icu_plurals::{DecimalError, PluralCategory};
 use std::error::Error;
 use std::fmt;
@@ -28,8 +28,8 @@ pub struct Fault {
 pub enum TextFault {
     /// It has this many bytes, more than [`MOST_TEXT_BYTES`](crate::MOST_TEXT_BYTES).
     TooLong(usize),
-    /// It can't be read as a rule. The reason is never out of memory.
-    Unread(RuleError),
+    /// It can't be read as a rule, for this reason, from this byte on, counted from 0.
+    Unread(ParseError, usize),
     /// Part of it isn't read: it has other tokens than the printed text of the rule that was read,
     /// which is kept here.
     Partly(PrintedRule),
@@ -104,7 +104,7 @@ impl fmt::Display for TextFault {
     fn fmt<W: fmt::Write>(&self, f: &mut fmt::Formatter<W>) -> fmt::Result {
         match self {
             TextFault::TooLong(bytes) => write!(f, "text of {bytes} bytes"),
-            TextFault::Unread(error) => write!(f, "{error}"),
+            TextFault::Unread(kind, byte) => write!(f, "{kind} at byte {byte}"),
             TextFault::Partly(printed) => write!(f, "read as {printed}"),
             TextFault::Order => f.write_str("samples out of order"),
             TextFault::Condition => f.write_str("has a condition"),

@@ -3,13 +3,15 @@
 ghost use Rattle.std.specs.Prelude.{◌≡◌, Ok, IfErr, IfOk, IsSomeAnd, Some};
 ghost use Rattle.std.specs.Option.{option_copied};
 ghost use Rattle.icu_plurals.specs.PackedTree.{Packs};
+ghost use Rattle.plural_reference.specs.FaultPlaces.{TextFaultyAt, TextIsRead};
 ghost use Rattle.plural_checker.specs.Inner.TextReadings.{HasNoRule, IfRefused, IsReading, IsShortRuleOf};
 
 use crate::texts::is_long;
 use icu_plurals::provider::rules::reference::ast::Rule;
-use icu_plurals::provider::rules::reference::{Lexer, ParseError, ReadError, parse};
+use icu_plurals::provider::rules::reference::{Lexer, ReadError, parse};
 use icu_plurals::provider::rules::runtime::ast::Rule as PackedRule;
 use plural_reference::laws::printing::conditions_of_texts_are_spellable;
+use plural_reference::{RuleFault, fault_of};
 use std::alloc::{AllocError, Global};
 use std::marker::Model;
 
@@ -19,7 +21,7 @@ pub(crate) enum Reading {
     // Nothing: the text is too long.
     Long,
     // No rule.
-    Refused(ParseError),
+    Refused(RuleFault),
     // This rule.
     Rule(Rule),
 }
@@ -139,7 +141,15 @@ fn reading_of(alloc: Global, text: &str) -> Result<Reading, AllocError>
     conditions_of_texts_are_spellable();
     match parse(alloc, bytes) {
         Ok(rule) => Ok(Reading::Rule(rule)),
-        Err(ReadError::Parse(fault)) => Ok(Reading::Refused(fault)),
+        Err(ReadError::Parse(_)) => Ok(Reading::Refused(fault_in(alloc, bytes)?)),
         Err(ReadError::Memory) => Err(AllocError),
     }
+}
+
+// The fault of a text that isn't read.
+fn fault_in(alloc: Global, text: &[u8]) -> Result<RuleFault, AllocError>
+    requires { ¬ (TextIsRead text.now) }
+    ensures { IfOk result (λ fault. TextFaultyAt text.now fault.kind fault.byte) }
+{
+    Ok(fault_of(alloc, text)?.unwrap())
 }

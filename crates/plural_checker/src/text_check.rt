@@ -17,7 +17,6 @@ use crate::read_text::{ReadText, Reading};
 use crate::report::Report;
 use icu_plurals::provider::rules::reference::Lexer;
 use icu_plurals::provider::rules::reference::ast::{Condition, Rule};
-use icu_plurals::provider::rules::runtime::ast::RuleError;
 use icu_plurals::{PluralCategory, PluralRules};
 use std::alloc::{AllocError, Global};
 
@@ -53,7 +52,7 @@ fn check_text(
             report.add(Fault { category, kind })
         }
         Reading::Refused(fault) => {
-            let kind = TextFault::Unread(RuleError::Parse(*fault));
+            let kind = TextFault::Unread(fault.kind, fault.byte);
             report.add(Fault { category, kind })
         }
         Reading::Rule(rule) => check_rule(alloc, rules, category, text.as_str(), rule, report),

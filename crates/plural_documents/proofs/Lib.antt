@@ -23,3 +23,5 @@ pub mod RulesMeant
 pub mod TokenValues
 pub mod TextValues
 pub mod WalkLemmas
+pub mod KeyLemmas
+pub mod KeyWalks

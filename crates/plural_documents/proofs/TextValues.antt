@@ -1,5 +1,5 @@
 -- The value of a text, by its tokens.
-use Rattle.std.proofs.Common.{◌≡◌, ℕ, ◌<◌, List, [], ◌∷◌, ◌++◌, length, Bool, true, false, ◌&&◌, Option, Some, None, Result, Ok, Err, refl, sym, ap, subst, ◌∙◌, true≢false, arith}
+use Rattle.std.proofs.Common.{◌≡◌, ℕ, ◌<◌, List, [], ◌∷◌, ◌++◌, length, Bool, true, false, ◌&&◌, Option, Some, None, Result, Ok, Err, Vec, Global, map, refl, sym, ap, subst, ◌∙◌, true≢false, arith}
 use Rattle.std.specs.Prelude.{IfOk, is_some, option_and_then, option_map}
 use Rattle.std.specs.List.{list_all}
 use Rattle.std.proofs.lemmas.List.Folds.{list_all-append}
@@ -10,14 +10,15 @@ use Rattle.json.specs.Token.{Token}
 use Rattle.json.specs.Tree.{items_tokens, json_tokens, members_tokens}
 use Rattle.json.proofs.Nesting.{value-depth}
 use Rattle.json.proofs.Unique.Spelling.{value-json_tokens_back}
-use Rattle.plural_documents.specs.Inner.HeldParts.{AreHeld, AreNoTokens, Holds, fits, is_held_name, json_part}
-use Rattle.plural_documents.specs.Inner.HeldTokens.{Held, held_tokens}
+use Rattle.plural_documents.specs.Inner.HeldParts.{AreHeld, AreNoTokens, GivesTokens, Holds, fits, is_held_name, json_part, members_part}
+use Rattle.plural_documents.specs.Inner.HeldTokens.{Held, held_token, held_tokens}
 use Rattle.plural_documents.specs.Inner.OpenBrackets.{Comes, most_open}
 use Rattle.plural_documents.proofs.TokenValues.{value_back}
 use Rattle.json.proofs.OnLiterals.{json_on_literals}
 use Rattle.plural_documents.specs.Inner.OutlineSteps.{IsOutlined}
-use Rattle.plural_documents.specs.Inputs.{json_of}
+use Rattle.plural_documents.specs.Inputs.{json_of, json_tree}
 use Rattle.plural_documents.specs.Outlines.{GivesHeldText, GivesOutline, HeldText, IsOutlineOf, outline, part_by_names}
+use Rattle.plural_documents.specs.declared.held_token.HeldToken.{HeldToken}
 use Rattle.plural_documents.specs.declared.json_text.JsonTextError.{JsonTextError}
 use Rattle.plural_documents.specs.declared.json_text.JsonTextError.TheVariants as fault
 use Rattle.plural_documents.specs.declared.outline.Portion.{Portion}
@@ -26,6 +27,7 @@ use Rattle.plural_documents.proofs.HeldValues.{part_read}
 use Rattle.plural_documents.proofs.OutlinedLemmas.{some_is}
 use Rattle.plural_documents.proofs.JsonTextLemmas.{value_refused, value_there}
 use Rattle.std.specs.Str.{IsUtf8}
+use Rattle.std.proofs.lemmas.Str.{is_utf8-from_IsUtf8}
 use Rattle.std.specs.declared.alloc.AllocError.{AllocError}
 use Rattle.serde_json.specs.View.{view}
 use Rattle.serde_json.specs.declared.value.Value.{Value}
@@ -135,16 +137,47 @@ no_tokens : tokens [] ≡ []
 unfolding json_on_literals
 no_tokens = refl
 
-some_byte : (bytes : List ℕ) → 0 < length (tokens bytes) → 0 < length bytes
+pub some_byte : (bytes : List ℕ) → 0 < length (tokens bytes) → 0 < length bytes
 some_byte [] some = subst (λ (ts : List Token). 0 < length ts) no_tokens some
 some_byte (byte ∷ bytes) some = omega arith
 
 -- why there are no tokens
 pub fault_given : (names : Option (List (List ℕ))) (bytes : List ℕ) (cause : JsonTextError)
-    → (cause ≡ fault.Json → AreNoTokens (tokens bytes))
-    → (cause ≡ fault.Memory → 0 < length (tokens bytes)) → GivesHeldText names bytes (Err cause)
+    → (cause ≡ fault.Json → AreNoTokens (tokens bytes)) → (cause ≡ fault.Memory → 0 < length bytes) → GivesHeldText names bytes (Err cause)
 fault_given names bytes fault.Json none some = value_refused bytes (λ text. not_there bytes (none refl))
-fault_given names bytes fault.Memory none some = some_byte bytes (some refl)
+fault_given names bytes fault.Memory none some = some refl
+
+-- ---- All tokens
+
+all_members : (ms : json.Members) → members_part (is_held_name None) ms ≡ ms
+all_members no_members = refl
+all_members (member k j ms) = ap (λ rest. member k j rest) (all_members ms)
+
+all_held : (j : Json) → json_part (is_held_name None) j ≡ j
+all_held null = refl
+all_held (boolean b) = refl
+all_held (number s) = refl
+all_held (string s) = refl
+all_held (array js) = refl
+all_held (object ms) = ap (λ rest. object rest) (all_members ms)
+
+-- so they are those of the text's value
+tree_there : (text : List ℕ) (ts : List Held) → IsUtf8 text → AreHeld (is_held_name None) (tokens text) ts
+    → (j : Json) × (json_tree text ≡ Some j) × (ts ≡ held_tokens j)
+tree_there text ts utf8 ((j, after, is, nests, done), fit, holds) =
+    let spelled : tokens text ≡ json_tokens j = is ∙ ap (λ us. json_tokens j ++ us) done ∙ none_left (json_tokens j) in
+    let here : tokens text ≡ json_tokens j ++ [] = spelled ∙ sym (none_left (json_tokens j)) in
+    let read : value max_depth (tokens text) ≡ Some (j, []) = ap (value max_depth) here ∙ value_back j max_depth [] nests in
+    (j, rw (is_utf8-from_IsUtf8 text utf8, read) refl, holds j spelled ∙ ap held_tokens (all_held j))
+
+pub tokens_given : (text : List ℕ) (r : Result (Vec HeldToken Global) JsonTextError) → IsUtf8 text
+    → IfOk r (λ ts. AreHeld (is_held_name None) (tokens text) (map held_token ts.items))
+    → (r ≡ Err fault.Json → AreNoTokens (tokens text)) → GivesTokens text r
+tokens_given text (Ok ts) utf8 are none =
+    let found = tree_there text (map held_token ts.items) utf8 are in
+    (found.0, found.1, found.2)
+tokens_given text (Err fault.Json) utf8 are none = value_refused text (λ is. not_there text (none refl))
+tokens_given text (Err fault.Memory) utf8 are none = tt
 
 -- ---- An outline
 

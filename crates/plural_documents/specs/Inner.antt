@@ -4,4 +4,5 @@ pub mod HeldTokens
 pub mod OpenBrackets
 pub mod HeldParts
 pub mod OutlineSteps
+pub mod KeysStanding
 pub mod RulesPlaces

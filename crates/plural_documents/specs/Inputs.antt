@@ -5,14 +5,17 @@
 --     IsRead origin old new result      what was read of the reader when a call has this result
 --     IsPartWritten old new bytes      a beginning of the bytes was written, and nothing else
 --     json_of bytes      the value, if the bytes are a JSON text
-use Rattle.std.specs.Prelude.{◌≡◌, ℕ, ◌+◌, ◌≤◌, ◌<◌, List, length, Option, Some, None, Result, Ok, Err, ⊤, Vec, nat_lt, ◌++◌, if◌then◌else◌}
+--     json_tree bytes      the same with every member of each object
+use Rattle.std.specs.Prelude.{◌≡◌, ℕ, ◌+◌, ◌≤◌, ◌<◌, List, length, Option, Some, None, Result, Ok, Err, ⊤, Vec, nat_lt, ◌++◌, option_and_then, if◌then◌else◌}
 use Rattle.std.specs.Io.KnownBytes.{Consumes, IsAtEnd, Appends}
 use Rattle.std.specs.declared.alloc.Global.{Global}
 use Rattle.plural_documents.specs.declared.input.InputError.{InputError}
 use Rattle.plural_documents.specs.declared.input.InputError.TheVariants.{Read, TooLong, Memory}
 use Rattle.std.specs.Str.{is_utf8}
+use Rattle.json.specs.Json as grammar
+use Rattle.json.specs.Lex.{tokens}
 use Rattle.serde_json.specs.Data.{Data}
-use Rattle.serde_json.specs.Read.{read}
+use Rattle.serde_json.specs.Read.{max_depth, read}
 use Rattle.serde_json.specs.View.{view}
 use Rattle.serde_json.specs.declared.Value.{Value}
 use Rattle.plural_documents.specs.declared.json_text.JsonTextError.{JsonTextError}
@@ -116,6 +119,10 @@ IsPartWritten old new bytes = (taken rest : List ℕ) × (bytes ≡ taken ++ res
 -- the JSON value that the bytes write
 abbrev pub json_of : List ℕ → Option Data
 json_of bytes = if is_utf8 bytes then read bytes else None
+
+-- the same with every member of each object: `json_of` keeps the last of each key
+abbrev pub json_tree : List ℕ → Option grammar.Json
+json_tree bytes = if is_utf8 bytes then option_and_then (λ p. grammar.if_last p.0 p.1) (grammar.value max_depth (tokens bytes)) else None
 
 -- the value, or there is none, or memory ran out, which needs a byte
 abbrev pub GivesJson : List ℕ → Result Value JsonTextError → Type 0

@@ -3,6 +3,8 @@ pub mod PrintedKeys
 pub mod Steps
 -- what is kept of a value
 pub mod Outlines
+-- the keys that stand more than once in an object
+pub mod RepeatedKeys
 -- the lines of a report
 pub mod FirstLines
 pub mod FoundMembers

@@ -1,7 +1,8 @@
 //! The tokens of a JSON text, read once.
 
 ghost use Rattle.std.specs.Prelude.{◌≡◌, ◌==◌, ◌<◌, ◌++◌, [], ◌∷◌, Err, IfOk, OnOk, Some, None, length, map, if◌then◌else◌};
-ghost use Rattle.plural_documents.specs.Inner.HeldParts.{AreHeld, AreNoTokens, given_names, is_held_after, is_held_name, names_view};
+ghost use Rattle.json.specs.Lex.{tokens};
+ghost use Rattle.plural_documents.specs.Inner.HeldParts.{AreHeld, AreNoTokens, GivesTokens, given_names, is_held_after, is_held_name, names_view};
 ghost use Rattle.plural_documents.specs.Inner.HeldTokens.{held_token};
 ghost use Rattle.plural_documents.specs.Outlines.{GivesHeldText, is_named};
 
@@ -65,6 +66,20 @@ impl<'a> JsonTokens<'a> {
     }
 }
 
+// The tokens of a text, with all that they hold.
+pub(crate) fn tokens_of<'a>(
+    alloc: Global,
+    bytes: &'a [u8],
+    scratch: &'a mut Scratch,
+) -> Result<Vec<HeldToken<'a>>, JsonTextError>
+    ensures { GivesTokens bytes.now result }
+{
+    match simdutf8::basic::from_utf8(bytes) {
+        Ok(text) => text_tokens(alloc, None, text, scratch),
+        Err(_) => Err(JsonTextError::Json),
+    }
+}
+
 // Reads a text, and holds the members with these names, if any are given.
 fn read_by<'a>(
     alloc: Global,
@@ -77,16 +92,30 @@ fn read_by<'a>(
     let Ok(text) = simdutf8::basic::from_utf8(bytes) else {
         return Err(JsonTextError::Json);
     };
-    let Ok(mut reader) = Reader::new(text, scratch) else {
-        return Err(JsonTextError::Memory);
-    };
-    match read_tokens(alloc, names, &mut reader) {
+    match text_tokens(alloc, names, text, scratch) {
         Ok(tokens) => Ok(JsonTokens {
             text,
             names,
             tokens,
         }),
         Err(fault) => Err(fault),
+    }
+}
+
+// What is held of the tokens of a text.
+fn text_tokens<'a>(
+    alloc: Global,
+    names: Option<&[&str]>,
+    text: &'a str,
+    scratch: &'a mut Scratch,
+) -> Result<Vec<HeldToken<'a>>, JsonTextError>
+    ensures ok { IfOk result (λ held. AreHeld (is_held_name (given_names names.entry)) (tokens text.now) (map held_token held.items)) }
+    ensures json { result ≡ Err JsonTextError.Json → AreNoTokens (tokens text.now) }
+    ensures memory { result ≡ Err JsonTextError.Memory → 0 < length text.now }
+{
+    match Reader::new(text, scratch) {
+        Ok(mut reader) => read_tokens(alloc, names, &mut reader),
+        Err(_) => Err(JsonTextError::Memory),
     }
 }
 

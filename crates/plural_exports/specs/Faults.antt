@@ -21,13 +21,17 @@ use Rattle.message_format.specs.declared.error.ArgumentFault.{ArgumentFault}
 use Rattle.message_format.specs.declared.error.ArgumentFault.TheVariants as argument
 use Rattle.message_pattern.specs.declared.error.FaultKind.{FaultKind}
 use Rattle.message_pattern.specs.declared.error.FaultKind.TheVariants as pattern
+use Rattle.message_catalog.specs.declared.error.MessageCatalogError.{MessageCatalogError}
+use Rattle.message_catalog.specs.declared.error.MessageCatalogError.TheVariants as messages
+use Rattle.packed_catalog.specs.declared.error.CatalogError.{CatalogError}
+use Rattle.packed_catalog.specs.declared.error.CatalogError.TheVariants as entries
 use Rattle.packed_pattern.specs.declared.error.BlockError.{BlockError}
 use Rattle.packed_pattern.specs.declared.error.BlockError.TheVariants as blocked
 use Rattle.packed_pattern.specs.declared.error.PackPatternError.{PackPatternError}
 use Rattle.packed_pattern.specs.declared.error.PackPatternError.TheVariants as unpacked
 use Rattle.plural_exports.specs.declared.fault.Fault.{Fault}
 use Rattle.plural_exports.specs.declared.fault.Fault.TheVariants.{Memory, Utf8, RuleType, Number, OutsideBound, Text, Rules, RulesLimit, Elements, Json}
-use Rattle.plural_exports.specs.declared.fault.Fault.TheVariants.{Document, Locale, TableLength, Pattern, Argument, ArgumentKind, Packed, Packing}
+use Rattle.plural_exports.specs.declared.fault.Fault.TheVariants.{Document, Locale, TableLength, Pattern, Argument, ArgumentKind, Packed, Packing, Catalog, NoKey}
 
 -- the negative of a number that isn't 0
 abbrev pub minus : ℕ → ℤ
@@ -147,6 +151,18 @@ pattern_packing_number (unpacked.Order place) = minus 132
 pattern_packing_number unpacked.StartLimit = minus 133
 pattern_packing_number unpacked.Memory = memory_number
 
+-- bytes aren't a packed catalogue
+abbrev pub entries_number : CatalogError → ℤ
+entries_number entries.Header = minus 140
+entries_number entries.Length = minus 141
+entries_number (entries.End place) = minus 142
+entries_number (entries.Order place) = minus 143
+
+-- bytes aren't a catalogue of messages; what isn't the block of a pattern has the same numbers as elsewhere
+abbrev pub catalog_number : MessageCatalogError → ℤ
+catalog_number (messages.Catalog fault) = entries_number fault
+catalog_number (messages.Pattern place fault) = pattern_block_number fault
+
 -- the number of a fault
 abbrev pub fault_number : Fault → ℤ
 fault_number Memory = memory_number
@@ -167,3 +183,5 @@ fault_number (Argument fault) = argument_number fault
 fault_number ArgumentKind = minus 115
 fault_number (Packed fault) = pattern_block_number fault
 fault_number (Packing fault) = pattern_packing_number fault
+fault_number (Catalog fault) = catalog_number fault
+fault_number NoKey = minus 144

@@ -3,6 +3,7 @@
 -- themselves, and of the arguments where the pattern uses them.
 --     IsPatternFormatted cardinal ordinal pattern arguments answer      what a text says
 --     IsPackedFormatted cardinal ordinal block arguments answer      what a block says
+--     IsCatalogSaid cardinal ordinal catalog key arguments answer      what the block under a key says, if there is one
 use Rattle.std.specs.Prelude.{ℕ, List, Result, Ok, Err}
 use Rattle.icu_plurals.specs.FiveRules.{FiveRules}
 use Rattle.message_format.specs.FormatArguments.{Argument}
@@ -14,6 +15,7 @@ use Rattle.plural_exports.specs.declared.fault.Fault.{Fault}
 use Rattle.plural_exports.specs.declared.fault.Fault.TheVariants as fault
 use Rattle.plural_exports.specs.GivenArguments.{AreArguments}
 use Rattle.plural_exports.specs.GivenBytes.{ReadsRules}
+use Rattle.plural_exports.specs.GivenCatalogs.{FindsBlock}
 use Rattle.plural_exports.specs.GivenPatterns.{ReadsPatternBlock, ReadsPatternText}
 use Rattle.plural_documents.specs.Steps.{Then}
 
@@ -42,3 +44,7 @@ IsPatternFormatted cardinal ordinal pattern arguments = IsReadAndSaid (ReadsPatt
 
 abbrev pub IsPackedFormatted : List ℕ → List ℕ → List ℕ → List GivenArgument → Result (List ℕ) Fault → Type 0
 IsPackedFormatted cardinal ordinal block arguments = IsReadAndSaid (ReadsPatternBlock block) cardinal ordinal arguments
+
+abbrev pub IsCatalogSaid : List ℕ → List ℕ → List ℕ → List ℕ → List GivenArgument → Result (List ℕ) Fault → Type 0
+IsCatalogSaid cardinal ordinal catalog key arguments =
+    Then (FindsBlock catalog key) (λ block. IsPackedFormatted cardinal ordinal block arguments)

@@ -9,6 +9,7 @@ pub mod GivenElements
 pub mod NumberAnswers
 pub mod GivenArguments
 pub mod GivenPatterns
+pub mod GivenCatalogs
 pub mod FormattedPatterns
 pub mod RulesCategories
 pub mod TableAnswers

@@ -1,9 +1,9 @@
 //! Why an export has no result, and the numbers that tell it.
 
 ghost use Rattle.std.specs.Prelude.{◌≡◌};
-ghost use Rattle.plural_exports.specs.Faults.{argument_number, block_number, decimal_number, elements_number, fault_number, json_number, packed_number, packing_number, parse_number, pattern_block_number, pattern_number, pattern_packing_number, rule_number};
+ghost use Rattle.plural_exports.specs.Faults.{argument_number, block_number, catalog_number, decimal_number, elements_number, entries_number, fault_number, json_number, packed_number, packing_number, parse_number, pattern_block_number, pattern_number, pattern_packing_number, rule_number};
 ghost use Rattle.plural_exports.specs.Inner.Conversions.{decimal_fault, format_fault, json_fault, json_text_fault, rules_pack_fault, pattern_fault, pattern_pack_fault, text_fault};
-ghost use Rattle.plural_exports.specs.declared.fault.Fault.TheVariants.{Elements, Packed, Rules};
+ghost use Rattle.plural_exports.specs.declared.fault.Fault.TheVariants.{Catalog, Elements, Packed, Rules};
 
 use icu_plurals::provider::rules::reference::ParseError;
 use icu_plurals::provider::rules::runtime::ast::{RuleBytesError, RuleError};
@@ -11,8 +11,10 @@ use icu_plurals::{
     DecimalError, ElementsBytesError, ElementsPackError, JsonError, ListError, RulesBytesError,
     RulesPackError,
 };
+use message_catalog::MessageCatalogError;
 use message_format::{ArgumentFault, FormatError};
 use message_pattern::{FaultKind, PatternError};
+use packed_catalog::CatalogError;
 use packed_pattern::{BlockError, PackPatternError};
 use plural_documents::JsonTextError;
 
@@ -55,6 +57,10 @@ pub(crate) enum Fault {
     Packed(BlockError),
     // A pattern can't be packed.
     Packing(PackPatternError),
+    // Bytes aren't a catalogue of messages.
+    Catalog(MessageCatalogError),
+    // No message has the key.
+    NoKey,
 }
 
 impl Fault {
@@ -81,6 +87,8 @@ impl Fault {
             Fault::ArgumentKind => -115,
             Fault::Packed(fault) => pattern_block_number(fault),
             Fault::Packing(fault) => pattern_packing_number(fault),
+            Fault::Catalog(fault) => catalog_number(fault),
+            Fault::NoKey => -144,
         }
     }
 }
@@ -202,6 +210,14 @@ impl From<PackPatternError> for Fault {
             | PackPatternError::StartLimit => Fault::Packing(error),
             PackPatternError::Memory => Fault::Memory,
         }
+    }
+}
+
+impl From<MessageCatalogError> for Fault {
+    ghost from_gives = { λ error fault. fault ≡ Catalog error };
+
+    fn from(error: MessageCatalogError) -> Fault {
+        Fault::Catalog(error)
     }
 }
 
@@ -374,5 +390,27 @@ fn pattern_packing_number(fault: PackPatternError) -> i32
         PackPatternError::Order(_) => -132,
         PackPatternError::StartLimit => -133,
         PackPatternError::Memory => MEMORY,
+    }
+}
+
+// The number of bytes that aren't a packed catalogue.
+fn entries_number(fault: CatalogError) -> i32
+    ensures { result ≡ entries_number fault }
+{
+    match fault {
+        CatalogError::Header => -140,
+        CatalogError::Length => -141,
+        CatalogError::End(_) => -142,
+        CatalogError::Order(_) => -143,
+    }
+}
+
+// The number of bytes that aren't a catalogue of messages.
+fn catalog_number(fault: MessageCatalogError) -> i32
+    ensures { result ≡ catalog_number fault }
+{
+    match fault {
+        MessageCatalogError::Catalog(fault) => entries_number(fault),
+        MessageCatalogError::Pattern(_, fault) => pattern_block_number(fault),
     }
 }

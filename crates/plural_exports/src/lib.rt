@@ -5,6 +5,7 @@
 mod arguments;
 mod block_categories;
 mod buffer;
+mod catalogs;
 mod document;
 mod element_texts;
 mod elements;
@@ -27,6 +28,7 @@ mod whole;
 
 pub use arguments::GivenArgument;
 pub use block_categories::categories;
+pub use catalogs::{catalog_check, catalog_say};
 pub use element_texts::elements_from_texts;
 pub use elements::{element, elements_from_json};
 pub use integers::categories_of_integers;

@@ -79,7 +79,7 @@ fn block_in(bytes: &[u8]) -> Result<PackedPattern<'_>, Fault>
 }
 
 // What the block of a pattern says.
-fn formatted(
+pub(crate) fn formatted(
     alloc: Global,
     cardinal: &[u8],
     ordinal: &[u8],

@@ -2,11 +2,12 @@
 --     WritesOperands text o      an optional `-`; a count; optionally `.` and digits; optionally
 --         `e` and a count
 --     ReadsOperands text r      the result of reading the text
+--     WritesInteger text n      1 to 18 digits alone
 -- A count is digits, which may follow a `+`. All of the integer part is kept, and nothing is moved
 -- by the exponent.
-use Rattle.std.specs.Prelude.{◌≡◌, ◌≢◌, ℕ, ◌<◌, ◌^◌, ◌⊎◌, List, [], ◌++◌, length, codes, Result, Ok, Err}
+use Rattle.std.specs.Prelude.{◌≡◌, ◌≢◌, ℕ, ◌<◌, ◌≤◌, ◌^◌, ◌⊎◌, List, [], ◌++◌, length, codes, Result, Ok, Err}
 use Rattle.fixed_decimal.specs.Digits.{AreDigits, value_of, text_of}
-use Rattle.plural_operands.specs.Operands.{Operands, HasFraction}
+use Rattle.plural_operands.specs.Operands.{Operands, HasFraction, kept_places}
 use Rattle.plural_operands.specs.declared.operands.error.OperandsError.{OperandsError}
 use Rattle.plural_operands.specs.declared.operands.error.OperandsError.TheVariants.{Empty, Invalid}
 
@@ -51,6 +52,17 @@ FailsOperands text Invalid = (text ≢ []) × ((o : Operands) → ¬ (WritesOper
 abbrev pub ReadsOperands : List ℕ → Result Operands OperandsError → Type 0
 ReadsOperands text (Ok o) = WritesOperands text o
 ReadsOperands text (Err e) = FailsOperands text e
+
+-- ---- Integers
+
+-- 1 to 18 digits, which write the number
+pub record WritesInteger (text : List ℕ) (n : ℕ) : Type 0 where
+  pub ds : List ℕ
+  pub digits : AreDigits ds
+  pub some : 0 < length ds
+  pub few : length ds ≤ kept_places
+  pub spelled : text ≡ text_of ds
+  pub value : n ≡ value_of ds
 
 -- ---- The texts that its errors print
 

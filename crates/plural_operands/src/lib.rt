@@ -8,5 +8,5 @@ mod operands;
 mod raw_operands;
 
 pub use operand::Operand;
-pub use operands::{KEPT_LIMIT, KEPT_PLACES, OperandsError, PluralOperands};
+pub use operands::{KEPT_LIMIT, KEPT_PLACES, OperandsError, PluralOperands, integer_of_text};
 pub use raw_operands::RawPluralOperands;

@@ -7,6 +7,7 @@ mod compact_text;
 mod decimals;
 mod error;
 mod fraction;
+mod integer_text;
 mod integers;
 mod kept;
 mod shifted;
@@ -14,6 +15,7 @@ mod short_text;
 mod text;
 
 pub use error::OperandsError;
+pub use integer_text::integer_of_text;
 pub use kept::{KEPT_LIMIT, KEPT_PLACES};
 use std::marker::Model;
 

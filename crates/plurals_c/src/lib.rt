@@ -2,6 +2,7 @@
 //! `plural_exports` that has its name without `plurals_`.
 #![tactic(auto)]
 
+mod catalogs;
 mod integers;
 mod numbers;
 mod patterns;

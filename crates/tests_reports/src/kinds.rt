@@ -14,6 +14,7 @@ mod json_files;
 mod located_findings;
 mod message_reports;
 mod noted_documents;
+mod repeated_keys;
 mod sarif_members;
 mod translations;
 
@@ -30,6 +31,7 @@ impl Kinds for Calls {
             || document_reports::make(kind, call)
             || document_findings::make(kind, call)
             || noted_documents::make(kind, call)
+            || repeated_keys::make(kind, call)
             || message_reports::make(kind, call)
             || findings::make(kind, call)
             || located_findings::make(kind, call)

@@ -72,6 +72,12 @@ mod raw {
             cardinal: *const u8, cardinal_len: usize, ordinal: *const u8, ordinal_len: usize, block: *const u8, block_len: usize,
             arguments: *const Argument, arguments_len: usize, out: *mut u8, out_len: usize,
         ) -> i64;
+        pub fn plurals_catalog_check(catalog: *const u8, catalog_len: usize) -> i32;
+        #[rustfmt::skip]
+        pub fn plurals_catalog_say(
+            cardinal: *const u8, cardinal_len: usize, ordinal: *const u8, ordinal_len: usize, catalog: *const u8, catalog_len: usize,
+            key: *const u8, key_len: usize, arguments: *const Argument, arguments_len: usize, out: *mut u8, out_len: usize,
+        ) -> i64;
         pub fn plurals_fault_text(fault: i64) -> *const std::os::raw::c_char;
     }
 }
@@ -250,6 +256,23 @@ pub fn packed_format(cardinal: &[u8], ordinal: &[u8], block: &[u8], given: &[Arg
         raw::plurals_packed_format(
             cardinal.as_ptr(), cardinal.len(), ordinal.as_ptr(), ordinal.len(), block.as_ptr(), block.len(),
             arguments.as_ptr(), arguments.len(), out.as_mut_ptr(), out.len(),
+        )
+    });
+    found
+}
+
+pub fn catalog_check(catalog: &[u8]) -> Result<(), PluralsError> {
+    checked(unsafe { raw::plurals_catalog_check(catalog.as_ptr(), catalog.len()) }).map(|_| ())
+}
+
+pub fn catalog_say(cardinal: &[u8], ordinal: &[u8], catalog: &[u8], key: &str, given: &[Argument<'_>]) -> Result<Vec<u8>, PluralsError> {
+    // The texts that these point to live as long as `given`.
+    let arguments: Vec<_> = given.iter().map(argument).collect();
+    #[rustfmt::skip]
+    let found = written(|out| unsafe {
+        raw::plurals_catalog_say(
+            cardinal.as_ptr(), cardinal.len(), ordinal.as_ptr(), ordinal.len(), catalog.as_ptr(), catalog.len(),
+            key.as_ptr(), key.len(), arguments.as_ptr(), arguments.len(), out.as_mut_ptr(), out.len(),
         )
     });
     found

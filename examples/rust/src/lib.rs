@@ -431,3 +431,36 @@ impl PackedPattern {
         String::from_utf8(text).map_err(|_| PluralsError::of(-2))
     }
 }
+
+/// A catalogue of messages (docs/FORMATS.md), borrowed from its bytes.
+///
+/// ```
+/// use plurals::{Catalog, PluralRules, CLDR};
+/// let rules = PluralRules::try_new_cardinal(CLDR, "en")?;
+/// let bytes = b"\x01\0\0\0\x02\0\0\0\x0b\0\0\0hi\x01\0\0\0hello";
+/// let catalog = Catalog::from_bytes(bytes)?;
+/// assert_eq!(catalog.say("hi", &[], &rules, &rules)?, "hello");
+/// assert_eq!(catalog.say("ho", &[], &rules, &rules).unwrap_err().to_string(), "no message has the key");
+/// assert_eq!(Catalog::from_bytes(&bytes[1..]).unwrap_err().number(), -140);
+/// # Ok::<(), plurals::PluralsError>(())
+/// ```
+#[derive(Clone, Copy, Debug, PartialEq, Eq)]
+pub struct Catalog<'a> {
+    /// Bytes that were checked.
+    bytes: &'a [u8],
+}
+
+impl<'a> Catalog<'a> {
+    /// The catalogue of bytes that are one.
+    pub fn from_bytes(bytes: &'a [u8]) -> Result<Catalog<'a>, PluralsError> {
+        ffi::catalog_check(bytes)?;
+        Ok(Catalog { bytes })
+    }
+
+    /// What the message under a key says with these arguments, as [`format_pattern`] does of its pattern. The error is also that no
+    /// message has the key, or that it isn't UTF-8.
+    pub fn say(&self, key: &str, arguments: &[Argument<'_>], cardinal: &PluralRules, ordinal: &PluralRules) -> Result<String, PluralsError> {
+        let text = ffi::catalog_say(&cardinal.block, &ordinal.block, self.bytes, key, arguments)?;
+        String::from_utf8(text).map_err(|_| PluralsError::of(-2))
+    }
+}

@@ -19,7 +19,7 @@ use Rattle.message_format.specs.declared.shown.Shown.TheVariants as shows
 use Rattle.message_format.specs.FormatArguments.{Argument, Value, value_view}
 use Rattle.message_format.specs.FormatParts.{AreLeftOf}
 use Rattle.message_format.specs.FormatNumbers.{digit_of}
-use Rattle.message_format.specs.FormatSteps.{Step, Prints, Chooses, Fails, TwoRules}
+use Rattle.message_format.specs.FormatSteps.{Step, Prints, Chooses, Fails, TwoRules, both}
 use Rattle.message_format.specs.FormatMeaning.{PatternOutcome, Said, Faulty, Says}
 use Rattle.message_format.specs.FormatWalk.{GoesOn, GoesOnBehind}
 
@@ -79,7 +79,7 @@ ChoosesWithin parts ps (Err f) = Unit {0}
 
 -- the rules, as contracts see them
 abbrev pub two_rules : rules.Rules → TwoRules
-two_rules r = record { cardinal = r.cardinal.now; ordinal = r.ordinal.now }
+two_rules r = both r.cardinal.now r.ordinal.now
 
 -- what an error says of parts, or nothing if memory ran out
 abbrev pub IsFaultOf : List Argument → TwoRules → List ℕ → List Part → List ℕ → FormatError → Type 0

@@ -157,6 +157,17 @@ impl<'data> AskedRules<'data> {
     ) -> Result<PluralCategory, DecimalError>
         ensures { IsTextAnswer self.now number.now result }
     {
+        match &self.way {
+            Way::Tables(tables) => tables.category_for_text(alloc, number),
+            _ => self.by_text_operands(alloc, number),
+        }
+    }
+
+    // The same by the operands of the text.
+    #[inline(never)]
+    fn by_text_operands(&self, alloc: Global, number: &str) -> Result<PluralCategory, DecimalError>
+        ensures { IsTextAnswer self.now number.now result }
+    {
         kept_choice_is_exact();
         match PluralOperands::from_compact_text(alloc, number) {
             Ok(operands) => Ok(self.category_for(operands)),

@@ -13,6 +13,7 @@ use Rattle.icu_plurals.specs.PackedTree.{packed, packing}
 use Rattle.icu_plurals.specs.RuleOfText.{TextGives}
 use Rattle.icu_plurals.specs.RuleTexts.{IsRuleOf}
 use Rattle.icu_plurals.specs.Samples.{ReadsRule}
+use Rattle.plural_reference.specs.FaultPlaces.{TextFaultyAt}
 use Rattle.plural_checker.specs.Findings.{Findings, FindsBoth}
 use Rattle.plural_checker.specs.LanguageTexts.{SixTexts, is_long}
 use Rattle.plural_checker.specs.TextChecks.{IsFoundInCondition, IsFoundInReading, IsFoundInSamples}
@@ -24,7 +25,7 @@ use Rattle.plural_checker.specs.declared.read_text.Reading.TheVariants.{Long, Re
 -- the text is long; or it is read as no rule, or as one that can be packed
 abbrev pub IsReading : List ℕ → Reading → Type 0
 IsReading text Long = IsTrue (is_long text)
-IsReading text (Refused fault) = IsFalse (is_long text) × TextGives text (Err (Parse fault))
+IsReading text (Refused fault) = IsFalse (is_long text) × TextGives text (Err (Parse fault.kind)) × TextFaultyAt text fault.kind fault.byte
 IsReading text (Rule rule) =
     IsFalse (is_long text) × TextReads ReadsRule text rule × (packing rule.condition ≡ Ok (packed rule.condition))
 

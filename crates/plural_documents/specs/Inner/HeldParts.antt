@@ -1,13 +1,18 @@
 -- Not a definition of the subject: which tokens of a JSON text are held.
-use Rattle.std.specs.Prelude.{◌≡◌, ℕ, List, [], ◌∷◌, map, Bool, true, false, is_some, Option, Some, None, option_map, if◌then◌else◌}
+use Rattle.std.specs.Prelude.{◌≡◌, ℕ, List, [], ◌∷◌, map, Bool, true, false, is_some, Option, Some, None, option_map, Result, Ok, Err, Vec, ⊤, if◌then◌else◌}
 use Rattle.std.specs.Borrow.{Bor}
 use Rattle.std.specs.List.{list_all}
+use Rattle.std.specs.declared.alloc.Global.{Global}
 use Rattle.json.specs.Json as json
 use Rattle.json.specs.Token.{Token}
 use Rattle.json.specs.Tree.{json_tokens}
-use Rattle.plural_documents.specs.Inner.HeldTokens.{Held, held_of, held_tokens}
+use Rattle.plural_documents.specs.Inner.HeldTokens.{Held, held_of, held_token, held_tokens}
 use Rattle.plural_documents.specs.Inner.OpenBrackets.{Comes, IsAfter, Passes, most_open}
+use Rattle.plural_documents.specs.Inputs.{json_of, json_tree}
 use Rattle.plural_documents.specs.Outlines.{HeldText, IsHeld, is_named}
+use Rattle.plural_documents.specs.declared.held_token.HeldToken.{HeldToken}
+use Rattle.plural_documents.specs.declared.json_text.JsonTextError.{JsonTextError}
+use Rattle.plural_documents.specs.declared.json_text.JsonTextError.TheVariants as fault
 use Rattle.plural_documents.specs.declared.token_place.TokenPlace.{TokenPlace}
 use Rattle.serde_json.specs.Data.{Data}
 use Rattle.serde_json.specs.Read.{number_of, of_json}
@@ -89,6 +94,12 @@ AreHeld test of_text held =
 -- they are those of none
 abbrev pub AreNoTokens : List Token → Type 0
 AreNoTokens of_text = Comes most_open [] true [] of_text → list_all fits of_text ≡ true → ⊥
+
+-- those of the value that the bytes write; or they write none, or memory ran out
+abbrev pub GivesTokens : List ℕ → Result (Vec HeldToken Global) JsonTextError → Type 0
+GivesTokens bytes (Ok tokens) = (value : json.Json) × (json_tree bytes ≡ Some value) × (map held_token tokens.items ≡ held_tokens value)
+GivesTokens bytes (Err fault.Json) = json_of bytes ≡ None
+GivesTokens bytes (Err fault.Memory) = ⊤
 
 -- what is held of the value of a text has these tokens
 abbrev pub Holds : HeldText → List Held → Type 0

@@ -1,20 +1,23 @@
 -- How a text of at most 18 digits on each side of its point is read in one walk.
-use Rattle.std.proofs.Common.{◌≡◌, ◌≢◌, ℕ, suc, ◌+◌, ◌-◌, ◌*◌, ◌^◌, ◌<◌, ◌≤◌, inl, inr, List, [], ◌∷◌, ◌++◌, refl, sym, ◌∙◌}
+use Rattle.std.proofs.Common.{◌≡◌, ◌≢◌, ℕ, zero, suc, ◌+◌, ◌-◌, ◌*◌, ◌/◌, ◌^◌, ◌<◌, ◌≤◌, inl, inr, List, [], ◌∷◌, ◌++◌, refl, sym, ◌∙◌}
 use Rattle.std.proofs.Common.{ap, subst, length, take, arith, get_or, lit<, append_assoc, length-append, max, Option, Some, None}
 use Rattle.std.specs.Prelude.{IfSome}
-use Rattle.std.proofs.lemmas.List.{take_more, take_all, length-map, length-take-le, map-append}
-use Rattle.std.proofs.Math.Nat.{pow-suc, dvd-mul_left, pow-le-pow_right}
+use Rattle.std.proofs.lemmas.Bool.{cases_lt}
+use Rattle.std.proofs.lemmas.List.{append-nil, take_more, take_all, length-map, length-take-le, map-append}
+use Rattle.std.proofs.Math.Nat.{dvd-mul_left, div-mul_cancel, pow-le-pow_right}
 use Rattle.std.specs.Int.{◌∣◌}
 use Rattle.std.specs.Char.{IsAsciiDigit}
 use Rattle.fixed_decimal.specs.Digits.{AreDigits, value_of, text_of}
 use Rattle.fixed_decimal.specs.Places.{Places, IsWritten, IsWithinLimit}
 use Rattle.fixed_decimal.specs.Written.{CompactNumber, WritesCompact, IsCompactOverLimit, OneCompact, sign_text}
 use Rattle.fixed_decimal.specs.declared.sign.Sign.{Sign}
+use Rattle.fixed_decimal.specs.declared.sign.Sign.TheVariants as sign
 use Rattle.plural_operands.specs.Operands.{Operands, HasFraction, AreKept, of_whole}
-use Rattle.plural_operands.specs.Inner.ShortTexts.{AreDigitsOf, HasFront, IsTrimmedAt, HasFractionFront, ArePlain, HasPlain, IsShortExponent}
+use Rattle.plural_operands.specs.Inner.ShortTexts.{AreDigitsAlone, AreDigitsOf, HasFront, IsTrimmedAt, HasFractionFront, ArePlain, HasPlain, IsShortExponent}
+use Rattle.plural_operands.specs.OperandText.{WritesInteger}
 use Rattle.plural_operands.specs.Inner.ShortTexts.{WritesShort, WritesShortSigned}
 use Rattle.plural_operands.proofs.numbers.Numbers.{value_of-append, value_of-below, AreDigits-append}
-use Rattle.plural_operands.proofs.numbers.Conversion.{no_fewer, quotient}
+use Rattle.plural_operands.proofs.numbers.Conversion.{no_fewer, one_zero_less, quotient}
 use Rattle.plural_operands.proofs.numbers.Fractions.{kept_whole-short}
 
 -- ---- digits one after the other
@@ -52,34 +55,43 @@ leaves_room text k n within few h =
     let most : 10 ^ length h.ds ≤ 10 ^ 17 = pow-le-pow_right (lit< tt) few_digits in
     omega arith
 
+-- a digit at each place
+at_place : (ds : List ℕ) (k : ℕ) → AreDigits ds → k < length ds → IsAsciiDigit (get_or (text_of ds) k 0)
+at_place [] k h within = absurd (omega (arith, within))
+at_place (d ∷ ds) zero h within = let small : d < 10 = h.0 in omega arith
+at_place (d ∷ ds) (suc k) h within = at_place ds k h.1 (omega (arith, within))
+
+pub digit_at_place : (text : List ℕ) (k : ℕ) → AreDigitsAlone text → k < length text → IsAsciiDigit (get_or text k 0)
+digit_at_place text k h within =
+    let size : length text ≡ length h.0 = ap length h.2 ∙ length-map h.0 (λ d. 48 + d) in
+    subst (λ (l : List ℕ). IsAsciiDigit (get_or l k 0)) (sym h.2) (at_place h.0 k h.1 (omega arith))
+
 -- ---- the last digit that isn't 0
 
 -- no digits have none
 pub no_places : IsTrimmedAt 0 0 0 0
 no_places = record { within = omega arith; scaled = refl; last = inl refl }
 
--- a further 0
-pub one_zero_more : (k f w t m : ℕ) → IsTrimmedAt k f w t → m ≡ f * 10 → IsTrimmedAt (k + 1) m w t
-one_zero_more k f w t m h e =
-    let within : w ≤ k = h.within in
-    let next : k + 1 - w ≡ suc (k - w) = omega arith in
+-- the least count of digits that are left, and what they write
+pub trimmed_if_least : (places number w t : ℕ) → 10 ^ (places - w) ∣ number * 10 ^ 0
+    → ((k : ℕ) → 10 ^ (places - k) ∣ number * 10 ^ 0 → w ≤ k) → t ≡ number * 10 ^ 0 / 10 ^ (places - w) → IsTrimmedAt places number w t
+trimmed_if_least places number w t divides least value =
+    let same : number * 10 ^ 0 ≡ number = omega arith in
+    let none : 0 ≡ places - places = omega arith in
+    let within : w ≤ places = least places (subst (λ (k : ℕ). 10 ^ k ∣ number * 10 ^ 0) none (dvd-mul_left (10 ^ 0) number)) in
+    let scaled : number * 10 ^ 0 ≡ t * 10 ^ (places - w)
+    = sym (ap (λ q. q * 10 ^ (places - w)) value ∙ div-mul_cancel (10 ^ (places - w)) divides) in
     record {
-      within = omega arith;
-      scaled = e ∙ ap (λ n. n * 10) h.scaled ∙ by t (10 ^ (k - w)) (10 ^ (k + 1 - w)) (ap (λ j. 10 ^ j) next ∙ pow-suc 10 (k - w));
-      last = h.last;
-    }
-  where
-    by : (t p q : ℕ) → q ≡ p * 10 → t * p * 10 ≡ t * q
-    by t p q e = rw e (omega arith)
-
--- a further digit that isn't 0
-pub one_other_more : (k f d m : ℕ) → d ≢ 0 → d < 10 → m ≡ f * 10 + d → IsTrimmedAt (k + 1) m (k + 1) m
-one_other_more k f d m other digit e =
-    let none : k + 1 - (k + 1) ≡ 0 = omega arith in
-    record {
-      within = omega arith;
-      scaled = sym (ap (λ j. m * 10 ^ j) none ∙ omega arith);
-      last = inr (omega (arith, e));
+      within = within;
+      scaled = sym same ∙ scaled;
+      last = elim (cases_lt 0 w) [
+        | inl some ↦ inr (λ zero.
+            let shorter : number * 10 ^ 0 ≡ t / 10 * 10 ^ (places - (w - 1)) = one_zero_less t places w _ some within scaled zero in
+            let fewer : w ≤ w - 1
+            = least (w - 1) (subst (λ (n : ℕ). 10 ^ (places - (w - 1)) ∣ n) (sym shorter) (dvd-mul_left (10 ^ (places - (w - 1))) (t / 10))) in
+            omega arith)
+        | inr none ↦ inl (omega arith)
+      ];
     }
 
 -- the operands of a fraction whose last digit that isn't 0 is known
@@ -99,7 +111,7 @@ has_fraction o shown written v f h = record {
 -- ---- the number at the front
 
 -- how many bytes are at the front
-front_size : (text front rest : List ℕ) → text ≡ front ++ rest → length text - length rest ≡ length front
+pub front_size : (text front rest : List ℕ) → text ≡ front ++ rest → length text - length rest ≡ length front
 front_size text front rest e =
     let size : length text ≡ length front + length rest = ap length e ∙ length-append front rest in
     omega arith
@@ -318,6 +330,37 @@ pub signed_if_read : (text unsigned : List ℕ) (r : Option Operands) → (s : S
     → IfSome r (λ o. WritesShort unsigned o) → IfSome r (λ o. WritesShortSigned text o)
 signed_if_read text unsigned None s h = tt
 signed_if_read text unsigned (Some o) s h = record { sign = s.0; unsigned = unsigned; short = h; spelled = s.1 }
+
+-- ---- digits alone
+
+-- the integer that they write
+pub integer_alone : (text rest : List ℕ) (n : ℕ) → HasFront text n rest → rest ≡ [] → 0 < length text → WritesInteger text n
+integer_alone text rest n h end some =
+    let all : text ≡ h.front = h.spelled ∙ ap (λ l. h.front ++ l) end ∙ append-nil h.front in
+    let size : length h.digits.ds ≡ length h.front = length_digits h.front n h.digits in
+    record {
+      ds = h.digits.ds;
+      digits = h.digits.digits;
+      some = omega (arith, ap length all);
+      few = subst (λ k. k ≤ 18) (sym size) h.few;
+      spelled = all ∙ h.digits.spelled;
+      value = h.digits.value;
+    }
+
+-- as a short number
+pub integer_is_short : (text rest : List ℕ) (n : ℕ) → HasFront text n rest → rest ≡ [] → 0 < length text → WritesShortSigned text (of_whole n)
+integer_is_short text rest n h end some =
+    let size : length rest ≡ 0 = ap length end in
+    let whole = whole_plain text rest n (length text) (of_whole n) h (omega arith) some refl in
+    record { sign = sign.None; unsigned = text; short = without_exponent text rest (length text) (of_whole n) whole end; spelled = refl }
+
+-- a text that writes an integer is digits alone
+pub digits_of_integer : (text : List ℕ) (n : ℕ) → WritesInteger text n → AreDigitsAlone text × (0 < length text) × (length text ≤ 18)
+digits_of_integer text n h =
+    let size : length text ≡ length h.ds = ap length h.spelled ∙ length-map h.ds (λ d. 48 + d) in
+    let few : length h.ds ≤ 18 = h.few in
+    let some : 0 < length h.ds = h.some in
+    ((h.ds, h.digits, h.spelled), omega arith, omega arith)
 
 -- ---- as a compact decimal
 

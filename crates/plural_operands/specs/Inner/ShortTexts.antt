@@ -14,6 +14,10 @@ pub record AreDigitsOf (text : List ℕ) (number : ℕ) : Type 0 where
   pub spelled : text ≡ text_of ds
   pub value : number ≡ value_of ds
 
+-- the text is digits
+abbrev pub AreDigitsAlone : List ℕ → Type 0
+AreDigitsAlone text = (ds : List ℕ) × AreDigits ds × (text ≡ text_of ds)
+
 -- at most 18 digits are at the front, which write the number
 pub record HasFront (text : List ℕ) (number : ℕ) (rest : List ℕ) : Type 0 where
   pub front : List ℕ

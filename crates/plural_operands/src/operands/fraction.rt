@@ -48,7 +48,8 @@ impl PluralOperands {
 
 // The fraction that a number and a count of zeros after it write, without its trailing zeros: how
 // many digits are left, and what they write.
-fn without_zeros(shown: usize, number: u64, zeros: usize) -> (usize, u64)
+#[inline]
+pub(crate) fn without_zeros(shown: usize, number: u64, zeros: usize) -> (usize, u64)
     requires { zeros ≤ shown }
     ensures divides { 10 ^ (shown - result.0) ∣ number * 10 ^ zeros }
     ensures least { (k : ℕ) → 10 ^ (shown - k) ∣ number * 10 ^ zeros → result.0 ≤ k }

@@ -1,12 +1,13 @@
 //! The operands of texts of at most 18 digits on each side of the point, in one walk.
 
-ghost use Rattle.std.specs.Prelude.{◌≡◌, ℕ, ◌+◌, ◌<◌, List, ◌++◌, IfSome};
+ghost use Rattle.std.specs.Prelude.{◌≡◌, ℕ, ◌+◌, ◌<◌, ◌≤◌, List, ◌++◌, IfSome, length};
 ghost use Rattle.fixed_decimal.specs.Places.{Places};
 ghost use Rattle.fixed_decimal.specs.Written.{sign_text};
 ghost use Rattle.fixed_decimal.specs.declared.sign.Sign.{Sign};
-ghost use Rattle.plural_operands.specs.Inner.ShortTexts.{HasFront, HasFractionFront, ArePlain, HasPlain, IsShortExponent, WritesShort, WritesShortSigned};
+ghost use Rattle.plural_operands.specs.Inner.ShortTexts.{AreDigitsAlone, HasFront, HasFractionFront, ArePlain, HasPlain, IsShortExponent, WritesShort, WritesShortSigned};
 
 use crate::operands::PluralOperands;
+use crate::operands::fraction::without_zeros;
 use crate::operands::kept::KEPT_PLACES;
 use crate::operands::shifted::shifted;
 
@@ -64,14 +65,37 @@ fn with_exponent(digits: PluralOperands, whole: usize, rest: &[u8]) -> Option<Pl
     }
 }
 
-// The number that at most 18 digits at the front write, and the rest.
+// The number that at most 18 digits at the front write, and the rest. For each length below nine the
+// walk has a bound that is known, and is compiled without a loop.
 #[inline(always)]
-fn short_front(text: &[u8]) -> (u64, &[u8])
-    ensures { HasFront text.now result.0 result.1.now }
+pub(crate) fn short_front(text: &[u8]) -> (u64, &[u8])
+    ensures front { HasFront text.now result.0 result.1.now }
+    ensures all { AreDigitsAlone text.now → length text.now ≤ 18 → length result.1.now ≡ 0 }
+{
+    match text.len() {
+        1 => front_of(text, 1),
+        2 => front_of(text, 2),
+        3 => front_of(text, 3),
+        4 => front_of(text, 4),
+        5 => front_of(text, 5),
+        6 => front_of(text, 6),
+        7 => front_of(text, 7),
+        8 => front_of(text, 8),
+        length => front_of(text, length.min(KEPT_PLACES)),
+    }
+}
+
+// The number that digits at the front write, at most so many, and the rest.
+#[inline(always)]
+fn front_of(text: &[u8], most: usize) -> (u64, &[u8])
+    requires within { most ≤ length text.now }
+    requires few { most ≤ 18 }
+    ensures front { HasFront text.now result.0 result.1.now }
+    ensures all { AreDigitsAlone text.now → length text.now ≤ most → length result.1.now ≡ 0 }
 {
     let mut number = 0;
     let mut at = 0;
-    while at < text.len() && at < KEPT_PLACES && text[at].is_ascii_digit() {
+    while at < most && text[at].is_ascii_digit() {
         number = number * 10 + u64::from(text[at] - b'0');
         at += 1;
     }
@@ -85,28 +109,18 @@ fn with_fraction(i: u64, text: &[u8]) -> (PluralOperands, &[u8])
     ensures fraction { HasFractionFront text.now result.0 result.1.now }
     ensures exponent { result.0.c ≡ 0 }
 {
-    let most = text.len().min(KEPT_PLACES);
-    let mut f = 0;
-    let mut w = 0;
-    let mut t = 0;
-    let mut at = 0;
-    while at < most && text[at].is_ascii_digit() {
-        f = f * 10 + u64::from(text[at] - b'0');
-        if text[at] != b'0' {
-            w = at + 1;
-            t = f;
-        }
-        at += 1;
-    }
+    let (f, rest) = short_front(text);
+    let v = text.len() - rest.len();
+    let (w, t) = without_zeros(v, f, 0);
     let operands = PluralOperands {
         i,
-        v: at,
+        v,
         w,
         f,
         t,
         c: 0,
     };
-    (operands, &text[at..])
+    (operands, rest)
 }
 
 // The exponent that one or two digits write.

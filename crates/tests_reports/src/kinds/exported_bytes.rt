@@ -22,6 +22,7 @@ pub fn make(kind: &str, call: &mut Call) -> bool {
         "exported_pattern" => pattern(call),
         "exported_pack" => pack(call),
         "exported_packed" => packed(call),
+        "exported_say" => say(call),
         _ => return false,
     }
     true
@@ -249,6 +250,23 @@ fn packed(call: &mut Call) {
     let mut room = next_room(call);
     let told = plural_exports::packed_format(
         call.alloc, &cardinal, &ordinal, &block, &arguments, &mut room,
+    );
+    print_text(call, told, &room);
+}
+
+// What the message under a key says.
+fn say(call: &mut Call) {
+    let cardinal = call.bytes();
+    let ordinal = call.bytes();
+    let catalog = call.bytes();
+    let key = next_given(call);
+    let names = next_texts(call);
+    let values = next_texts(call);
+    let mut arguments = Vec::new(call.alloc);
+    add_arguments(call, &mut arguments, &names, &values);
+    let mut room = next_room(call);
+    let told = plural_exports::catalog_say(
+        call.alloc, &cardinal, &ordinal, &catalog, &key, &arguments, &mut room,
     );
     print_text(call, told, &room);
 }

@@ -15,6 +15,7 @@ pub fn make(kind: &str, call: &mut Call) -> bool {
         "exported_text_by_table" => text_by_table(call),
         "exported_whole" => whole(call),
         "exported_check" => check(call),
+        "exported_catalog" => catalog(call),
         _ => return false,
     }
     true
@@ -125,4 +126,10 @@ fn whole(call: &mut Call) {
 fn check(call: &mut Call) {
     let block = call.bytes();
     call.print_value(&plural_exports::pattern_check(&block));
+}
+
+// Whether bytes are a catalogue of messages.
+fn catalog(call: &mut Call) {
+    let catalog = call.bytes();
+    call.print_value(&plural_exports::catalog_check(&catalog));
 }

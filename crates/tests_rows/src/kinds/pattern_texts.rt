@@ -2,8 +2,9 @@
 
 use message_format::{Argument, FormatError, Rules, Value, format};
 use message_pattern::Pattern;
-use packed_format::format_packed;
+use packed_format::{format_packed, format_prepared};
 use packed_pattern::{PackedPattern, pack};
+use plural_base::PreparedRules;
 use row_calls::call::Call;
 use std::fmt::Write;
 
@@ -81,7 +82,7 @@ fn print_said(
     print_outcome(call, said);
 }
 
-// Whether a block says this outcome.
+// Whether a block says this outcome, also under prepared rules.
 fn is_said_packed(
     call: &Call,
     bytes: &[u8],
@@ -89,10 +90,16 @@ fn is_said_packed(
     rules: &Rules<'_, '_>,
     said: &Result<Vec<u8>, FormatError<'_>>,
 ) -> bool {
-    match PackedPattern::parse_bytes(bytes) {
-        Ok(pattern) => are_same(said, &format_packed(call.alloc, &pattern, arguments, rules)),
-        Err(_) => false,
-    }
+    let Ok(pattern) = PackedPattern::parse_bytes(bytes) else {
+        return false;
+    };
+    let cardinal = PreparedRules::from_rules(rules.cardinal.as_borrowed());
+    let ordinal = PreparedRules::from_rules(rules.ordinal.as_borrowed());
+    are_same(said, &format_packed(call.alloc, &pattern, arguments, rules))
+        && are_same(
+            said,
+            &format_prepared(call.alloc, &pattern, arguments, &cardinal, &ordinal),
+        )
 }
 
 // Whether two outcomes are the same.

@@ -15,6 +15,6 @@ pub returns-in-None-clause-branch : goal.returns-in-None-clause-branch
 returns-in-None-clause-branch g c =
     let none = rw c.in-None.is at c.in_ok-branch.ensures.branch in
     let category = c.category_for_compact-category.result in
-    let is : IsCategory c.args.rules.now c.args.less.now category = search rules in
-    by_category c.args.rules.now c.args.number.now c.args.less.now (branches_at (g.P.MessageParts.parts c.args.argument)) (name_of category) category
+    let is : IsCategory (g.R.TextRules.rules c.args.rules.now) c.args.less.now category = search rules in
+    by_category (g.R.TextRules.rules c.args.rules.now) c.args.number.now c.args.less.now (branches_at (g.P.MessageParts.parts c.args.argument)) (name_of category) category
     (g.P.MessageParts.parts c.branch_of_category-branch.result) none is refl c.branch_of_category-branch.ensures.branch

@@ -3,20 +3,20 @@ use Rattle.std.proofs.lemmas.Result.{err_from_is_err_and}
 use Rattle.message_pattern.specs.PatternParts.{offset_view}
 use Rattle.message_format.specs.FormatArguments.{Value, arguments_view}
 use Rattle.message_format.specs.FormatParts.{branches_at}
-use Rattle.message_format.specs.FormatSteps.{Step, Stops, Chooses, shown_value, IsChoice}
-use Rattle.message_format.specs.Inner.FormatViews.{any_value, shown_view, two_rules}
+use Rattle.message_format.specs.FormatSteps.{Step, Stops, Chooses, both, shown_value, IsChoice}
+use Rattle.message_format.specs.Inner.FormatViews.{any_value, shown_view}
 use Rattle.message_format.proofs.Less.{fault_gives}
 use Rattle.message_format.proofs.Walk.{PartIs, does, begins, at_end, at_stop, at_text, at_branch, at_fault, rest_fewer, branch_fewer}
 use Rattle.message_format.proofs.saying.step_of.Goals as goal
 
 pub returns-in_default-clause-said : goal.returns-in_default-clause-said
 returns-in_default-clause-said g c before h =
-    (h, at_end (arguments_view c.args.arguments.now) (two_rules c.args.rules.now) c.args.hash.now before (g.P.MessageParts.parts c.args.parts) c.in_default.ensures)
+    (h, at_end (arguments_view c.args.arguments.now) (both (g.R.TextRules.rules c.args.cardinal.now) (g.R.TextRules.rules c.args.ordinal.now)) c.args.hash.now before (g.P.MessageParts.parts c.args.parts) c.in_default.ensures)
 
 pub returns-in_err-text-in-Argument-clause-said : goal.returns-in_err-text-in-Argument-clause-said
 returns-in_err-text-in-Argument-clause-said g c before h =
     let A = arguments_view c.args.arguments.now in
-    let R = two_rules c.args.rules.now in
+    let R = both (g.R.TextRules.rules c.args.cardinal.now) (g.R.TextRules.rules c.args.ordinal.now) in
     let part = c.in-Some.found.0 in
     let rest = g.P.MessageParts.parts c.in-Some.found.1 in
     let name = c.in-Argument.name.now in
@@ -30,7 +30,7 @@ returns-in_err-text-in-Argument-clause-said g c before h =
 pub returns-in_err-shown-in-Begin-clause-said : goal.returns-in_err-shown-in-Begin-clause-said
 returns-in_err-shown-in-Begin-clause-said g c before h =
     let A = arguments_view c.args.arguments.now in
-    let R = two_rules c.args.rules.now in
+    let R = both (g.R.TextRules.rules c.args.cardinal.now) (g.R.TextRules.rules c.args.ordinal.now) in
     let ps = g.P.MessageParts.parts c.args.parts in
     let part = c.in-Some.found.0 in
     let rest = g.P.MessageParts.parts c.in-Some.found.1 in
@@ -48,7 +48,7 @@ returns-in_err-shown-in-Begin-clause-said g c before h =
 pub returns-in_ok-add-in-Text-clause-said : goal.returns-in_ok-add-in-Text-clause-said
 returns-in_ok-add-in-Text-clause-said g c before h =
     let A = arguments_view c.args.arguments.now in
-    let R = two_rules c.args.rules.now in (
+    let R = both (g.R.TextRules.rules c.args.cardinal.now) (g.R.TextRules.rules c.args.ordinal.now) in (
       before ++ c.in-Text.text.now,
       c.in_ok-add-in-Text.ensures before h,
       at_text A R c.args.hash.now before c.in-Text.text.now (before ++ c.in-Text.text.now) (g.P.MessageParts.parts c.args.parts) c.in-Some.found.0 _ c.in-Some.ensures
@@ -58,7 +58,7 @@ returns-in_ok-add-in-Text-clause-said g c before h =
 pub returns-in_ok-add-in-Hash-clause-said : goal.returns-in_ok-add-in-Hash-clause-said
 returns-in_ok-add-in-Hash-clause-said g c before h =
     let A = arguments_view c.args.arguments.now in
-    let R = two_rules c.args.rules.now in (
+    let R = both (g.R.TextRules.rules c.args.cardinal.now) (g.R.TextRules.rules c.args.ordinal.now) in (
       before ++ c.args.hash.now,
       c.in_ok-add-in-Hash.ensures before h,
       at_text A R c.args.hash.now before c.args.hash.now (before ++ c.args.hash.now) (g.P.MessageParts.parts c.args.parts) c.in-Some.found.0 _ c.in-Some.ensures
@@ -68,7 +68,7 @@ returns-in_ok-add-in-Hash-clause-said g c before h =
 pub returns-in_ok-add-in-Argument-clause-said : goal.returns-in_ok-add-in-Argument-clause-said
 returns-in_ok-add-in-Argument-clause-said g c before h =
     let A = arguments_view c.args.arguments.now in
-    let R = two_rules c.args.rules.now in
+    let R = both (g.R.TextRules.rules c.args.cardinal.now) (g.R.TextRules.rules c.args.ordinal.now) in
     let text = c.in_ok-text-in-Argument.text.now in (
       before ++ text,
       c.in_ok-add-in-Argument.ensures before h,
@@ -80,7 +80,7 @@ returns-in_ok-add-in-Argument-clause-said g c before h =
 pub returns-in_ok-shown-in-Begin-clause-said : goal.returns-in_ok-shown-in-Begin-clause-said
 returns-in_ok-shown-in-Begin-clause-said g c before h =
     let A = arguments_view c.args.arguments.now in
-    let R = two_rules c.args.rules.now in
+    let R = both (g.R.TextRules.rules c.args.cardinal.now) (g.R.TextRules.rules c.args.ordinal.now) in
     let ps = g.P.MessageParts.parts c.args.parts in
     let part = c.in-Some.found.0 in
     let rest = g.P.MessageParts.parts c.in-Some.found.1 in
@@ -97,7 +97,7 @@ returns-in_ok-shown-in-Begin-clause-said g c before h =
 pub returns-in-Branch-clause-said : goal.returns-in-Branch-clause-said
 returns-in-Branch-clause-said g c before h =
     let A = arguments_view c.args.arguments.now in
-    let R = two_rules c.args.rules.now in
+    let R = both (g.R.TextRules.rules c.args.cardinal.now) (g.R.TextRules.rules c.args.ordinal.now) in
     let part = c.in-Some.found.0 in
     let rest = g.P.MessageParts.parts c.in-Some.found.1 in (
       h,

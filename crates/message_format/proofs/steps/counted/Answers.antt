@@ -26,5 +26,5 @@ counted_by_category-requires g c = λ k. (
 pub returns-in-Some-branch-clause-step : goal.returns-in-Some-branch-clause-step
 returns-in-Some-branch-clause-step g c =
     let short : length c.as_bytes-written.result.now ≤ 32767 = omega (arith, c.in-Some.ensures.short) in
-    counted_plain c.args.rules.now c.args.name.now (branches_at (g.P.MessageParts.parts c.args.argument)) c.args.text.now c.as_bytes-written.result.now c.in-Some.plain.whole.now c.in-Some.plain.fraction.now
+    counted_plain (g.R.TextRules.rules c.args.rules.now) c.args.name.now (branches_at (g.P.MessageParts.parts c.args.argument)) c.args.text.now c.as_bytes-written.result.now c.in-Some.plain.whole.now c.in-Some.plain.fraction.now
     (g.P.MessageParts.parts c.in-Some-branch.branch) c.in-Some.ensures.plain short (rw c.in-Some-branch.is at c.in-Ok.ensures.first) c.as_bytes-written.ensures.value

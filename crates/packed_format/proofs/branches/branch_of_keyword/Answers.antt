@@ -4,7 +4,6 @@ use Rattle.message_format.specs.FormatBranches.{branch_of_keyword, is_keyword}
 use Rattle.packed_format.proofs.BehindParts.{no_place}
 use Rattle.packed_format.proofs.PlacesRead.{within}
 use Rattle.packed_format.proofs.Walked.{deeper_there, selector_there, none_there, no_keyword}
-use Rattle.packed_format.proofs.branches.branch_of_keyword.Goals.{then-part-depth+in-Branch+in-Keyword+else-eq, then-part-depth+in-Branch+in_default-selector, else-part-depth}
 use Rattle.packed_format.proofs.branches.branch_of_keyword.Goals as goal
 
 pub returns-in_default-piece : goal.returns-in_default-piece
@@ -34,10 +33,52 @@ next_selector-at-requires c =
     let there = within c.in-Some.placed c.args.pattern.now c.loop-placed.at c.in-Some.ensures in
     omega (arith, there, c.requires.few)
 
+pub loop-placed-smaller-else-eq : goal.loop-placed-smaller-else-eq
+loop-placed-smaller-else-eq c =
+    let there = within c.in-Some.placed c.args.pattern.now c.loop-placed.at c.in-Some.ensures in
+    omega (arith, there, c.next_selector-at.ensures.behind)
+
+pub loop-placed-smaller-in_default-selector : goal.loop-placed-smaller-in_default-selector
+loop-placed-smaller-in_default-selector c =
+    let there = within c.in-Some.placed c.args.pattern.now c.loop-placed.at c.in-Some.ensures in
+    omega (arith, there, c.next_selector-at.ensures.behind)
+
 pub loop-placed-smaller : goal.loop-placed-smaller
 loop-placed-smaller c =
     let there = within c.in-Some.placed c.args.pattern.now c.loop-placed.at c.in-Some.ensures in
     omega (arith, there, c.next_selector-at.ensures.behind)
+
+pub loop-placed-preserved-else-eq : goal.loop-placed-preserved-else-eq
+loop-placed-preserved-else-eq c =
+    let word = c.args.word.now in
+    let bs = branches_of c.args.depth (drop (c.loop-placed.at + 1) c.args.pattern.now) in
+    let placed = c.in-Some.placed in
+    let next = c.next_selector-at.ensures.branches c.args.pattern.now c.in-Some.ensures in
+    let passed : branch_of_keyword word (branches_of c.args.depth (drop c.loop-placed.at c.args.pattern.now)) ≡ branch_of_keyword word bs =
+    let there = selector_there placed c.args.pattern.now c.loop-placed.at c.part-part.result c.in-Some.ensures c.part-part.ensures c.args.depth c.in-Branch.selector c.if-part-depth.true c.in-Branch.is in
+    let other : bytes_eq c.in-Keyword.other.now word ≡ false = sym c.eq.ensures ∙ c.if-eq.false in
+    ap (branch_of_keyword word) there ∙ rw (c.in-Keyword.is, other) refl
+    in
+    record {
+      same = ap (branch_of_keyword word) next ∙ (sym passed ∙ c.loop-placed.invariant.same);
+      behind = omega (arith, c.loop-placed.invariant.behind, c.next_selector-at.ensures.behind);
+    }
+
+pub loop-placed-preserved-in_default-selector : goal.loop-placed-preserved-in_default-selector
+loop-placed-preserved-in_default-selector c =
+    let word = c.args.word.now in
+    let bs = branches_of c.args.depth (drop (c.loop-placed.at + 1) c.args.pattern.now) in
+    let placed = c.in-Some.placed in
+    let next = c.next_selector-at.ensures.branches c.args.pattern.now c.in-Some.ensures in
+    let passed : branch_of_keyword word (branches_of c.args.depth (drop c.loop-placed.at c.args.pattern.now)) ≡ branch_of_keyword word bs =
+    let there = selector_there placed c.args.pattern.now c.loop-placed.at c.part-part.result c.in-Some.ensures c.part-part.ensures c.args.depth c.in-Branch.selector c.if-part-depth.true c.in-Branch.is in
+    let other : is_keyword word (selector_view c.in-Branch.selector) ≡ false = no_keyword word c.in-Branch.selector c.in_default-selector.not-Keyword in
+    ap (branch_of_keyword word) there ∙ rw other refl
+    in
+    record {
+      same = ap (branch_of_keyword word) next ∙ (sym passed ∙ c.loop-placed.invariant.same);
+      behind = omega (arith, c.loop-placed.invariant.behind, c.next_selector-at.ensures.behind);
+    }
 
 pub loop-placed-preserved : goal.loop-placed-preserved
 loop-placed-preserved c =
@@ -45,18 +86,9 @@ loop-placed-preserved c =
     let bs = branches_of c.args.depth (drop (c.loop-placed.at + 1) c.args.pattern.now) in
     let placed = c.in-Some.placed in
     let next = c.next_selector-at.ensures.branches c.args.pattern.now c.in-Some.ensures in
-    let passed : branch_of_keyword word (branches_of c.args.depth (drop c.loop-placed.at c.args.pattern.now)) ≡ branch_of_keyword word bs = elim c.if-part-depth.branch [
-      | then-part-depth+in-Branch+in-Keyword+else-eq w ↦
-          let there = selector_there placed c.args.pattern.now c.loop-placed.at c.part-part.result c.in-Some.ensures c.part-part.ensures c.args.depth w.in-Branch.selector w.if-part-depth.true w.in-Branch.is in
-          let other : bytes_eq w.in-Keyword.other.now word ≡ false = sym w.eq.ensures ∙ w.if-eq.false in
-          ap (branch_of_keyword word) there ∙ rw (w.in-Keyword.is, other) refl
-      | then-part-depth+in-Branch+in_default-selector w ↦
-          let there = selector_there placed c.args.pattern.now c.loop-placed.at c.part-part.result c.in-Some.ensures c.part-part.ensures c.args.depth w.in-Branch.selector w.if-part-depth.true w.in-Branch.is in
-          let other : is_keyword word (selector_view w.in-Branch.selector) ≡ false = no_keyword word w.in-Branch.selector w.in_default-selector.not-Keyword in
-          ap (branch_of_keyword word) there ∙ rw other refl
-      | else-part-depth w ↦
-          ap (branch_of_keyword word) (deeper_there placed c.args.pattern.now c.loop-placed.at c.part-part.result c.in-Some.ensures c.part-part.ensures c.args.depth w.if-part-depth.false)
-    ] in
+    let passed : branch_of_keyword word (branches_of c.args.depth (drop c.loop-placed.at c.args.pattern.now)) ≡ branch_of_keyword word bs =
+    ap (branch_of_keyword word) (deeper_there placed c.args.pattern.now c.loop-placed.at c.part-part.result c.in-Some.ensures c.part-part.ensures c.args.depth c.if-part-depth.false)
+    in
     record {
       same = ap (branch_of_keyword word) next ∙ (sym passed ∙ c.loop-placed.invariant.same);
       behind = omega (arith, c.loop-placed.invariant.behind, c.next_selector-at.ensures.behind);

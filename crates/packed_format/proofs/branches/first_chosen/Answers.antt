@@ -5,7 +5,6 @@ use Rattle.packed_format.proofs.BehindParts.{no_place}
 use Rattle.packed_format.proofs.FirstNumbers.{left_from, first_behind, next_behind, further, fewer_left}
 use Rattle.packed_format.proofs.PlacesRead.{within}
 use Rattle.packed_format.proofs.Walked.{deeper_there, selector_there, none_there}
-use Rattle.packed_format.proofs.branches.first_chosen.Goals.{then-part-depth+in-Branch+in-Ok+else-chosen, else-part-depth}
 use Rattle.packed_format.proofs.branches.first_chosen.Goals as goal
 
 pub loop-next-init : goal.loop-next-init
@@ -62,6 +61,14 @@ next_number-next-requires-in-Some g c =
     let there = within c.in-Some-placed.placed c.args.pattern.now c.in-Some.at c.in-Some-placed.ensures in
     omega (arith, there, c.requires.few)
 
+pub loop-next-smaller-else-chosen : goal.loop-next-smaller-else-chosen
+loop-next-smaller-else-chosen g c =
+    let ps = c.args.pattern.now in
+    let there = within c.in-Some-placed.placed ps c.in-Some.at c.in-Some-placed.ensures in
+    let next = c.next_number-next-in-Some.ensures ps c.in-Some-placed.ensures in
+    let less = fewer_left (length ps) c.in-Some.at c.next_number-next-in-Some.result there (next_behind c.part-depth.result.depth ps c.in-Some.at c.next_number-next-in-Some.result next) in
+    subst (λ (n : Option ℕ). left_from (length ps) c.next_number-next-in-Some.result < left_from (length ps) n) (sym c.in-Some.is) less
+
 pub loop-next-smaller : goal.loop-next-smaller
 loop-next-smaller g c =
     let ps = c.args.pattern.now in
@@ -69,6 +76,28 @@ loop-next-smaller g c =
     let next = c.next_number-next-in-Some.ensures ps c.in-Some-placed.ensures in
     let less = fewer_left (length ps) c.in-Some.at c.next_number-next-in-Some.result there (next_behind c.part-depth.result.depth ps c.in-Some.at c.next_number-next-in-Some.result next) in
     subst (λ (n : Option ℕ). left_from (length ps) c.next_number-next-in-Some.result < left_from (length ps) n) (sym c.in-Some.is) less
+
+pub loop-next-preserved-else-chosen : goal.loop-next-preserved-else-chosen
+loop-next-preserved-else-chosen g c =
+    let P = g.C.Chooser.IsChosen c.args.chooser.now in
+    let ps = c.args.pattern.now in
+    let depth = c.part-depth.result.depth in
+    let at = c.in-Some.at in
+    let placed = c.in-Some-placed.placed in
+    let next = c.next_number-next-in-Some.ensures ps c.in-Some-placed.ensures in
+    let passed : (found : Option (List Part)) → IsFirst P (branches_of depth (drop (at + 1) ps)) found → IsFirst P (branches_of depth (drop at ps)) found = λ found k.
+    let there = selector_there placed ps at c.part-part.result c.in-Some-placed.ensures c.part-part.ensures depth c.in-Branch.selector c.if-part-depth.true c.in-Branch.is in
+    let other : P (selector_view c.in-Branch.selector) → ⊥ = λ e.
+    let yes : c.in-Ok.chosen ≡ true = c.in-Ok.ensures.1 e in
+    let not : c.in-Ok.chosen ≡ false = c.if-chosen.false in
+    cc in
+    subst (λ (bs : List Branching). IsFirst P bs found) (sym there) (inr (other, k))
+    in
+    let behind : c.args.index < at = rw c.in-Some.is at c.loop-next.invariant.behind in
+    record {
+      passed = λ found k. c.loop-next.invariant.passed found (rw c.in-Some.is (passed found (first_behind P c.requires.numbers depth ps at c.next_number-next-in-Some.result found next k)));
+      behind = further c.args.index at c.next_number-next-in-Some.result behind (next_behind depth ps at c.next_number-next-in-Some.result next);
+    }
 
 pub loop-next-preserved : goal.loop-next-preserved
 loop-next-preserved g c =
@@ -78,18 +107,9 @@ loop-next-preserved g c =
     let at = c.in-Some.at in
     let placed = c.in-Some-placed.placed in
     let next = c.next_number-next-in-Some.ensures ps c.in-Some-placed.ensures in
-    let passed : (found : Option (List Part)) → IsFirst P (branches_of depth (drop (at + 1) ps)) found → IsFirst P (branches_of depth (drop at ps)) found = λ found k. elim c.if-part-depth.branch [
-      | then-part-depth+in-Branch+in-Ok+else-chosen w ↦
-          let there = selector_there placed ps at c.part-part.result c.in-Some-placed.ensures c.part-part.ensures depth w.in-Branch.selector w.if-part-depth.true w.in-Branch.is in
-          let other : P (selector_view w.in-Branch.selector) → ⊥ = λ e.
-          let yes : w.in-Ok.chosen ≡ true = w.in-Ok.ensures.1 e in
-          let not : w.in-Ok.chosen ≡ false = w.if-chosen.false in
-          cc
-          in
-          subst (λ (bs : List Branching). IsFirst P bs found) (sym there) (inr (other, k))
-      | else-part-depth w ↦
-          subst (λ (bs : List Branching). IsFirst P bs found) (sym (deeper_there placed ps at c.part-part.result c.in-Some-placed.ensures c.part-part.ensures depth w.if-part-depth.false)) k
-    ] in
+    let passed : (found : Option (List Part)) → IsFirst P (branches_of depth (drop (at + 1) ps)) found → IsFirst P (branches_of depth (drop at ps)) found = λ found k.
+    subst (λ (bs : List Branching). IsFirst P bs found) (sym (deeper_there placed ps at c.part-part.result c.in-Some-placed.ensures c.part-part.ensures depth c.if-part-depth.false)) k
+    in
     let behind : c.args.index < at = rw c.in-Some.is at c.loop-next.invariant.behind in
     record {
       passed = λ found k. c.loop-next.invariant.passed found (rw c.in-Some.is (passed found (first_behind P c.requires.numbers depth ps at c.next_number-next-in-Some.result found next k)));

@@ -1,7 +1,8 @@
-use Rattle.std.proofs.Common.{◌∙◌, refl, sym, arith}
+use Rattle.std.proofs.Common.{◌∙◌, ap, map, refl, sym, arith}
 use Rattle.std.proofs.lemmas.List.{length-map}
+use Rattle.packed_pattern.specs.PatternBlocks.{items_fault}
 use Rattle.packed_pattern.specs.Inner.PartReading.{part_in}
-use Rattle.packed_pattern.proofs.BlockItems.{are_items}
+use Rattle.packed_pattern.proofs.BlockItems.{are_items, no_items_fault}
 use Rattle.packed_pattern.proofs.block.items_fault.Goals as goal
 
 pub first_misplaced-requires : goal.first_misplaced-requires
@@ -12,3 +13,8 @@ first_misplaced-requires c κs = (
     (are_items 0 c.args.list.now (sym c.first_fault_of.ensures ∙ c.in_default.is)).packable,
   ),
 )
+
+pub returns-then-is_block : goal.returns-then-is_block
+returns-then-is_block c =
+    let block = c.is_block.ensures c.if-is_block.true in
+    sym (ap items_fault (sym block.packed) ∙ no_items_fault (map part_in c.args.list.now) block.packable block.nested)

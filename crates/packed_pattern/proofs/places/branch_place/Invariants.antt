@@ -1,7 +1,7 @@
 use Rattle.std.proofs.Common.{◌≡◌, ◌+◌, ◌≤◌, length}
 use Rattle.packed_pattern.specs.PartPlaces.{branch_place}
 use Rattle.packed_pattern.specs.Inner.PlaceViews.{sought_view}
-use Rattle.packed_pattern.proofs.BehindPlaces.{behind}
+use Rattle.packed_pattern.specs.Inner.PlacesAhead.{behind}
 use Rattle.packed_pattern.proofs.places.branch_place.Given as goal
 
 -- The place in what is left is that in all parts, less those that were passed.

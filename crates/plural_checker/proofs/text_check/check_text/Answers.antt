@@ -1,7 +1,6 @@
 use Rattle.std.proofs.Common.{ℕ, List, ap, inl, inr, length, refl, subst}
 use Rattle.std.proofs.lemmas.Result.{on_ok_weaker}
 use Rattle.std.specs.Option.{option_copied}
-use Rattle.icu_plurals.specs.declared.provider.rules.runtime.ast.RuleError.TheVariants.{Parse}
 use Rattle.plural_checker.specs.Findings.{fault_alone}
 use Rattle.plural_checker.specs.Inner.TextReadings.{IsFoundInRead, IsReading}
 use Rattle.plural_checker.specs.declared.fault.Fault.{Fault}
@@ -29,13 +28,14 @@ returns-in-Long c =
 
 pub returns-in-Refused : goal.returns-in-Refused
 returns-in-Refused c =
-    let error = c.in-Refused.fault in
-    let refused : IsReading c.args.text.now (Refused error) = subst (IsReading c.args.text.now) c.in-Refused.is c.reading.ensures in
-    let fault : Fault = record { category = c.args.category; kind = Unread (Parse error) } in
+    let refused : IsReading c.args.text.now (Refused c.in-Refused.fault) = subst (IsReading c.args.text.now) c.in-Refused.is c.reading.ensures in
+    let kind = c.in-Refused.fault.kind in
+    let byte = c.in-Refused.fault.byte in
+    let fault : Fault = record { category = c.args.category; kind = Unread kind byte } in
     on_ok_weaker c.add-in-Refused.result
     (λ is. (
       fault_alone fault,
-      inr (refused.0, inl (Parse error, refused.1, refl)),
+      inr (refused.0, inl (kind, byte, refused.1, refused.2, refl)),
       grows_by_fault c.args.report.now c.add-in-Refused.new.self fault is,
     ))
     c.add-in-Refused.ensures

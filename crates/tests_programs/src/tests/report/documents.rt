@@ -20,7 +20,7 @@ const FAULTY: &str = r#"{"cardinals":{},"cardinal":{
 "parents":{"a":"b","b":"a","en-AU":["en-001"]}}"#;
 
 const FAULTS: &str = "cardinals: not a part
-cardinal a one: expected operator
+cardinal a one: expected operator at byte 2
 cardinal b one: read as v = 0
 cardinal c: no other
 cardinal c few: no text
@@ -298,7 +298,7 @@ cardinal a one: sample 2 is other
 cardinal a one: sample 2 is other
 cardinal a one: sample 3 is other
 cardinal a one: and 2 more
-cardinal a other: expected operator
+cardinal a other: expected operator at byte 2
 locales: 1, rules: 2, numbers: 13, faults: 13
 "#;
     table_holds(&rt, rt.alloc(), table)

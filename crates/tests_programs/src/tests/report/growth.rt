@@ -24,7 +24,7 @@ fn growth_of_a_report(rt: HostRuntime) {
     let report = "x: not a part
 cardinal a: no other
 cardinal a one: no text
-cardinal a two: expected operator
+cardinal a two: expected operator at byte 2
 cardinal a ones: not a category
 ranges b_: key with _
 ranges b_: no cardinal rules

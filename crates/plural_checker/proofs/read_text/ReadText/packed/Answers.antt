@@ -14,7 +14,7 @@ returns-in-Long-clause-refused c =
 pub returns-in-Refused-clause-refused : goal.returns-in-Refused-clause-refused
 returns-in-Refused-clause-refused c =
     let refused : IsReading c.args.self.now (Refused c.in-Refused.field-0) = subst (IsReading c.args.self.now) c.in-Refused.is c.reading.ensures in
-    inr (c.in-Refused.field-0, refused.1)
+    inr (c.in-Refused.field-0.kind, refused.1)
 
 pub returns-in-Rule-clause-ok : goal.returns-in-Rule-clause-ok
 returns-in-Rule-clause-ok c =

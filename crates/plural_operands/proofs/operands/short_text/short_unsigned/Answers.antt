@@ -18,7 +18,7 @@ pub with_exponent-requires : goal.with_exponent-requires
 with_exponent-requires c =
     let first : get_or c.short_front-i.result.1.now 0 0 ≡ 46 = search rules in
     let h = behind_point c.args.text.now c.short_front-i.result.1.now c.with_fraction-digits.result.1.now c.short_front-i.result.0
-    c.max.result c.with_fraction-digits.result.0 c.short_front-i.ensures c.in-46.len_at_least first
+    c.max.result c.with_fraction-digits.result.0 c.short_front-i.ensures.front c.in-46.len_at_least first
     c.with_fraction-digits.ensures.fraction c.with_fraction-digits.ensures.integer c.with_fraction-digits.ensures.exponent
     (λ e. c.if-digits-eq0.false (ap (λ o. o.v) c.digits.view_is ∙ e)) (omega (arith, c.max.ensures)) in
     (h.x, h.plain)
@@ -27,7 +27,7 @@ pub with_exponent-requires-in_default-2 : goal.with_exponent-requires-in_default
 with_exponent-requires-in_default-2 c =
     let rest : List ℕ = c.short_front-i.result.1.now in
     let whole : ℕ = length c.args.text.now - length c.short_front-i.result.1.now in
-    let h = whole_plain c.args.text.now rest c.short_front-i.result.0 whole c.from.result c.short_front-i.ensures refl (omega arith) c.from.ensures in
+    let h = whole_plain c.args.text.now rest c.short_front-i.result.0 whole c.from.result c.short_front-i.ensures.front refl (omega arith) c.from.ensures in
     (h.x, h.plain)
 
 pub returns-else-digits-eq0 : goal.returns-else-digits-eq0
@@ -35,7 +35,7 @@ returns-else-digits-eq0 c =
     let first : get_or c.short_front-i.result.1.now 0 0 ≡ 46 = search rules in
     c.with_exponent.ensures c.args.text.now
     (behind_point c.args.text.now c.short_front-i.result.1.now c.with_fraction-digits.result.1.now c.short_front-i.result.0
-    c.max.result c.with_fraction-digits.result.0 c.short_front-i.ensures c.in-46.len_at_least first
+    c.max.result c.with_fraction-digits.result.0 c.short_front-i.ensures.front c.in-46.len_at_least first
     c.with_fraction-digits.ensures.fraction c.with_fraction-digits.ensures.integer c.with_fraction-digits.ensures.exponent
     (λ e. c.if-digits-eq0.false (ap (λ o. o.v) c.digits.view_is ∙ e)) (omega (arith, c.max.ensures)))
 
@@ -44,4 +44,4 @@ returns-in_default-2 c =
     let rest : List ℕ = c.short_front-i.result.1.now in
     let whole : ℕ = length c.args.text.now - length c.short_front-i.result.1.now in
     c.with_exponent-in_default-2.ensures c.args.text.now
-    (whole_plain c.args.text.now rest c.short_front-i.result.0 whole c.from.result c.short_front-i.ensures refl (omega arith) c.from.ensures)
+    (whole_plain c.args.text.now rest c.short_front-i.result.0 whole c.from.result c.short_front-i.ensures.front refl (omega arith) c.from.ensures)

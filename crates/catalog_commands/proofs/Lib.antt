@@ -1,0 +1,2 @@
+mod PatternTexts
+mod WordArguments

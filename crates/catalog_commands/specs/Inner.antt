@@ -1,0 +1,2 @@
+-- No definitions of the subject: views, and what private functions tell.
+pub mod KeyedViews
