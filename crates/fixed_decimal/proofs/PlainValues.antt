@@ -1,5 +1,5 @@
 -- Plain numbers of the same value, by their bytes.
-use Rattle.std.proofs.Common.{◌≡◌, ◌↔◌, ℕ, zero, suc, ◌+◌, ◌-◌, ◌<◌, ◌≤◌, ◌&&◌, ℤ, pos, negsuc, ◌-ℤ◌, Bool, true, false, inl, inr, List, [], ◌∷◌, ◌++◌, refl, sym, ◌∙◌, ap, subst}
+use Rattle.std.proofs.Common.{◌≡◌, ◌↔◌, ℕ, zero, suc, ◌-◌, ◌<◌, ◌≤◌, ◌&&◌, ℤ, pos, negsuc, ◌-ℤ◌, Bool, true, false, inl, inr, List, [], ◌∷◌, refl, sym, ◌∙◌, ap, subst}
 use Rattle.std.proofs.Common.{length, reverse, get_or, arith}
 use Rattle.std.specs.Bool.{IsTrue, Decides}
 use Rattle.std.specs.List.{list_all}
@@ -11,7 +11,7 @@ use Rattle.fixed_decimal.specs.Digits.{text_of}
 use Rattle.fixed_decimal.specs.Places.{digit_at}
 use Rattle.fixed_decimal.specs.PlainNumbers.{IsPlain}
 use Rattle.fixed_decimal.specs.SameValue.{digit_of, HaveSameValue, EqualsWritten}
-use Rattle.fixed_decimal.specs.Written.{CompactNumber, WritesCompact, IsCompactOverLimit}
+use Rattle.fixed_decimal.specs.Written.{CompactNumber, IsCompactOverLimit}
 use Rattle.fixed_decimal.specs.Inner.TextParts.{IsDigitByte, AllDigitBytes, digits_in}
 use Rattle.fixed_decimal.specs.Inner.PlainSides.{is_zero, IsShortest, AreSides, plain_number}
 use Rattle.fixed_decimal.specs.declared.sign.Sign.TheVariants as sign
