@@ -2,3 +2,4 @@
 pub mod UnsignedInside
 pub mod TextParts
 pub mod RoundingSteps
+pub mod PlainSides

@@ -8,6 +8,7 @@ ghost use Rattle.fixed_decimal.specs.Inner.TextParts.{AreDigitBytes, IsDigitByte
 pub(crate) const MOST_PLACES: u16 = 32767;
 
 // Returns the end of the run of digits from an index on.
+#[inline]
 pub(crate) fn run_end(text: &[u8], from: usize) -> usize
     requires { from ≤ length text.now }
     ensures least { from ≤ result }

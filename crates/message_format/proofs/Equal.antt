@@ -2,6 +2,7 @@
 use Rattle.std.proofs.Common.{◌≡◌, ◌≤◌, ◌↔◌, ℕ, List, Bool, true, false, subst, ap, inl, inr, arith, Some, None, Result, Err}
 use Rattle.std.specs.Bool.{IsTrue}
 use Rattle.fixed_decimal.specs.Places.{IsWithinLimit}
+use Rattle.fixed_decimal.specs.SameValue.{HaveSameValue, EqualsWritten}
 use Rattle.fixed_decimal.specs.declared.error.DecimalError.{DecimalError}
 use Rattle.fixed_decimal.specs.declared.error.DecimalError.TheVariants as number
 use Rattle.fixed_decimal.specs.Written.{CompactNumber, WritesCompact, IsCompactOverLimit, OneCompact}
@@ -10,8 +11,7 @@ use Rattle.plural_base.specs.DecimalChoice.{IsTextChoice}
 use Rattle.plural_base.specs.FiveRules.{FiveRules}
 use Rattle.plural_base.specs.declared.category.PluralCategory.{PluralCategory}
 use Rattle.message_pattern.specs.PatternParts.{Part, Branching}
-use Rattle.message_format.specs.FormatNumbers.{HaveSameValue}
-use Rattle.message_format.specs.FormatBranches.{Equals, EqualsWritten, IsBranchOfNumber, IsCategory, branch_or_other}
+use Rattle.message_format.specs.FormatBranches.{Equals, IsBranchOfNumber, IsCategory, branch_or_other}
 use Rattle.message_format.specs.declared.error.ArgumentFault.TheVariants.{NotANumber, OverLimit}
 use Rattle.message_format.specs.declared.error.FormatError.{FormatError}
 use Rattle.message_format.specs.declared.error.FormatError.TheVariants as error

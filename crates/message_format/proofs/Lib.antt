@@ -8,4 +8,3 @@ pub mod Equal
 pub mod Passes
 pub mod Less
 pub mod Walk
-pub mod Plainly

@@ -6,7 +6,7 @@ use Rattle.std.proofs.lemmas.Int.{ints}
 use Rattle.std.proofs.lemmas.List.{length-reverse}
 use Rattle.fixed_decimal.specs.Places.{Places, digit_at}
 use Rattle.fixed_decimal.specs.Written.{CompactNumber}
-use Rattle.message_format.specs.FormatNumbers.{digit_of, HaveSameDigits}
+use Rattle.fixed_decimal.specs.SameValue.{digit_of, HaveSameDigits}
 use Rattle.message_format.specs.Inner.FormatViews.{IsZeroOutside}
 
 -- past the end of a list

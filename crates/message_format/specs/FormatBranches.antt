@@ -1,12 +1,12 @@
 -- Which of the branches of an argument is chosen.
 use Rattle.std.specs.Prelude.{◌≡◌, ◌⊎◌, ℕ, List, [], ◌∷◌, Bool, false, nat_lt, bytes_eq, Option, Some, None, if◌then◌else◌, codes}
-use Rattle.fixed_decimal.specs.Written.{CompactNumber, WritesCompact, IsCompactOverLimit}
+use Rattle.fixed_decimal.specs.SameValue.{EqualsWritten}
+use Rattle.fixed_decimal.specs.Written.{CompactNumber}
 use Rattle.plural_base.specs.Categories.{name_of}
 use Rattle.plural_base.specs.DecimalChoice.{IsExactChoice, IsKeptChoice}
 use Rattle.plural_base.specs.FiveRules.{FiveRules}
 use Rattle.plural_base.specs.declared.category.PluralCategory.{PluralCategory}
 use Rattle.message_pattern.specs.PatternParts.{Part, Selector, Exactly, Keyword, End, Branching}
-use Rattle.message_format.specs.FormatNumbers.{HaveSameValue}
 
 -- the parts that follow the end of an argument at a depth
 abbrev pub behind_end : ℕ → List Part → List Part
@@ -46,11 +46,7 @@ branch_or_other word bs = parts_or_none (or_branch (branch_of_keyword word bs) (
 
 -- ---- by a number
 
--- the text writes a number, within the limits of numbers, of the same value
-abbrev pub EqualsWritten : CompactNumber → List ℕ → Type 0
-EqualsWritten x text = (y : CompactNumber) × WritesCompact text y × (IsCompactOverLimit y → ⊥) × HaveSameValue x y
-
--- the selector is `=` and such a number
+-- the selector is `=` and a number of the same value
 abbrev pub Equals : CompactNumber → Selector → Type 0
 Equals x (Exactly number) = EqualsWritten x number
 Equals x (Keyword word) = ⊥

@@ -2,4 +2,3 @@
 pub mod FormatViews
 pub mod FormatColumns
 pub mod FormatWalks
-pub mod FormatPlain

@@ -1,6 +1,5 @@
 -- what a pattern says with its arguments
 pub mod FormatArguments
-pub mod FormatNumbers
 pub mod FormatOffsets
 pub mod FormatBranches
 pub mod FormatParts

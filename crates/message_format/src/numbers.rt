@@ -2,9 +2,9 @@
 
 ghost use Rattle.std.specs.Prelude.{◌≡◌, ◌↔◌, ◌<◌, ◌≤◌, ◌<ℤ◌, ◌≤ℤ◌, ◌-ℤ◌, ℤ, ℕ, pos, neg_ℤ, IsTrue, IfOk, IfSome, IfNone, Err};
 ghost use Rattle.fixed_decimal.specs.Places.{digit_at, IsWithinLimit};
+ghost use Rattle.fixed_decimal.specs.SameValue.{digit_of, HaveSameDigits, IsBelowZero, HaveSameValue, EqualsWritten};
 ghost use Rattle.fixed_decimal.specs.Written.{CompactNumber, WritesCompact, IsCompactOverLimit};
-ghost use Rattle.message_format.specs.FormatBranches.{Equals, EqualsWritten};
-ghost use Rattle.message_format.specs.FormatNumbers.{digit_of, HaveSameDigits, IsBelowZero, HaveSameValue};
+ghost use Rattle.message_format.specs.FormatBranches.{Equals};
 ghost use Rattle.message_format.specs.Inner.FormatViews.{IsZeroOutside, IsSpanOf};
 
 use crate::source::Chooser;

@@ -18,7 +18,7 @@ use Rattle.message_format.specs.declared.saying.Next as next
 use Rattle.message_format.specs.declared.shown.Shown.TheVariants as shows
 use Rattle.message_format.specs.FormatArguments.{Argument, Value, value_view}
 use Rattle.message_format.specs.FormatParts.{AreLeftOf}
-use Rattle.message_format.specs.FormatNumbers.{digit_of}
+use Rattle.fixed_decimal.specs.SameValue.{digit_of}
 use Rattle.message_format.specs.FormatSteps.{Step, Prints, Chooses, Fails, TwoRules, both}
 use Rattle.message_format.specs.FormatMeaning.{PatternOutcome, Said, Faulty, Says}
 use Rattle.message_format.specs.FormatWalk.{GoesOn, GoesOnBehind}

@@ -1,6 +1,8 @@
 //! Numbers: read from texts, made of integers, shifted, and their digits.
 
-use fixed_decimal::{CompactDecimal, Decimal, DecimalError, RoundingMode, UnsignedDecimal};
+use fixed_decimal::{
+    CompactDecimal, Decimal, DecimalError, PlainNumber, RoundingMode, UnsignedDecimal,
+};
 use row_calls::arguments::is_one_of;
 use row_calls::call::Call;
 use std::alloc::Global;
@@ -54,6 +56,7 @@ fn makes_other(kind: &str, call: &mut Call) -> bool {
         "signed_integer" | "signed_integer_64" => signed_integer(kind, call),
         "rounded_decimal" => rounded_decimal(call),
         "rounded_unsigned" => rounded_unsigned(call),
+        "plain_value" => plain_value(call),
         _ => return false,
     }
     true
@@ -368,4 +371,17 @@ fn read_rounded_unsigned(
     let mut number = UnsignedDecimal::from_str(alloc, text)?;
     number.round_with_mode(position, mode)?;
     Ok(number)
+}
+
+// Whether an integer has the value of a plain number.
+fn plain_value(call: &mut Call) {
+    let text = call.text();
+    let integer = call.text();
+    match PlainNumber::of(text.as_bytes()) {
+        Some(number) => match number.same_value(integer.as_bytes()) {
+            Some(same) => call.print_truth(same),
+            None => call.print("no plain integer"),
+        },
+        None => call.print("not plain"),
+    }
 }

@@ -1,5 +1,5 @@
 use Rattle.std.proofs.Common.{◌≡◌, ℤ, ◌<ℤ◌, ◌≤ℤ◌, neg_ℤ, pos}
-use Rattle.message_format.specs.FormatNumbers.{digit_of}
+use Rattle.fixed_decimal.specs.SameValue.{digit_of}
 use Rattle.message_format.proofs.numbers.has_same_digits.Given as goal
 
 -- the digits below this power of ten are the same

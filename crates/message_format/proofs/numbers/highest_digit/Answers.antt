@@ -1,6 +1,6 @@
 use Rattle.std.proofs.Common.{◌≡◌, ◌<◌, ℕ, ℤ, ◌∙◌, sym, subst, to_z, w32, arith}
 use Rattle.std.proofs.lemmas.Int.{ints}
-use Rattle.message_format.specs.FormatNumbers.{digit_of}
+use Rattle.fixed_decimal.specs.SameValue.{digit_of}
 use Rattle.message_format.proofs.Outside.{zeros_between, none_between}
 use Rattle.message_format.proofs.numbers.highest_digit.Goals as goal
 use Rattle.message_format.proofs.numbers.highest_digit.Goals.{then-digit_of-ne0, else-digit_of-ne0}
