@@ -1,6 +1,6 @@
 //! The six texts of a language's rules.
 
-ghost use Rattle.std.specs.Prelude.{◌≡◌, IfErr, IfOk, None, Some};
+ghost use Rattle.std.specs.Prelude.{◌≡◌, IfErr, IfOk, None, OnOk, Some};
 ghost use Rattle.std.specs.Option.{option_copied};
 ghost use Rattle.icu_plurals.specs.FiveRules.{rules_of};
 ghost use Rattle.plural_checker.specs.Inner.TextReadings.{IfRefused, six};
@@ -44,10 +44,38 @@ use std::alloc::{AllocError, Global};
 pub fn check_texts(alloc: Global, texts: &LanguageTexts<'_>) -> Result<Report, AllocError>
     ensures { IfOk result (λ report. AreFindingsOf (six_texts texts.now) report) }
 {
-    let five = read_five(alloc, texts)?;
-    let other = read_if_there(alloc, texts.other)?;
-    let rules = rules_of(alloc, &five)?;
-    check_all(alloc, rules.as_ref(), &five, &other)
+    match read_five(alloc, texts) {
+        Ok(five) => check_five(alloc, &five, texts.other),
+        Err(error) => Err(error),
+    }
+}
+
+// The faults of five texts that are read, and of that of other.
+fn check_five(
+    alloc: Global,
+    five: &Five<Option<ReadText<'_>>>,
+    other: Option<&str>,
+) -> Result<Report, AllocError>
+    ensures { IfOk result (λ report. AreFindingsOf (six five.now (option_copied other.entry)) report) }
+{
+    match read_if_there(alloc, other) {
+        Ok(other) => check_six(alloc, five, &other),
+        Err(error) => Err(error),
+    }
+}
+
+// The faults of six texts that are read.
+fn check_six(
+    alloc: Global,
+    five: &Five<Option<ReadText<'_>>>,
+    other: &Option<ReadText<'_>>,
+) -> Result<Report, AllocError>
+    ensures { IfOk result (λ report. AreFindingsOf (six five.now other.now) report) }
+{
+    match rules_of(alloc, five) {
+        Ok(rules) => check_all(alloc, rules.as_ref(), five, other),
+        Err(error) => Err(error),
+    }
 }
 
 // The five texts, each read once.
@@ -57,7 +85,38 @@ fn read_five<'a>(
 ) -> Result<Five<Option<ReadText<'a>>>, AllocError>
     ensures { IfOk result (λ five. five ≡ (six_texts texts.now).five) }
 {
-    Ok(make_five!(Five, texts, |text| read_if_there(alloc, *text)?))
+    let mut five = Five::none();
+    match put_read(alloc, texts, &mut five) {
+        Ok(()) => Ok(five),
+        Err(error) => Err(error),
+    }
+}
+
+// Puts what the five texts are read as in their places.
+fn put_read<'a>(
+    alloc: Global,
+    texts: &LanguageTexts<'a>,
+    five: &mut Five<Option<ReadText<'a>>>,
+) -> Result<(), AllocError>
+    ensures { OnOk result (five.new ≡ (six_texts texts.now).five) }
+{
+    put_text(alloc, texts.zero, &mut five.zero)?;
+    put_text(alloc, texts.one, &mut five.one)?;
+    put_text(alloc, texts.two, &mut five.two)?;
+    put_text(alloc, texts.few, &mut five.few)?;
+    put_text(alloc, texts.many, &mut five.many)
+}
+
+// Puts what a text is read as in its place.
+fn put_text<'a>(
+    alloc: Global,
+    text: Option<&'a str>,
+    place: &mut Option<ReadText<'a>>,
+) -> Result<(), AllocError>
+    ensures { OnOk result (place.new ≡ option_copied text.entry) }
+{
+    *place = read_if_there(alloc, text)?;
+    Ok(())
 }
 
 // The faults of the texts under these rules.

@@ -23,9 +23,11 @@ pub(crate) fn find(rules: &PluralRules<'_>, sought: Sought) -> LeastNumbers
     ensures { AreFound rules.now sought result }
 {
     let mut seen = LeastNumbers::none();
-    if sought.start < WHOLE_LIMIT {
-        see_all(&mut AskedRules::of(rules.as_borrowed()), sought, &mut seen);
+    if sought.start >= WHOLE_LIMIT {
+        return seen;
     }
+    let mut asked = AskedRules::of(rules.as_borrowed());
+    see_all(&mut asked, sought, &mut seen);
     seen
 }
 

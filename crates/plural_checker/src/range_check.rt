@@ -1,6 +1,6 @@
 //! Checks the samples of a text against the text's category.
 
-ghost use Rattle.std.specs.Prelude.{◌≡◌, List, ℕ, IfOk, OnOk};
+ghost use Rattle.std.specs.Prelude.{◌≡◌, List, ℕ, IfOk, OnOk, Some};
 ghost use Rattle.std.specs.Option.{option_copied};
 ghost use Rattle.plural_checker.specs.Findings.{AddsFindings, EachFinds, GrowsBy};
 ghost use Rattle.plural_checker.specs.NumberChecks.{IsCheckedRange};
@@ -30,8 +30,52 @@ pub(crate) fn check_samples(
     let Some(lists) = samples else {
         return Ok(());
     };
-    let asked = asked_for(alloc, rules, lists)?;
-    let rules = asked.as_ref();
+    match rules {
+        Some(rules) => check_under(alloc, rules, category, lists, report),
+        None => check_lists(alloc, None, category, lists, report),
+    }
+}
+
+// The same under rules, which are asked in the way that is best for so many samples.
+fn check_under(
+    alloc: Global,
+    rules: &PluralRules<'_>,
+    category: PluralCategory,
+    lists: &Samples,
+    report: &mut Report,
+) -> Result<(), AllocError>
+    ensures { OnOk result (AddsFindings (IsFoundInSamples (Some rules.now) category (Some lists.now)) report.old report.new) }
+{
+    let mut asked = AskedRules::of(rules.as_borrowed());
+    check_asked(alloc, &mut asked, category, lists, report)
+}
+
+// The same under rules that can be put in order.
+fn check_asked(
+    alloc: Global,
+    asked: &mut AskedRules<'_>,
+    category: PluralCategory,
+    lists: &Samples,
+    report: &mut Report,
+) -> Result<(), AllocError>
+    ensures { OnOk result (AddsFindings (IsFoundInSamples (Some asked.old) category (Some lists.now)) report.old report.new) }
+{
+    if !asked.rules().has_few_ranges() {
+        asked.put_in_order(alloc, number_count(lists))?;
+    }
+    check_lists(alloc, Some(asked), category, lists, report)
+}
+
+// Adds the faults of the lists of samples.
+fn check_lists(
+    alloc: Global,
+    rules: Option<&AskedRules<'_>>,
+    category: PluralCategory,
+    lists: &Samples,
+    report: &mut Report,
+) -> Result<(), AllocError>
+    ensures { OnOk result (AddsFindings (IsFoundInSamples (option_copied rules.entry) category (Some lists.now)) report.old report.new) }
+{
     check_list(
         alloc,
         rules,
@@ -48,25 +92,6 @@ pub(crate) fn check_samples(
         &lists.decimal,
         report,
     )
-}
-
-// The rules, if there are any, which will be asked for these samples.
-fn asked_for<'a>(
-    alloc: Global,
-    rules: Option<&'a PluralRules<'_>>,
-    samples: &Samples,
-) -> Result<Option<AskedRules<'a>>, AllocError>
-    ensures { IfOk result (λ asked. asked ≡ option_copied rules.entry) }
-{
-    let Some(rules) = rules else {
-        return Ok(None);
-    };
-    let mut asked = AskedRules::of(rules.as_borrowed());
-    if rules.has_few_ranges() {
-        return Ok(Some(asked));
-    }
-    asked.put_in_order(alloc, number_count(samples))?;
-    Ok(Some(asked))
 }
 
 // Adds the faults of a list of samples, if it is present.
