@@ -9,11 +9,6 @@ pub mod AfterLemmas
 pub mod StreamLemmas
 -- answers to documents
 pub mod AnswerLemmas
--- the outline of a document of rules
-pub mod SameNames
-pub mod OutlineFound
-pub mod OutlineStays
-pub mod OutlineServes
 -- unknown languages
 pub mod UnknownLemmas
 pub mod SimilarLemmas

@@ -2,7 +2,6 @@
 pub mod QuestionViews
 pub mod FormsInputFaults
 pub mod PrintedSteps
-pub mod RulesOutline
 pub mod RunSteps
 pub mod SimilarSteps
 pub mod LineSteps

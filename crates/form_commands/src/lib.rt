@@ -12,7 +12,6 @@ mod misspelt;
 mod name;
 mod note;
 mod number;
-mod outline;
 mod printed;
 mod question;
 mod run;

@@ -1,5 +1,5 @@
 use Rattle.std.proofs.Common.{◌≡◌, ◌-◌, ◌≤◌, length}
-use Rattle.form_commands.proofs.outline.walk.Given as goal
+use Rattle.rules_outline.proofs.outline.walk.Given as goal
 
 abbrev pub invariant-loop-count : goal.invariant-loop-count
 invariant-loop-count l = (l.count ≤ 16) × (length l.steps ≡ 16)

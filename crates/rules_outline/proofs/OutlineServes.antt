@@ -13,13 +13,14 @@ use Rattle.plural_fallback.specs.declared.error.FallbackError.TheVariants.{NotFo
 use Rattle.plural_fallback.specs.declared.locales.Part.{Part}
 use Rattle.serde_json.specs.Data.{Data}
 use Rattle.serde_json.specs.View.{view}
-use Rattle.form_commands.specs.Inner.RulesOutline.{HoldsPart, IsFirst, IsFirstInside, IsServedBy, ServesAt, StaysInside, is_inside, keeps, key_by}
-use Rattle.form_commands.specs.Languages.{HasNoKey, IsKeyOf, key_after, most_locales}
-use Rattle.form_commands.specs.declared.outline.KeptLocales.{KeptLocales}
-use Rattle.form_commands.specs.declared.outline.KeptLocales.TheVariants.{All}
-use Rattle.form_commands.specs.declared.outline.KeptRules.{KeptRules}
-use Rattle.form_commands.specs.declared.outline.RulesSieve.TheVariants.{Document}
-use Rattle.form_commands.proofs.OutlineFound.{key_inside, same_key, same_next, same_value}
+use Rattle.rules_outline.specs.Inner.RulesOutline.{HoldsPart, IsFirst, IsFirstInside, StaysInside, is_inside, keeps}
+use Rattle.rules_outline.specs.KeptRules.{IsServedBy, ServesAt, key_by}
+use Rattle.rules_outline.specs.LocaleKeys.{HasNoKey, IsKeyOf, key_after, most_locales}
+use Rattle.rules_outline.specs.declared.outline.KeptLocales.{KeptLocales}
+use Rattle.rules_outline.specs.declared.outline.KeptLocales.TheVariants.{All}
+use Rattle.rules_outline.specs.declared.outline.KeptRules.{KeptRules}
+use Rattle.rules_outline.specs.declared.outline.RulesSieve.TheVariants.{Document}
+use Rattle.rules_outline.proofs.OutlineFound.{key_inside, same_key, same_next, same_value}
 
 module _ (part : Part) (locale : List ℕ) (locales : KeptLocales) (whole document : Data)
     (is : outline keeps (kept.Members (Document part locales)) whole ≡ Some document) (stays : StaysInside locales document part locale) where

@@ -1,7 +1,7 @@
 use Rattle.std.proofs.Common.{ℕ, List, ap, subst}
 use Rattle.plural_documents.proofs.JsonTextLemmas.{some_bytes}
-use Rattle.form_commands.specs.Inner.RulesOutline.{IsServedBy}
-use Rattle.form_commands.proofs.outline.kept_rules.Goals as goal
+use Rattle.rules_outline.specs.KeptRules.{IsServedBy}
+use Rattle.rules_outline.proofs.outline.kept_rules.Goals as goal
 
 pub returns-in-Ok : goal.returns-in-Ok
 returns-in-Ok c =

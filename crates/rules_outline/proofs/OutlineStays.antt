@@ -10,9 +10,9 @@ use Rattle.plural_fallback.specs.LocalesJson.{keys_under, parent_in, part_name}
 use Rattle.plural_fallback.specs.declared.error.FallbackError.TheVariants.{NotFound}
 use Rattle.plural_fallback.specs.declared.locales.Part.{Part}
 use Rattle.serde_json.specs.Data.{Data}
-use Rattle.form_commands.specs.Inner.RulesOutline.{IsFirstInside, IsInsideAt, StaysInside, is_inside}
-use Rattle.form_commands.specs.Languages.{key_after}
-use Rattle.form_commands.specs.declared.outline.KeptLocales.{KeptLocales}
+use Rattle.rules_outline.specs.Inner.RulesOutline.{IsFirstInside, IsInsideAt, StaysInside, is_inside}
+use Rattle.rules_outline.specs.LocaleKeys.{key_after}
+use Rattle.rules_outline.specs.declared.outline.KeptLocales.{KeptLocales}
 
 module _ (locales : KeptLocales) (document : Data) (part : Part) (locale : List ℕ) where
   abbrev pub at : ℕ → Option (List ℕ)

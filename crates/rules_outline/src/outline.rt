@@ -1,7 +1,8 @@
 //! The outline of a document of rules: what is kept of it serves one locale as the whole does.
 
 ghost use Rattle.std.specs.Prelude.{◌≡◌, ◌≤◌, IfOk, IfSome, codes, take, length, string_bytes};
-ghost use Rattle.form_commands.specs.Inner.RulesOutline.{HoldsPart, IsFirstInside, IsServedBy, GivesKeptRules, is_among, is_inside, is_part, key_by, steps_view};
+ghost use Rattle.rules_outline.specs.Inner.RulesOutline.{HoldsPart, IsFirstInside, is_among, is_inside, is_part, steps_view};
+ghost use Rattle.rules_outline.specs.KeptRules.{IsServedBy, GivesKeptRules, key_by};
 ghost use Rattle.plural_fallback.specs.LocaleNames.{is_same};
 ghost use Rattle.serde_json.specs.View.{view};
 
@@ -39,7 +40,7 @@ pub(crate) enum RulesSieve<'a> {
 }
 
 impl<'a> Sieve for RulesSieve<'a> {
-    ghost use Rattle.form_commands.specs.Inner.RulesOutline.{keeps};
+    ghost use Rattle.rules_outline.specs.Inner.RulesOutline.{keeps};
 
     ghost keeps = { keeps };
 
@@ -119,18 +120,21 @@ fn is_among(locale: &[u8], steps: &[&[u8]]) -> bool
     false
 }
 
-// What is kept of a document for a locale: the first key of the locale's chain, or why there is
-// none, and a value with what stands under the key.
+/// What is kept of a document of rules for a locale.
 #[derive(Drop)]
-pub(crate) struct KeptRules {
-    pub(crate) key: Result<String, FallbackError>,
-    pub(crate) document: Value,
+pub struct KeptRules {
+    /// The first key of the locale's chain in the part, or why there is none.
+    pub key: Result<String, FallbackError>,
+    /// A value that has under this key of the part what the document has.
+    pub document: Value,
 }
 
-// What is kept of a document for a locale: of an outline with the keys of the locales that it
-// begins with, or of its chain, or all of its part, if the locale is long, or its chain has many
-// locales. The text is read once. The errors are those of the whole.
-pub(crate) fn kept_rules(
+/// Returns what is kept of the document that bytes write, for a locale and a part.
+///
+/// The text is read once. Kept of the part are the keys of the locales that this one begins with,
+/// or those of its chain, or all, if the locale is long or its chain has many locales. The errors
+/// are those of the whole document. It allocates.
+pub fn kept_rules(
     alloc: Global,
     part: Part,
     locale: &str,

@@ -1,6 +1,6 @@
 use Rattle.std.proofs.Common.{◌≡◌, length}
-use Rattle.form_commands.specs.Inner.RulesOutline.{is_among, steps_view}
-use Rattle.form_commands.proofs.outline.is_among.Given as goal
+use Rattle.rules_outline.specs.Inner.RulesOutline.{is_among, steps_view}
+use Rattle.rules_outline.proofs.outline.is_among.Given as goal
 
 -- no locale so far is the same
 abbrev pub invariant-loop-rest : goal.invariant-loop-rest

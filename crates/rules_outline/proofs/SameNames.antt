@@ -5,9 +5,9 @@ use Rattle.std.specs.Cmp.Derive.Mapped.{pointwise-map}
 use Rattle.std.proofs.lemmas.List.{length-map}
 use Rattle.std.proofs.lemmas.Slice.Eq.{bytes_eq-Decides}
 use Rattle.plural_fallback.specs.LocaleNames.{folded, is_same}
-use Rattle.form_commands.specs.Inner.RulesOutline.{is_among, is_inside, steps_view}
-use Rattle.form_commands.specs.declared.outline.KeptLocales.{KeptLocales}
-use Rattle.form_commands.specs.declared.outline.KeptLocales.TheVariants.{All, Fronts, These}
+use Rattle.rules_outline.specs.Inner.RulesOutline.{is_among, is_inside, steps_view}
+use Rattle.rules_outline.specs.declared.outline.KeptLocales.{KeptLocales}
+use Rattle.rules_outline.specs.declared.outline.KeptLocales.TheVariants.{All, Fronts, These}
 
 -- a locale in lower case, and `_` as `-`
 abbrev pub folds : List ℕ → List ℕ

@@ -14,12 +14,12 @@ use Rattle.plural_fallback.specs.declared.locales.Part.{Part}
 use Rattle.plural_fallback.specs.declared.locales.Part.TheVariants.{Cardinal, Ordinal, Ranges}
 use Rattle.serde_json.specs.Data.{Data, null, boolean, number, string, array, object, Members, no_members, member}
 use Rattle.serde_json.specs.Find.{as_object, as_str, get, get_member}
-use Rattle.form_commands.specs.Inner.RulesOutline.{is_inside, is_part, keeps}
-use Rattle.form_commands.specs.Languages.{value_at}
-use Rattle.form_commands.specs.declared.outline.KeptLocales.{KeptLocales}
-use Rattle.form_commands.specs.declared.outline.RulesSieve.{RulesSieve}
-use Rattle.form_commands.specs.declared.outline.RulesSieve.TheVariants.{Document, Keys}
-use Rattle.form_commands.proofs.SameNames.{inside_same}
+use Rattle.rules_outline.specs.Inner.RulesOutline.{is_inside, is_part, keeps}
+use Rattle.rules_outline.specs.LocaleKeys.{value_at}
+use Rattle.rules_outline.specs.declared.outline.KeptLocales.{KeptLocales}
+use Rattle.rules_outline.specs.declared.outline.RulesSieve.{RulesSieve}
+use Rattle.rules_outline.specs.declared.outline.RulesSieve.TheVariants.{Document, Keys}
+use Rattle.rules_outline.proofs.SameNames.{inside_same}
 
 -- ---- What `find` finds
 

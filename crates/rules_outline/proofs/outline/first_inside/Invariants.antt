@@ -1,7 +1,7 @@
 use Rattle.std.proofs.Common.{◌-◌}
 use Rattle.serde_json.specs.View.{view}
-use Rattle.form_commands.proofs.OutlineStays.{IsAt}
-use Rattle.form_commands.proofs.outline.first_inside.Given as goal
+use Rattle.rules_outline.proofs.OutlineStays.{IsAt}
+use Rattle.rules_outline.proofs.outline.first_inside.Given as goal
 
 -- the current locale is the one after so many steps
 abbrev pub invariant-loop-steps : goal.invariant-loop-steps

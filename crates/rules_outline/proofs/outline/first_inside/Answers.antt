@@ -1,9 +1,9 @@
 use Rattle.std.proofs.Common.{◌≡◌, ℕ, List, true, ap, arith, rules, sym, ◌∙◌}
 use Rattle.std.specs.Option.{option_copied}
 use Rattle.serde_json.specs.View.{view}
-use Rattle.form_commands.specs.Inner.RulesOutline.{is_inside}
-use Rattle.form_commands.proofs.OutlineStays.{at_first, ends, finds, goes_on}
-use Rattle.form_commands.proofs.outline.first_inside.Goals as goal
+use Rattle.rules_outline.specs.Inner.RulesOutline.{is_inside}
+use Rattle.rules_outline.proofs.OutlineStays.{at_first, ends, finds, goes_on}
+use Rattle.rules_outline.proofs.outline.first_inside.Goals as goal
 
 pub loop-steps-init : goal.loop-steps-init
 loop-steps-init c = rw c.as_bytes-current.ensures.value (at_first c.args.locales (view c.args.document.now) c.args.part c.args.locale.now)

@@ -1,5 +1,5 @@
-use Rattle.form_commands.proofs.OutlineServes.{part_serves}
-use Rattle.form_commands.proofs.outline.rules_inside.Goals as goal
+use Rattle.rules_outline.proofs.OutlineServes.{part_serves}
+use Rattle.rules_outline.proofs.outline.rules_inside.Goals as goal
 
 pub returns : goal.returns
 returns c =

@@ -1,7 +1,7 @@
-use Rattle.form_commands.specs.declared.outline.KeptLocales.TheVariants.{All}
 use Rattle.serde_json.specs.View.{view}
-use Rattle.form_commands.proofs.OutlineServes.{all_stay, first_found, part_serves}
-use Rattle.form_commands.proofs.outline.rules_of_part.Goals as goal
+use Rattle.rules_outline.specs.declared.outline.KeptLocales.TheVariants.{All}
+use Rattle.rules_outline.proofs.OutlineServes.{all_stay, first_found, part_serves}
+use Rattle.rules_outline.proofs.outline.rules_of_part.Goals as goal
 
 pub returns : goal.returns
 returns c =
