@@ -10,10 +10,10 @@ use Rattle.plural_fallback.specs.declared.locales.Part.{Part}
 use Rattle.serde_json.specs.Data.{Data}
 use Rattle.serde_json.specs.declared.Value.{Value}
 use Rattle.rules_outline.specs.declared.outline.KeptRules.{KeptRules}
+use Rattle.number_lines.specs.PrintedTexts.{PrintedText}
 use Rattle.form_commands.specs.FormsAnswers.{IsAnsweredLines, IsAnsweredText, IsCheckedAs, IsDocumentIn, forms_origin}
 use Rattle.form_commands.specs.Inner.FormsInputFaults.{rules_input_fault}
 use Rattle.form_commands.specs.Inner.RunSteps.{GivesJsonValue, GivesRulesIn}
-use Rattle.form_commands.specs.PrintedTexts.{PrintedText}
 use Rattle.form_commands.specs.declared.error.FormsError.{FormsError}
 use Rattle.form_commands.specs.declared.error.FormsError.TheVariants.{Rules, TooLong, Json, Refused, Language, Numbers, Write, Memory}
 use Rattle.form_commands.specs.declared.error.LanguageError.{LanguageError}

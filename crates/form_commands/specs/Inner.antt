@@ -4,8 +4,6 @@ pub mod FormsInputFaults
 pub mod PrintedSteps
 pub mod RunSteps
 pub mod SimilarSteps
-pub mod LineSteps
-pub mod StreamSteps
 pub mod NoteSteps
 pub mod ConditionSteps
 pub mod TranslationSteps
