@@ -512,7 +512,7 @@ fn result_of(lines: Result<bool, LinesError>) -> Result<Verdict, FormsError>
 {
     match lines {
         Ok(has_fault) => Ok(verdict_by(has_fault)),
-        Err(error) => Err(FormsError::from(error)),
+        Err(cause) => Err(FormsError::from(cause)),
     }
 }
 
