@@ -1,5 +1,5 @@
 -- The results of lines and texts, as those of a command.
-use Rattle.std.proofs.Common.{◌≡◌, ℕ, List, Bool, Option, Result, Ok, Err, ap}
+use Rattle.std.proofs.Common.{ℕ, List, Bool, Option, Result, Ok, Err, ap}
 use Rattle.std.specs.Prelude.{◌≢◌, IfErr}
 use Rattle.icu_plurals.specs.FiveRules.{FiveRules}
 use Rattle.number_lines.specs.AnsweredInputs.{AnswersInput, WritesPrinted}

@@ -8,7 +8,7 @@
 --     IsCheckedAs text_of files input old new result      the same for files of messages, of which what is
 --         found is printed so; IsChecked is that of lines
 --     forms_origin fault      where a fault comes from: what was read of the rules by then
-use Rattle.std.specs.Prelude.{◌≡◌, ◌⊎◌, ℕ, ◌<◌, ◌≤◌, ◌==◌, List, ◌++◌, length, Option, Some, None, Result, Ok, Err, if◌then◌else◌}
+use Rattle.std.specs.Prelude.{◌≡◌, ◌⊎◌, ℕ, ◌<◌, ◌≤◌, ◌==◌, List, length, Option, Some, None, Result, Ok, Err, if◌then◌else◌}
 use Rattle.std.specs.Io.KnownBytes.{Appends, Consumes, IsAtEnd, Keeps}
 use Rattle.icu_plurals.specs.DocumentJson.{Document, document_of_json, found}
 use Rattle.icu_plurals.specs.FiveRules.{FiveRules}
@@ -27,9 +27,6 @@ use Rattle.plural_fallback.specs.declared.locales.Part.{Part}
 use Rattle.serde_json.specs.Data.{Data}
 use Rattle.number_lines.specs.AnsweredInputs.{IsAnsweredInPart, IsCutOff}
 use Rattle.number_lines.specs.InputLines.{lines_of}
-use Rattle.number_lines.specs.NumberAnswers.{AreLineAnswers, AreNumberAnswers}
-use Rattle.number_lines.specs.PrintedTexts.{PrintedText, only_text}
-use Rattle.number_lines.specs.InputLines.{AreEndedIn, lines_of}
 use Rattle.number_lines.specs.NumberAnswers.{AreLineAnswers, AreNumberAnswers}
 use Rattle.number_lines.specs.PrintedTexts.{PrintedText, only_text}
 use Rattle.form_commands.specs.FormLines.{IsFormList}

@@ -1,4 +1,4 @@
-use Rattle.form_commands.specs.Inner.RunSteps.{WritesText, result_of_lines}
+use Rattle.form_commands.specs.Inner.RunSteps.{result_of_lines}
 use Rattle.form_commands.proofs.NumberResults.{only_writes, text_written}
 use Rattle.form_commands.proofs.run.write_printed.Goals as goal
 
