@@ -17,11 +17,11 @@ use Rattle.plural_documents.proofs.InputLemmas.{some_input}
 use Rattle.plural_fallback.specs.declared.locales.Part.{Part}
 use Rattle.serde_json.specs.Data.{Data}
 use Rattle.serde_json.specs.declared.Value.{Value}
+use Rattle.number_lines.specs.PrintedTexts.{PrintedText}
 use Rattle.form_commands.specs.FormsAnswers.{IsAnsweredLines, IsAnsweredText, IsCheckedAs, IsDocumentIn, IsStreamed}
 use Rattle.form_commands.specs.Inner.FormsInputFaults.{rules_input_fault, refused_rules}
 use Rattle.form_commands.specs.Inner.RunSteps.{AnswersLines, Checks, GivesDocument, GivesJsonValue, WritesAnswer, WritesText}
 use Rattle.form_commands.specs.Languages.{IsFoundFor, IsKnown}
-use Rattle.form_commands.specs.PrintedTexts.{PrintedText}
 use Rattle.form_commands.specs.declared.error.FormsError.{FormsError}
 use Rattle.form_commands.specs.declared.error.FormsError.TheVariants.{Rules, TooLong, Json, Refused, Language, Numbers, Write, Memory}
 use Rattle.form_commands.specs.declared.error.LanguageError.{LanguageError}

@@ -18,7 +18,7 @@ use Rattle.plural_fallback.specs.declared.error.FallbackError.{FallbackError}
 use Rattle.plural_fallback.specs.declared.locales.Part.{Part}
 use Rattle.serde_json.specs.Data.{Data}
 use Rattle.serde_json.specs.View.{view}
-use Rattle.form_commands.specs.Inner.RulesOutline.{IsFoundUnder}
+use Rattle.form_commands.specs.Inner.RunSteps.{IsFoundUnder}
 use Rattle.form_commands.specs.declared.language.Language.{Language}
 use Rattle.form_commands.specs.CExpressions.{c_condition_text, choice_text, choice_value, condition_value}
 use Rattle.form_commands.specs.GettextLines.{AreFormsOf, FormsAreChosen, HasForm, SomeHas, tried_powers, condition_if, conditions_of, rule_for, whole_category}

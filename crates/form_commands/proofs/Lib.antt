@@ -1,19 +1,9 @@
 -- the options of a question
 pub mod QuestionLemmas
--- what is printed, one after the other
-pub mod PrintedLemmas
--- the lines of an input
-pub mod LineLemmas
--- the state after some bytes
-pub mod AfterLemmas
-pub mod StreamLemmas
 -- answers to documents
 pub mod AnswerLemmas
--- the outline of a document of rules
-pub mod SameNames
-pub mod OutlineFound
-pub mod OutlineStays
-pub mod OutlineServes
+-- the lines of numbers
+pub mod NumberResults
 -- unknown languages
 pub mod UnknownLemmas
 pub mod SimilarLemmas

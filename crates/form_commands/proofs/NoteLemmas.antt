@@ -15,14 +15,15 @@ use Rattle.plural_fallback.specs.declared.locales.Part.TheVariants.{Cardinal, Or
 use Rattle.serde_json.specs.Data.{Data, Members, no_members, member}
 use Rattle.serde_json.specs.View.{members_view}
 use Rattle.serde_json.specs.declared.Value.{Value}
+use Rattle.rules_outline.specs.LocaleKeys.{IsKeyOf}
+use Rattle.number_lines.specs.InputLines.{lines_of}
+use Rattle.number_lines.specs.PrintedTexts.{PrintedText}
 use Rattle.form_commands.specs.FormsAnswers.{IsAnsweredLines, IsAnsweredText, IsCheckedAs, IsDocumentIn, IsStreamed}
-use Rattle.form_commands.specs.InputLines.{lines_of}
 use Rattle.form_commands.specs.Inner.NoteSteps.{Notes, NotesAfter, Writes}
 use Rattle.form_commands.specs.Inner.RunSteps.{AnswersLines, Checks}
 use Rattle.form_commands.specs.Inner.PrintedSteps.{Grows}
 use Rattle.form_commands.specs.KeyNotes.{AreFileNotes, AreLocaleNotes, AreMemberNotes, AreNoted, IsFileNote, IsKeyNote, IsNote, IsNoted, IsNoteIf, has_members, is_asked, note_text}
-use Rattle.form_commands.specs.Languages.{IsFoundFor, IsKeyOf, IsKnown, IsKnownIn}
-use Rattle.form_commands.specs.PrintedTexts.{PrintedText}
+use Rattle.form_commands.specs.Languages.{IsFoundFor, IsKnown, IsKnownIn}
 use Rattle.form_commands.specs.declared.error.FormsError.{FormsError}
 use Rattle.form_commands.specs.declared.error.FormsError.TheVariants.{Memory}
 use Rattle.form_commands.specs.declared.error.LanguageError.{LanguageError}

@@ -9,15 +9,15 @@ use Rattle.plural_documents.proofs.InputLemmas.{all_is_some}
 use Rattle.plural_fallback.specs.declared.locales.Part.{Part}
 use Rattle.serde_json.specs.Data.{Data}
 use Rattle.serde_json.specs.declared.Value.{Value}
+use Rattle.rules_outline.specs.declared.outline.KeptRules.{KeptRules}
+use Rattle.number_lines.specs.PrintedTexts.{PrintedText}
 use Rattle.form_commands.specs.FormsAnswers.{IsAnsweredLines, IsAnsweredText, IsCheckedAs, IsDocumentIn, forms_origin}
 use Rattle.form_commands.specs.Inner.FormsInputFaults.{rules_input_fault}
 use Rattle.form_commands.specs.Inner.RunSteps.{GivesJsonValue, GivesRulesIn}
-use Rattle.form_commands.specs.PrintedTexts.{PrintedText}
 use Rattle.form_commands.specs.declared.error.FormsError.{FormsError}
 use Rattle.form_commands.specs.declared.error.FormsError.TheVariants.{Rules, TooLong, Json, Refused, Language, Numbers, Write, Memory}
 use Rattle.form_commands.specs.declared.error.LanguageError.{LanguageError}
 use Rattle.form_commands.specs.declared.error.Verdict.{Verdict}
-use Rattle.form_commands.specs.declared.outline.KeptRules.{KeptRules}
 
 -- what was read at an error of the input was read at its fault
 read_at : (old new : Option (List ℕ)) (error : InputError) → IsReadAfter (input_origin error) old new

@@ -8,19 +8,20 @@ use Rattle.plural_fallback.specs.declared.error.FallbackError.{FallbackError}
 use Rattle.plural_fallback.specs.declared.locales.Part.{Part}
 use Rattle.serde_json.specs.Data.{Data}
 use Rattle.serde_json.specs.View.{view}
+use Rattle.rules_outline.specs.KeptRules.{Serves, ServesAt, key_by}
+use Rattle.rules_outline.specs.LocaleKeys.{value_at}
+use Rattle.rules_outline.specs.declared.outline.KeptRules.{KeptRules}
+use Rattle.number_lines.specs.PrintedTexts.{PrintedText}
 use Rattle.form_commands.specs.FormsAnswers.{Answers, IsAnsweredLines, IsAnsweredText}
 use Rattle.form_commands.specs.Inner.NoteSteps.{IsKeptNote, NotesAfter, Writes, note_of_key}
-use Rattle.form_commands.specs.Inner.RulesOutline.{IsFoundBy, IsFoundUnder, Serves, ServesAt, key_by}
-use Rattle.form_commands.specs.Inner.RunSteps.{AnswersFirst, AnswersLines, GivesRules, GivesRulesIn}
+use Rattle.form_commands.specs.Inner.RunSteps.{AnswersFirst, AnswersLines, GivesRules, GivesRulesIn, IsFoundBy, IsFoundUnder}
 use Rattle.form_commands.specs.KeyNotes.{IsKeyNote, IsNote}
-use Rattle.form_commands.specs.Languages.{IsFoundAt, IsFoundFor, IsKnown, value_at}
-use Rattle.form_commands.specs.PrintedTexts.{PrintedText}
+use Rattle.form_commands.specs.Languages.{IsFoundAt, IsFoundFor, IsKnown}
 use Rattle.form_commands.specs.declared.error.FormsError.{FormsError}
 use Rattle.form_commands.specs.declared.error.FormsError.TheVariants.{Memory}
 use Rattle.form_commands.specs.declared.error.LanguageError.{LanguageError}
 use Rattle.form_commands.specs.declared.error.Verdict.{Verdict}
 use Rattle.form_commands.specs.declared.language.Language as code
-use Rattle.form_commands.specs.declared.outline.KeptRules.{KeptRules}
 use Rattle.form_commands.proofs.AnswerLemmas.{document_in, no_answer, no_lines}
 
 -- ---- The document

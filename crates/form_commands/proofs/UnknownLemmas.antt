@@ -6,12 +6,12 @@ use Rattle.plural_fallback.specs.declared.error.FallbackError.{FallbackError}
 use Rattle.plural_fallback.specs.declared.locales.Part.{Part}
 use Rattle.serde_json.specs.Data.{Data}
 use Rattle.serde_json.specs.View.{view}
-use Rattle.form_commands.specs.Inner.RulesOutline.{IsServedBy, ServesAt, key_by}
+use Rattle.rules_outline.specs.KeptRules.{IsServedBy, ServesAt, key_by}
+use Rattle.rules_outline.specs.declared.outline.KeptRules.{KeptRules}
 use Rattle.form_commands.specs.Inner.RunSteps.{GivesKnownIn, GivesRulesIn, TellsKnown, has_roots_key, is_roots_key}
 use Rattle.form_commands.specs.Languages.{HasAnotherKey, HasRootsKey, IsKnownIn, IsUnknownIn, unknown_error}
 use Rattle.form_commands.specs.declared.error.FormsError.{FormsError}
 use Rattle.form_commands.specs.declared.error.FormsError.TheVariants.{Language}
-use Rattle.form_commands.specs.declared.outline.KeptRules.{KeptRules}
 
 -- ---- The bytes
 

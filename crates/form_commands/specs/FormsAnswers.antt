@@ -8,7 +8,7 @@
 --     IsCheckedAs text_of files input old new result      the same for files of messages, of which what is
 --         found is printed so; IsChecked is that of lines
 --     forms_origin fault      where a fault comes from: what was read of the rules by then
-use Rattle.std.specs.Prelude.{◌≡◌, ◌⊎◌, ℕ, ◌<◌, ◌≤◌, ◌==◌, List, ◌++◌, length, Option, Some, None, Result, Ok, Err, if◌then◌else◌}
+use Rattle.std.specs.Prelude.{◌≡◌, ◌⊎◌, ℕ, ◌<◌, ◌≤◌, ◌==◌, List, length, Option, Some, None, Result, Ok, Err, if◌then◌else◌}
 use Rattle.std.specs.Io.KnownBytes.{Appends, Consumes, IsAtEnd, Keeps}
 use Rattle.icu_plurals.specs.DocumentJson.{Document, document_of_json, found}
 use Rattle.icu_plurals.specs.FiveRules.{FiveRules}
@@ -25,12 +25,13 @@ use Rattle.plural_documents.specs.Inputs.{IsPartWritten}
 use Rattle.plural_fallback.specs.LocalesJson.{keys_under, parent_in, part_name}
 use Rattle.plural_fallback.specs.declared.locales.Part.{Part}
 use Rattle.serde_json.specs.Data.{Data}
+use Rattle.number_lines.specs.AnsweredInputs.{IsAnsweredInPart, IsCutOff}
+use Rattle.number_lines.specs.InputLines.{lines_of}
+use Rattle.number_lines.specs.NumberAnswers.{AreLineAnswers, AreNumberAnswers}
+use Rattle.number_lines.specs.PrintedTexts.{PrintedText, only_text}
 use Rattle.form_commands.specs.FormLines.{IsFormList}
 use Rattle.form_commands.specs.GettextLines.{IsGettextLine}
-use Rattle.form_commands.specs.InputLines.{AreEndedIn, lines_of}
 use Rattle.form_commands.specs.Languages.{IsLanguageFor}
-use Rattle.form_commands.specs.NumberAnswers.{AreLineAnswers, AreNumberAnswers}
-use Rattle.form_commands.specs.PrintedTexts.{PrintedText, only_text, verdict_of}
 use Rattle.form_commands.specs.declared.error.FormsError.{FormsError}
 use Rattle.form_commands.specs.declared.error.FormsError.TheVariants.{Rules, TooLong, Json, Refused, Language, Numbers, Write, Memory}
 use Rattle.form_commands.specs.declared.error.LanguageError.{LanguageError}
@@ -68,6 +69,10 @@ Answers Prints part locale document (Err error) = IsLanguageFor document part lo
 
 -- ---- What is written
 
+-- whether each number has a category
+abbrev pub verdict_of : PrintedText → Verdict
+verdict_of printed = if printed.has_fault then Faults else Complete
+
 -- the answer, or a beginning of it; or a fault, and nothing at all
 unfoldable pub IsAnsweredText : (Data → Result PrintedText LanguageError → Type 0) → List ℕ → Option (List ℕ) → Option (List ℕ)
     → Result Verdict FormsError → Type 0
@@ -87,19 +92,6 @@ IsAnsweredText IsAnswer input old new (Err Write) =
 IsAnsweredText IsAnswer input old new (Err Memory) = Keeps old new
 
 -- ---- The lines of another input
-
--- Some of it was taken, and what was written is the answers to its first lines, or a beginning of
--- them.
-abbrev pub IsAnsweredInPart : FiveRules → Option (List ℕ) → Option (List ℕ) → Option (List ℕ) → Option (List ℕ) → Type 0
-IsAnsweredInPart rules before left old new =
-    (numbers : List ℕ) × (done rest : List (List ℕ)) × (printed : PrintedText) × Consumes before left numbers
-    × (lines_of numbers ≡ done ++ rest) × AreLineAnswers rules done printed × IsPartWritten old new printed.text
-
--- The reader failed: some of it was taken, and the lines that have ended there are answered.
-abbrev pub IsCutOff : FiveRules → Option (List ℕ) → Option (List ℕ) → Option (List ℕ) → Option (List ℕ) → Type 0
-IsCutOff rules before left old new =
-    (numbers : List ℕ) × (ended : List (List ℕ)) × (printed : PrintedText) × Consumes before left numbers × AreEndedIn numbers ended
-    × AreLineAnswers rules ended printed × Appends old new printed.text
 
 -- the answers to all its lines, or a beginning of them
 unfoldable pub IsStreamed : FiveRules → Option (List ℕ) → Option (List ℕ) → Option (List ℕ) → Option (List ℕ) → Result Verdict FormsError → Type 0

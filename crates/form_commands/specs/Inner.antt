@@ -2,11 +2,8 @@
 pub mod QuestionViews
 pub mod FormsInputFaults
 pub mod PrintedSteps
-pub mod RulesOutline
 pub mod RunSteps
 pub mod SimilarSteps
-pub mod LineSteps
-pub mod StreamSteps
 pub mod NoteSteps
 pub mod ConditionSteps
 pub mod TranslationSteps

@@ -18,8 +18,9 @@ use Rattle.plural_fallback.specs.declared.locales.Part.TheVariants.{Cardinal, Or
 use Rattle.serde_json.specs.Data.{Data, Members, no_members, member}
 use Rattle.serde_json.specs.Find.{get, as_object}
 use Rattle.serde_json.specs.View.{view}
+use Rattle.rules_outline.specs.LocaleKeys.{HasNoKey, IsKeyOf}
 use Rattle.form_commands.specs.FormsAnswers.{IsDocumentIn}
-use Rattle.form_commands.specs.Languages.{HasNoKey, IsKeyOf, IsKnown, IsUnknown}
+use Rattle.form_commands.specs.Languages.{IsKnown, IsUnknown}
 use Rattle.form_commands.specs.declared.error.FormsError.{FormsError}
 use Rattle.form_commands.specs.declared.error.Verdict.{Verdict}
 

@@ -5,9 +5,7 @@
 --         document has no other one for cardinal or ordinal numbers
 --     IsLanguageFor document part locale answer      the rules, or why there are none
 use Rattle.std.specs.Prelude.{◌≡◌, ◌⊎◌, ℕ, List, true, false, Option, Some, None, Result, Ok, Err}
-use Rattle.std.specs.Option.{option_and_then}
 use Rattle.serde_json.specs.Data.{Data}
-use Rattle.serde_json.specs.Find.{get}
 use Rattle.serde_json.specs.View.{view}
 use Rattle.icu_plurals.specs.FiveRules.{FiveRules}
 use Rattle.icu_plurals.specs.Json.{Stands}
@@ -15,44 +13,21 @@ use Rattle.icu_plurals.specs.RulesJson.{rules_of_json}
 use Rattle.icu_plurals.specs.declared.JsonError.{JsonError}
 use Rattle.icu_plurals.specs.declared.JsonError.TheVariants.{Shape}
 use Rattle.plural_fallback.specs.Chain.{next_of}
-use Rattle.plural_fallback.specs.FirstKeys.{IsFirstKey, Misses, key_at, locale_at}
 use Rattle.plural_fallback.specs.LocaleNames.{language}
 use Rattle.plural_fallback.specs.LocalesJson.{keys_under, parent_in, part_name}
 use Rattle.plural_fallback.specs.UnknownLanguages.{IsKnownLanguage, IsUnknownLanguage, is_unknown}
 use Rattle.plural_fallback.specs.declared.error.FallbackError.{FallbackError}
 use Rattle.plural_fallback.specs.declared.locales.Part.{Part}
 use Rattle.plural_fallback.specs.declared.locales.Part.TheVariants.{Cardinal, Ordinal}
+use Rattle.rules_outline.specs.LocaleKeys.{HasNoKey, IsKeyOf, value_at}
 use Rattle.form_commands.specs.declared.error.LanguageError.{LanguageError}
 use Rattle.form_commands.specs.SimilarKeys.{similar_keys}
 use Rattle.form_commands.specs.declared.error.LanguageError.TheVariants.{NotFound, Refused, Unknown}
 use Rattle.form_commands.specs.declared.language.Language.{Language}
 
--- ---- The key
-
--- how many locales of a chain are looked up at most
-abbrev pub most_locales : ℕ
-most_locales = 32
-
--- the key of a locale after some steps of the chain
-abbrev pub key_after : Data → Part → List ℕ → ℕ → Option (List ℕ)
-key_after document part locale = key_at (keys_under (part_name part) document) (next_of (parent_in document)) locale
-
--- the first key of the chain
-abbrev pub IsKeyOf : Data → Part → List ℕ → List ℕ → Type 0
-IsKeyOf document part locale key = IsFirstKey most_locales (key_after document part locale) key
-
--- there is none, for this reason
-abbrev pub HasNoKey : Data → Part → List ℕ → FallbackError → Type 0
-HasNoKey document part locale reason =
-    Misses most_locales (locale_at (next_of (parent_in document)) locale) (key_after document part locale) (λ _. ⊥) reason
-
 -- ---- The rules of a key
 
--- what stands under a key of a part
-abbrev pub value_at : Data → Part → List ℕ → Option Data
-value_at document part key = option_and_then (get key) (get (part_name part) document)
-
--- the rules that it means, or why it is refused
+-- the rules that a value under a key means, or why it is refused
 abbrev pub rules_in : Option Data → Stands FiveRules
 rules_in None = Err Shape
 rules_in (Some value) = rules_of_json value

@@ -1,12 +1,9 @@
 -- the words of a command line
 pub mod Questions
--- the rules of a locale, and what is printed of them and of numbers
+-- the rules of a locale, and what is printed of them
 pub mod SimilarKeys
 pub mod Languages
 pub mod FormLines
-pub mod PrintedTexts
-pub mod NumberAnswers
-pub mod InputLines
 -- the line for gettext
 pub mod CExpressions
 pub mod RuleConditions

@@ -7,6 +7,7 @@ use crate::name::Name;
 use crate::similar_keys::SimilarKeys;
 use icu_plurals::JsonError;
 use message_report::ReportError;
+use number_lines::LinesError;
 use plural_documents::InputError;
 use plural_fallback::{FallbackError, Part};
 use std::{error, fmt};
@@ -138,6 +139,20 @@ impl From<InputError> for FormsError {
             InputError::Read => FormsError::Rules,
             InputError::TooLong => FormsError::TooLong,
             InputError::Memory => FormsError::Memory,
+        }
+    }
+}
+
+impl From<LinesError> for FormsError {
+    ghost use Rattle.form_commands.specs.Inner.FormsInputFaults.{lines_fault};
+
+    ghost from_gives = { λ error fault. fault ≡ lines_fault error };
+
+    fn from(error: LinesError) -> FormsError {
+        match error {
+            LinesError::Read => FormsError::Numbers,
+            LinesError::Write => FormsError::Write,
+            LinesError::Memory => FormsError::Memory,
         }
     }
 }

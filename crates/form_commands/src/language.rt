@@ -1,16 +1,17 @@
 //! The rules that a document has for a locale.
 
 ghost use Rattle.std.specs.Prelude.{◌≡◌, Err, IfOk, option_map};
-ghost use Rattle.form_commands.specs.Inner.RulesOutline.{IsFoundBy};
-ghost use Rattle.form_commands.specs.Languages.{IsFoundAt, value_at};
+ghost use Rattle.form_commands.specs.Inner.RunSteps.{IsFoundBy};
+ghost use Rattle.form_commands.specs.Languages.{IsFoundAt};
+ghost use Rattle.rules_outline.specs.LocaleKeys.{value_at};
 ghost use Rattle.serde_json.specs.View.{view};
 
 use crate::error::LanguageError;
 use crate::name::Name;
-use crate::outline::KeptRules;
 use icu_plurals::provider::PluralRulesData;
 use icu_plurals::{JsonError, PluralRules};
 use plural_fallback::Part;
+use rules_outline::KeptRules;
 use serde_json::Value;
 use std::alloc::{AllocError, Global};
 

@@ -11,19 +11,15 @@ mod list;
 mod misspelt;
 mod name;
 mod note;
-mod number;
-mod outline;
-mod printed;
 mod question;
 mod run;
 mod similar_keys;
-mod stream;
 mod translations;
 mod unknown_language;
 
 pub use error::{FormsError, LanguageError, Verdict};
 pub use name::Name;
-pub use printed::{NumberFault, Place};
+pub use number_lines::{NumberFault, Place};
 pub use question::{Question, Wanted, question_of};
 pub use run::{
     answer_lines, answer_numbers, check_files, check_files_as, list_forms, write_gettext,

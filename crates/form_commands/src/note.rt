@@ -9,11 +9,11 @@ ghost use Rattle.serde_json.specs.Find.{as_object, get};
 ghost use Rattle.serde_json.specs.View.{members_view, view};
 
 use crate::error::{FormsError, Verdict};
-use crate::outline::KeptRules;
 use crate::unknown_language::is_unknown_by;
 use message_report::MessageFile;
 use plural_documents::write_output;
 use plural_fallback::{Part, find_first};
+use rules_outline::KeptRules;
 use serde_json::{Map, Value};
 use std::alloc::{AllocError, Global};
 use std::io::Write;

@@ -3,7 +3,8 @@
 ghost use Rattle.std.specs.Prelude.{◌≡◌, map, option_map};
 ghost use Rattle.std.specs.Option.{option_copied};
 ghost use Rattle.form_commands.specs.Questions.{file_of, format_of, has_option, in_part, of_check, of_command, of_files, of_other, of_word, of_words, options_after, options_of, options_with, part_of_words, with_file, with_rules};
-ghost use Rattle.form_commands.specs.Inner.QuestionViews.{format_view, options_view, question_view, words_view};
+ghost use Rattle.form_commands.specs.Inner.QuestionViews.{format_view, options_view, question_view};
+ghost use Rattle.number_lines.specs.NumberAnswers.{words_view};
 
 use finding_formats::Format;
 use plural_fallback::Part;

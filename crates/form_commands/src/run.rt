@@ -5,11 +5,11 @@ ghost use Rattle.form_commands.specs.FormsAnswers.{Answers, IsAnsweredLines, IsA
 ghost use Rattle.form_commands.specs.FormsErrors.{is_of_rules};
 ghost use Rattle.form_commands.specs.Inner.FormsInputFaults.{refused_rules};
 ghost use Rattle.form_commands.specs.Inner.NoteSteps.{IsKeptNote, NotesAfter, Writes};
-ghost use Rattle.form_commands.specs.Inner.QuestionViews.{words_view};
-ghost use Rattle.form_commands.specs.Inner.RulesOutline.{IsFoundBy, IsServedBy};
-ghost use Rattle.form_commands.specs.Inner.RunSteps.{AnswersFirst, AnswersLines, Checks, GivesDocument, GivesJsonValue, GivesRules, GivesRulesIn, Reports, WritesAnswer};
+ghost use Rattle.form_commands.specs.Inner.RunSteps.{AnswersFirst, AnswersLines, Checks, GivesDocument, GivesJsonValue, GivesRules, GivesRulesIn, IsFoundBy, Reports, WritesAnswer, WritesText, result_of_lines, verdict_by};
 ghost use Rattle.form_commands.specs.KeyNotes.{AreFileNotes, IsNote, IsNoted};
+ghost use Rattle.number_lines.specs.NumberAnswers.{words_view};
 ghost use Rattle.plural_documents.specs.Inputs.{IsInput, IsRead};
+ghost use Rattle.rules_outline.specs.KeptRules.{IsServedBy};
 ghost use Rattle.serde_json.specs.View.{view};
 
 use crate::error::{FormsError, LanguageError, Verdict};
@@ -17,16 +17,14 @@ use crate::gettext::gettext_line;
 use crate::language::language_of;
 use crate::list::list_text;
 use crate::note::{note_of, notes_of, write_notes};
-use crate::number::numbers_text;
-use crate::outline::{KeptRules, kept_rules};
-use crate::printed::Printed;
-use crate::stream::answer_input;
 use crate::unknown_language::{has_roots_key, known_in};
 use icu_plurals::{JsonError, JsonProvider};
 use message_report::run::run_as;
 use message_report::{Counts, MessageFile, ReportLines, ReportPrinter};
+use number_lines::{LinesError, Printed, answer_input, numbers_text};
 use plural_documents::{JsonTextError, json_value, read_input};
 use plural_fallback::{FallbackProvider, Part};
+use rules_outline::{KeptRules, kept_rules};
 use serde_json::Value;
 use std::alloc::{AllocError, Global};
 use std::io::{Read, Write};
@@ -358,7 +356,7 @@ fn lines_by<N: Read, W: Write>(
     ensures touches_nothing { IfErr result (λ e. IsTrue (is_of_rules e) → (numbers.new ≡ numbers.old) × (writer.new ≡ writer.old)) }
 {
     match language_of(alloc, kept, part, locale) {
-        Ok(Ok(language)) => answer_input(alloc, &language.rules, numbers, writer),
+        Ok(Ok(language)) => result_of(answer_input(alloc, &language.rules, numbers, writer)),
         Ok(Err(error)) => Err(FormsError::Language(error)),
         Err(_) => Err(FormsError::Memory),
     }
@@ -494,8 +492,37 @@ fn write_answer<W: Write>(
     ensures writes_nothing { IfErr result (λ e. e ≢ FormsError.Write → writer.new ≡ writer.old) }
 {
     match answer {
-        Ok(Ok(printed)) => printed.write_to(writer),
+        Ok(Ok(printed)) => write_printed(&printed, writer),
         Ok(Err(fault)) => Err(FormsError::Language(fault)),
         Err(_) => Err(FormsError::Memory),
+    }
+}
+
+// Writes a text, and gives the verdict by it.
+fn write_printed<W: Write>(printed: &Printed, writer: &mut W) -> Result<Verdict, FormsError>
+    ensures text { WritesText printed.now (W.contents writer.old) (W.contents writer.new) result }
+    ensures writes_nothing { IfErr result (λ e. e ≢ FormsError.Write → writer.new ≡ writer.old) }
+{
+    result_of(printed.write_to(writer))
+}
+
+// The result of lines, by whether one tells why a number has no category.
+fn result_of(lines: Result<bool, LinesError>) -> Result<Verdict, FormsError>
+    ensures { result ≡ result_of_lines lines }
+{
+    match lines {
+        Ok(has_fault) => Ok(verdict_by(has_fault)),
+        Err(cause) => Err(FormsError::from(cause)),
+    }
+}
+
+// The verdict of numbers.
+fn verdict_by(has_fault: bool) -> Verdict
+    ensures { result ≡ verdict_by has_fault }
+{
+    if has_fault {
+        Verdict::Faults
+    } else {
+        Verdict::Complete
     }
 }

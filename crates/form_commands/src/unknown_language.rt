@@ -12,10 +12,10 @@ ghost use Rattle.serde_json.specs.View.{members_view, view};
 
 use crate::error::{FormsError, LanguageError};
 use crate::name::Name;
-use crate::outline::KeptRules;
 use crate::similar_keys::{SimilarKeys, similar_keys};
 use plural_documents::{JsonTextError, json_value};
 use plural_fallback::{Part, is_known, is_unknown, language};
+use rules_outline::KeptRules;
 use serde_json::{Map, Value};
 use std::alloc::{AllocError, Global};
 

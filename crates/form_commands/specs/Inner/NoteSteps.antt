@@ -5,15 +5,15 @@ use Rattle.std.specs.declared.alloc.AllocError.{AllocError}
 use Rattle.std.specs.declared.alloc.Global.{Global}
 use Rattle.plural_fallback.specs.declared.error.FallbackError.{FallbackError}
 use Rattle.plural_fallback.specs.declared.locales.Part.{Part}
+use Rattle.plural_documents.specs.Inputs.{IsPartWritten}
+use Rattle.rules_outline.specs.declared.outline.KeptRules.{KeptRules}
+use Rattle.number_lines.specs.PrintedTexts.{PrintedText}
 use Rattle.form_commands.specs.Inner.RunSteps.{WritesAnswer}
 use Rattle.form_commands.specs.KeyNotes.{note_text}
-use Rattle.form_commands.specs.PrintedTexts.{PrintedText}
 use Rattle.form_commands.specs.declared.error.LanguageError.{LanguageError}
-use Rattle.plural_documents.specs.Inputs.{IsPartWritten}
 use Rattle.form_commands.specs.declared.error.FormsError.{FormsError}
 use Rattle.form_commands.specs.declared.error.FormsError.TheVariants.{Write, Memory}
 use Rattle.form_commands.specs.declared.error.Verdict.{Verdict}
-use Rattle.form_commands.specs.declared.outline.KeptRules.{KeptRules}
 
 -- the note of the key that is kept
 abbrev pub note_of_key : Part → List ℕ → Result (String Global) FallbackError → List ℕ

@@ -1,16 +1,12 @@
 -- Not a definition of the subject: words, options and questions, in the words of the definitions.
-use Rattle.std.specs.Prelude.{ℕ, List, map}
-use Rattle.std.specs.Borrow.{Bor}
 use Rattle.std.specs.Option.{option_copied}
+use Rattle.number_lines.specs.NumberAnswers.{words_view}
 use Rattle.form_commands.specs.Questions.{FormatAndRest, Options, Question, Wanted, category, check, gettext, help, list, version}
 use Rattle.form_commands.specs.declared.question.Formatted.{Formatted as CodeFormatted}
 use Rattle.form_commands.specs.declared.question.Options.{Options as CodeOptions}
 use Rattle.form_commands.specs.declared.question.Question.{Question as CodeQuestion}
 use Rattle.form_commands.specs.declared.question.Question.TheVariants as code
 use Rattle.form_commands.specs.declared.question.Wanted.{Wanted as CodeWanted}
-
-abbrev pub words_view : List (Bor (List ℕ)) → List (List ℕ)
-words_view words = map (λ w. w.now) words
 
 abbrev pub options_view : CodeOptions → Options
 options_view options = record { part = options.part; file = option_copied options.file; rest = words_view options.rest.now }

@@ -1,5 +1,5 @@
 -- Not a definition of the subject: the results of private calls.
-use Rattle.std.specs.Prelude.{◌≡◌, ◌⊎◌, ℕ, ◌<◌, List, length, Bool, false, Option, Some, None, Result, Ok, Err, ⊤, String, string_bytes}
+use Rattle.std.specs.Prelude.{◌≡◌, ◌⊎◌, ℕ, ◌<◌, List, length, Bool, false, Option, Some, None, Result, Ok, Err, ⊤, String, string_bytes, if◌then◌else◌}
 use Rattle.std.specs.Io.KnownBytes.{Appends, Keeps}
 use Rattle.std.specs.declared.alloc.AllocError.{AllocError}
 use Rattle.std.specs.declared.alloc.Global.{Global}
@@ -17,22 +17,34 @@ use Rattle.plural_fallback.specs.declared.locales.Part.{Part}
 use Rattle.serde_json.specs.Data.{Data}
 use Rattle.serde_json.specs.View.{view}
 use Rattle.serde_json.specs.declared.Value.{Value}
-use Rattle.form_commands.specs.FormsAnswers.{IsDocumentIn, IsNoJson, IsStreamed, IsUntouched, rules_source, verdict_of_counts}
-use Rattle.form_commands.specs.Inner.FormsInputFaults.{report_fault}
-use Rattle.form_commands.specs.Inner.RulesOutline.{Serves}
-use Rattle.form_commands.specs.Languages.{IsKnown, IsKnownIn, IsUnknown, IsUnknownIn, unknown_error}
-use Rattle.form_commands.specs.PrintedTexts.{PrintedText, verdict_of}
+use Rattle.number_lines.specs.PrintedTexts.{PrintedText}
+use Rattle.number_lines.specs.declared.LinesError.{LinesError}
+use Rattle.rules_outline.specs.KeptRules.{Serves, key_by}
+use Rattle.rules_outline.specs.declared.outline.KeptRules.{KeptRules}
+use Rattle.form_commands.specs.FormsAnswers.{IsDocumentIn, IsNoJson, IsStreamed, IsUntouched, rules_source, verdict_of, verdict_of_counts}
+use Rattle.form_commands.specs.Inner.FormsInputFaults.{lines_fault, report_fault}
+use Rattle.form_commands.specs.Languages.{IsFoundAt, IsKnown, IsKnownIn, IsUnknown, IsUnknownIn, unknown_error}
 use Rattle.form_commands.specs.declared.error.FormsError.{FormsError}
 use Rattle.form_commands.specs.declared.error.FormsError.TheVariants.{Rules, TooLong, Json, Refused, Language, Numbers, Write, Memory}
 use Rattle.form_commands.specs.declared.error.LanguageError.{LanguageError}
+use Rattle.form_commands.specs.declared.error.LanguageError.TheVariants.{NotFound}
 use Rattle.form_commands.specs.declared.error.Verdict.{Verdict}
+use Rattle.form_commands.specs.declared.error.Verdict.TheVariants.{Complete, Faults}
 use Rattle.form_commands.specs.declared.language.Language as code
-use Rattle.form_commands.specs.declared.outline.KeptRules.{KeptRules}
 
 -- the result of a report
 abbrev pub result_of_report : Result Counts ReportError → Result Verdict FormsError
 result_of_report (Ok counts) = Ok (verdict_of_counts counts)
 result_of_report (Err error) = Err (report_fault error)
+
+-- the verdict, by whether a line tells why a number has no category
+abbrev pub verdict_by : Bool → Verdict
+verdict_by has_fault = if has_fault then Faults else Complete
+
+-- the result of lines
+abbrev pub result_of_lines : Result Bool LinesError → Result Verdict FormsError
+result_of_lines (Ok has_fault) = Ok (verdict_by has_fault)
+result_of_lines (Err error) = Err (lines_fault error)
 
 -- ---- The document
 
@@ -61,6 +73,14 @@ GivesDocument input (Err Write) = ⊥
 GivesDocument input (Err Memory) = ⊤
 
 -- ---- The rules of a locale
+
+-- what stands under the key, or why there is none
+abbrev pub IsFoundUnder : Data → Part → List ℕ → Result (List ℕ) FallbackError → Result code.Language LanguageError → Type 0
+IsFoundUnder document part locale (Ok key) answer = IsFoundAt document part key answer
+IsFoundUnder document part locale (Err reason) answer = answer ≡ Err (NotFound part locale reason)
+
+abbrev pub IsFoundBy : KeptRules → Part → List ℕ → Result code.Language LanguageError → Type 0
+IsFoundBy kept part locale = IsFoundUnder (view kept.document) part locale (key_by string_bytes kept.key)
 
 -- the key that is kept is `root`, which wasn't asked for
 abbrev pub is_roots_key : List ℕ → Result (String Global) FallbackError → Bool

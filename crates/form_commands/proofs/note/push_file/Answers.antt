@@ -5,7 +5,7 @@ use Rattle.serde_json.specs.Data.{Members}
 use Rattle.serde_json.specs.View.{members_view, view}
 use Rattle.form_commands.specs.Inner.PrintedSteps.{Grows}
 use Rattle.form_commands.specs.KeyNotes.{AreMemberNotes, AreNotesOf, IsFileNote}
-use Rattle.form_commands.proofs.StreamLemmas.{on_ok}
+use Rattle.form_commands.proofs.FormLemmas.{on_ok}
 use Rattle.form_commands.proofs.note.push_file.Goals as goal
 
 pub returns-in_ok-place-in-Some : goal.returns-in_ok-place-in-Some

@@ -4,7 +4,7 @@ use Rattle.serde_json.specs.View.{view}
 use Rattle.form_commands.specs.Inner.PrintedSteps.{Grows}
 use Rattle.form_commands.specs.KeyNotes.{AreLocaleNotes, IsNote, IsNoteIf}
 use Rattle.form_commands.proofs.NoteLemmas.{two_notes}
-use Rattle.form_commands.proofs.StreamLemmas.{on_ok}
+use Rattle.form_commands.proofs.FormLemmas.{on_ok}
 use Rattle.form_commands.proofs.note.push_locale.Goals as goal
 
 pub returns : goal.returns

@@ -1,10 +1,10 @@
 use Rattle.std.proofs.Common.{◌≡◌, [], ◌++◌, inl, inr, refl, sym, string_bytes}
 use Rattle.std.proofs.lemmas.List.{append-nil}
+use Rattle.serde_json.specs.View.{view}
 use Rattle.form_commands.specs.Inner.PrintedSteps.{Grows}
 use Rattle.form_commands.specs.KeyNotes.{IsNote, note_text}
-use Rattle.serde_json.specs.View.{view}
 use Rattle.form_commands.proofs.NoteLemmas.{known_key}
-use Rattle.form_commands.proofs.StreamLemmas.{on_ok}
+use Rattle.form_commands.proofs.FormLemmas.{on_ok}
 use Rattle.form_commands.proofs.note.push_note.Goals as goal
 
 pub returns-in-Ok : goal.returns-in-Ok

@@ -1,5 +1,5 @@
 use Rattle.std.proofs.Common.{◌≡◌, length}
-use Rattle.form_commands.specs.Inner.QuestionViews.{words_view}
+use Rattle.number_lines.specs.NumberAnswers.{words_view}
 use Rattle.form_commands.specs.Questions.{has_option}
 use Rattle.form_commands.proofs.question.has_option.Given as goal
 

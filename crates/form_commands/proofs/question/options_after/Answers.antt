@@ -1,6 +1,6 @@
 use Rattle.std.proofs.Common.{ap, sym, ◌∙◌}
 use Rattle.plural_fallback.specs.declared.locales.Part.TheVariants.{Ordinal}
-use Rattle.form_commands.specs.Inner.QuestionViews.{words_view}
+use Rattle.number_lines.specs.NumberAnswers.{words_view}
 use Rattle.form_commands.specs.Questions.{FileAndRest, file_of, in_part, options_with, part_of_words}
 use Rattle.form_commands.proofs.QuestionLemmas.{not_ordinal}
 use Rattle.form_commands.proofs.question.options_after.Goals as goal

@@ -1,6 +1,6 @@
 use Rattle.std.proofs.Common.{[]}
+use Rattle.number_lines.specs.NumberAnswers.{words_view}
 use Rattle.form_commands.specs.FormsAnswers.{Answers, IsAnsweredText, IsNumbersAnswer}
-use Rattle.form_commands.specs.Inner.QuestionViews.{words_view}
 use Rattle.form_commands.specs.KeyNotes.{IsNote}
 use Rattle.form_commands.proofs.NoteLemmas.{none_noted, printed_noted}
 use Rattle.form_commands.proofs.RulesRead.{answer_read}

@@ -2,8 +2,8 @@ use Rattle.std.proofs.Common.{string_bytes, subst}
 use Rattle.icu_plurals.specs.FiveRules.{FiveRules}
 use Rattle.icu_plurals.specs.RulesJson.{rules_of_json}
 use Rattle.serde_json.specs.View.{view}
+use Rattle.rules_outline.specs.KeptRules.{key_by}
 use Rattle.form_commands.specs.GettextLines.{IsGettextLine}
-use Rattle.form_commands.specs.Inner.RulesOutline.{key_by}
 use Rattle.form_commands.proofs.GettextLemmas.{found_language, one_rules}
 use Rattle.form_commands.proofs.run.gettext_of.Goals as goal
 

@@ -1,6 +1,6 @@
 use Rattle.std.proofs.Common.{Err, ap, inl}
+use Rattle.rules_outline.specs.declared.outline.KeptRules.{KeptRules}
 use Rattle.form_commands.specs.declared.error.FormsError.{FormsError}
-use Rattle.form_commands.specs.declared.outline.KeptRules.{KeptRules}
 use Rattle.form_commands.proofs.AnswerLemmas.{no_document}
 use Rattle.form_commands.proofs.RulesRead.{read_on, rules_read}
 use Rattle.form_commands.proofs.RulesServe.{rules_in}

@@ -1,0 +1,105 @@
+-- The lines of an input.
+use Rattle.std.proofs.Common.{append_assoc, lit<, Bor, Some, None, ◌∙◌, ◌≡◌, ◌-◌, min, ℕ, zero, suc, ap, get_or, ◌≤◌, ◌<◌, ◌+◌, List, [], ◌∷◌, ◌++◌, length, take, refl, sym, arith}
+use Rattle.std.specs.Prelude.{◌≢◌}
+use Rattle.std.proofs.lemmas.Bool.{ne_eqb}
+use Rattle.std.proofs.lemmas.List.{take_min, length-take, take-append-le, take_all, length-append}
+use Rattle.std.proofs.Math.Seq.{take-append-add}
+use Rattle.std.proofs.lemmas.Str.Pattern.{IsSplitOnceResult, split_parts}
+use Rattle.number_lines.specs.InputLines.{HasNoEnd, lines_of}
+
+-- ---- Ends of lines
+
+-- bytes without an end, and a newline, are a line
+pub ended : (last rest : List ℕ) → HasNoEnd last → lines_of (last ++ 10 ∷ rest) ≡ last ∷ lines_of rest
+ended [] rest none = refl
+ended (byte ∷ bytes) rest none = rw (ne_eqb byte 10 none.0, ended bytes rest none.1) refl
+
+-- bytes without an end are one line
+pub unended : (byte : ℕ) (bytes : List ℕ) → HasNoEnd (byte ∷ bytes) → lines_of (byte ∷ bytes) ≡ (byte ∷ bytes) ∷ []
+unended byte [] none = rw (ne_eqb byte 10 none.0) refl
+unended byte (other ∷ bytes) none = rw (ne_eqb byte 10 none.0, unended other bytes none.1) refl
+
+pub no_end_append : (bytes : List ℕ) (byte : ℕ) → HasNoEnd bytes → byte ≢ 10 → HasNoEnd (bytes ++ byte ∷ [])
+no_end_append [] byte none other = (other, tt)
+no_end_append (first ∷ bytes) byte none other = (none.0, no_end_append bytes byte none.1 other)
+
+pub no_end_both : (bytes more : List ℕ) → HasNoEnd bytes → HasNoEnd more → HasNoEnd (bytes ++ more)
+no_end_both [] more none later = later
+no_end_both (byte ∷ bytes) more none later = (none.0, no_end_both bytes more none.1 later)
+
+-- bytes of which none is a newline
+pub no_end_all : (bytes : List ℕ) → ((i : ℕ) → i < length bytes → get_or bytes i 0 ≢ 10) → HasNoEnd bytes
+no_end_all [] each = tt
+no_end_all (byte ∷ bytes) each = (each 0 (omega arith), no_end_all bytes (λ i below. each (suc i) (omega arith)))
+
+-- a line that is cut off at a newline
+pub cut_line : (bytes : List ℕ) (line after : Bor (List ℕ)) → IsSplitOnceResult 10 bytes (Some (line, after))
+    → (bytes ≡ line.now ++ 10 ∷ after.now) × HasNoEnd line.now
+cut_line bytes line after cut =
+    let parts = split_parts 10 bytes (Some (line, after)) cut (lit< tt) in (parts.0, no_end_all line.now parts.1)
+
+-- bytes that have none
+pub uncut : (bytes : List ℕ) → IsSplitOnceResult 10 bytes None → HasNoEnd bytes
+uncut bytes cut = no_end_all bytes (split_parts 10 bytes None cut (lit< tt))
+
+-- a line and its newline go before what follows them
+pub line_before : (front line after : List ℕ) → front ++ (line ++ 10 ∷ after) ≡ (front ++ (line ++ 10 ∷ [])) ++ after
+line_before front line after =
+    sym (append_assoc front (line ++ 10 ∷ []) after ∙ ap (λ (l : List ℕ). front ++ l) (append_assoc line (10 ∷ []) after))
+
+-- ---- What is kept of a line: not more than n bytes
+
+-- what is kept of a line with more bytes
+pub kept_more : (n : ℕ) (last more : List ℕ) → take n (take n last ++ more) ≡ take n (last ++ more)
+kept_more zero last more = refl
+kept_more (suc n) [] more = refl
+kept_more (suc n) (byte ∷ last) more = ap (λ (l : List ℕ). byte ∷ l) (kept_more n last more)
+
+pub kept_bound : (n : ℕ) (last : List ℕ) → length (take n last) ≤ n
+kept_bound n last = omega (arith, length-take n last)
+
+-- what is kept with bytes for which there is room
+pub kept_with : (n : ℕ) (kept more : List ℕ) → length kept ≤ n
+    → kept ++ take (min (n - length kept) (length more)) more ≡ take n (kept ++ more)
+kept_with n kept more room =
+    let whole : length kept + (n - length kept) ≡ n = omega arith in
+    rw (take_min (n - length kept) more)
+    (sym (take-append-add kept more (n - length kept)) ∙ ap (λ (k : ℕ). take k (kept ++ more)) whole)
+
+-- a line with room for a byte
+pub kept_grows : (n : ℕ) (last : List ℕ) (byte : ℕ) → length (take (n + 1) last) ≤ n
+    → take (n + 1) last ++ byte ∷ [] ≡ take (n + 1) (last ++ byte ∷ [])
+kept_grows n last byte room =
+    let short : length last ≤ n = omega (arith, length-take (n + 1) last, room) in
+    let fits : length (last ++ byte ∷ []) ≤ n + 1 = rw (length-append last (byte ∷ [])) (omega arith) in
+    rw (take_all (n + 1) last (omega arith), take_all (n + 1) (last ++ byte ∷ []) fits) refl
+
+-- a line without
+pub kept_stays : (n : ℕ) (last : List ℕ) (byte : ℕ) → n < length (take (n + 1) last)
+    → take (n + 1) last ≡ take (n + 1) (last ++ byte ∷ [])
+kept_stays n last byte full =
+    let long : n + 1 ≤ length last = omega (arith, length-take (n + 1) last, full) in
+    sym (take-append-le (n + 1) last (byte ∷ []) long)
+
+-- a line that is kept whole
+pub kept_whole : (n : ℕ) (last : List ℕ) → length (take (n + 1) last) ≤ n → take (n + 1) last ≡ last
+kept_whole n last room =
+    let short : length last ≤ n = omega (arith, length-take (n + 1) last, room) in
+    take_all (n + 1) last (omega arith)
+
+-- a line of which too much is kept is too long
+pub kept_long : (n : ℕ) (last : List ℕ) → n < length (take (n + 1) last) → n < length last
+kept_long n last full = omega (arith, length-take (n + 1) last, full)
+
+-- of a line with a byte something is kept
+pub kept_nothing : (n : ℕ) (last : List ℕ) → take (n + 1) last ≡ [] → last ≡ []
+kept_nothing n [] none = refl
+kept_nothing n (byte ∷ bytes) none =
+    let empty : length (take (n + 1) (byte ∷ bytes)) ≡ 0 = rw none refl in
+    absurd (omega (arith, length-take (n + 1) (byte ∷ bytes), empty))
+
+-- ---- Whether a line has begun
+
+pub no_items : (xs : List ℕ) → length xs ≡ 0 → xs ≡ []
+no_items [] none = refl
+no_items (x ∷ xs) none = absurd (omega arith)

@@ -1,0 +1,54 @@
+-- Not a definition of the subject: the state after some bytes of an input, and one step of it.
+use Rattle.std.specs.Prelude.{◌≡◌, ℕ, ◌+◌, ◌≤◌, List, [], ◌∷◌, ◌++◌, length, take}
+use Rattle.icu_plurals.specs.FiveRules.{FiveRules}
+use Rattle.number_lines.specs.InputLines.{HasNoEnd, lines_of}
+use Rattle.number_lines.specs.NumberAnswers.{AreLineAnswers, IsAnswerAt, most_number_bytes, next_place}
+use Rattle.number_lines.specs.PrintedTexts.{PrintedText, after_text, both_printed, without_text}
+use Rattle.number_lines.specs.declared.printed.Place.TheVariants.{Line}
+use Rattle.number_lines.specs.declared.stream.Lines.{Lines}
+
+-- ---- The state
+
+-- the place after some lines
+abbrev pub place_after : ℕ → List (List ℕ) → ℕ
+place_after place [] = place
+place_after place (line ∷ lines) = place_after (next_place place) lines
+
+-- After these bytes some lines have ended, and are answered by a text that was written and what is
+-- printed since; the last one hasn't, and of it not more than one byte above the limit is kept.
+pub record IsAfter (rules : FiveRules) (bytes text : List ℕ) (lines : Lines) : Type 0 where
+  pub done : List (List ℕ)
+  pub last : List ℕ
+  pub cut : (rest : List ℕ) → lines_of (bytes ++ rest) ≡ done ++ lines_of (last ++ rest)
+  pub no_end : HasNoEnd last
+  pub kept : lines.line.items ≡ take (most_number_bytes + 1) last
+  pub place : lines.place ≡ place_after 1 done
+  pub answered : AreLineAnswers rules done (after_text text lines.printed)
+
+-- ---- Steps
+
+-- what is printed has grown by something of this kind
+abbrev pub AddsPrinted : (PrintedText → Type 0) → PrintedText → PrintedText → Type 0
+AddsPrinted Is old new = (more : PrintedText) × Is more × (new ≡ both_printed old more)
+
+-- more bytes are taken
+abbrev pub TakesBytes : FiveRules → List ℕ → Lines → Lines → Type 0
+TakesBytes rules more old new = (bytes text : List ℕ) → IsAfter rules bytes text old → IsAfter rules (bytes ++ more) text new
+
+-- the line is answered as a word, and a new one begins
+pub record EndsLine (rules : FiveRules) (word : List ℕ) (old new : Lines) : Type 0 where
+  pub answer : PrintedText
+  pub answers : IsAnswerAt rules (Line old.place) word answer
+  pub line : new.line.items ≡ []
+  pub place : new.place ≡ next_place old.place
+  pub printed : new.printed ≡ both_printed old.printed answer
+
+-- bytes of the line are kept, up to one byte above the limit
+pub record KeepsBytes (more : List ℕ) (old new : Lines) : Type 0 where
+  pub line : length old.line.items ≤ most_number_bytes + 1 → new.line.items ≡ take (most_number_bytes + 1) (old.line.items ++ more)
+  pub place : new.place ≡ old.place
+  pub printed : new.printed ≡ old.printed
+
+-- what is printed was written
+abbrev pub Forgets : Lines → Lines → Type 0
+Forgets old new = new ≡ record old { printed = without_text old.printed }

@@ -1,0 +1,5 @@
+-- the outline of a document of rules
+mod SameNames
+mod OutlineFound
+mod OutlineStays
+mod OutlineServes
