@@ -1,4 +1,5 @@
--- catalogues of a document's patterns, and the arguments of words
+-- catalogues of a document's patterns, and the words of a command line
+pub mod CatalogWords
 pub mod DocumentPatterns
 pub mod GivenWords
 -- not a definition of the subject

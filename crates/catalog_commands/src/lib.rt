@@ -1,11 +1,16 @@
-//! Catalogues of messages from a document of messages, and the arguments of a message as words.
+//! Catalogues of messages from a document of messages, and the words of the commands that make and
+//! use them.
 #![tactic(auto)]
 
 mod arguments;
+mod catalog_words;
 mod fault;
+mod given;
 mod packing;
 mod texts;
 
 pub use arguments::{Word, arguments_of, takes_number};
+pub use catalog_words::{PackWords, SayWords, pack_words, say_words};
 pub use fault::PatternsFault;
+pub use given::{GivenFault, given_words};
 pub use packing::pack_patterns;

@@ -78,8 +78,14 @@ pub(crate) fn write_answer<R: Read, N: Read, W: Write, E: Write>(
 
 // Writes a text and a newline.
 pub(crate) fn print<W: Write>(output: &mut W, text: &str) -> Result<Verdict, Failure> {
-    if write_output(output, text.as_bytes()).is_err() || write_output(output, b"\n").is_err() {
-        return Err(Failure::Write);
+    print_bytes(output, text.as_bytes())?;
+    print_bytes(output, b"\n")
+}
+
+// Writes bytes.
+pub(crate) fn print_bytes<W: Write>(output: &mut W, bytes: &[u8]) -> Result<Verdict, Failure> {
+    match write_output(output, bytes) {
+        Ok(()) => Ok(Verdict::Complete),
+        Err(_) => Err(Failure::Write),
     }
-    Ok(Verdict::Complete)
 }

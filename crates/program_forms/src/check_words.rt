@@ -174,7 +174,7 @@ pub(crate) fn said_by<'w>(alloc: Global, words: &[&'w str]) -> Result<CheckWords
         }
     }
     if said.names.is_empty() {
-        return Err(Unsaid::Word(WordFault::NoFile));
+        return Err(Unsaid::Word(WordFault::NoFile("check")));
     }
     Ok(said)
 }

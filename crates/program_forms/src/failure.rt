@@ -4,7 +4,7 @@ use crate::rules_text::RulesFault;
 use crate::word_fault::WordFault;
 use form_commands::{FormsError, Verdict};
 use plural_commands::RunError;
-use std::alloc::Global;
+use std::alloc::{AllocError, Global};
 use thiserror::Error;
 
 // How the program is used.
@@ -13,12 +13,15 @@ pub(crate) const USAGE: &str = "usage: plural_forms list LOCALE [--ordinal] [--r
        plural_forms check [--rules FILE] [--format FORMAT] [--locale LOCALE] [--ignore CODE]..
                           [--strict] [--lines] FILE..
        plural_forms gettext LOCALE [--ordinal] [--rules FILE]
+       plural_forms pack [--locale LOCALE] FILE
+       plural_forms say [--locale LOCALE] [--rules FILE] CATALOG KEY [NAME=VALUE..]
        plural_forms --help | --version
 Without --rules, the rules are in the file that PLURALS_RULES names, else in standard input.
 Without a NUMBER, the numbers are the lines of standard input.
 FORMAT is text, json, sarif or github; without one it is text.
 A FILE of check is a gettext catalog, a JSON file of i18next or ARB, or a document of messages;
-- is standard input.";
+- is standard input. pack writes the patterns of a document of messages as a CATALOG, from which
+say says the one under a KEY.";
 
 // An example of each command and kind of file.
 pub(crate) const EXAMPLES: &str = "
@@ -30,7 +33,9 @@ Examples:
   plural_forms check app_ru.arb
   plural_forms check --format github locales/ru.json
   plural_forms check --ignore number-unclear --strict po/*.po
-  msgunfmt ru.mo | plural_forms check --locale ru -";
+  msgunfmt ru.mo | plural_forms check --locale ru -
+  plural_forms pack messages.json > ru.catalog
+  plural_forms say ru.catalog sent name=Ann n=5";
 
 // Which version it is.
 pub(crate) const VERSION: &str = "plural_forms 0.1.0";
@@ -62,6 +67,9 @@ pub(crate) enum Failure {
     // The file can't be opened.
     #[error("{0}: cannot open")]
     Open(String),
+    // A fault in words of its own.
+    #[error("{0}")]
+    Told(String),
     // The messages in this file have a fault.
     #[error("{0}: {1}")]
     Messages(String, MessagesFault),
@@ -90,12 +98,12 @@ pub(crate) enum Failure {
 
 impl Failure {
     // Passes an answer on that has rules from this file, or from standard input.
-    pub(crate) fn of_rules(
+    pub(crate) fn of_rules<T: Drop>(
         name: Option<String>,
-        answer: Result<Verdict, RulesFault>,
-    ) -> Result<Verdict, Failure> {
+        answer: Result<T, RulesFault>,
+    ) -> Result<T, Failure> {
         match answer {
-            Ok(verdict) => Ok(verdict),
+            Ok(answer) => Ok(answer),
             Err(RulesFault::Json(line, column)) => Err(match name {
                 Some(name) => Failure::FileJson(name, line, column),
                 None => Failure::InputJson(line, column),
@@ -126,6 +134,7 @@ impl Failure {
             | Failure::InputJson(_, _)
             | Failure::Variable
             | Failure::Open(_)
+            | Failure::Told(_)
             | Failure::Messages(_, _)
             | Failure::Write
             | Failure::Memory => 2,
@@ -137,6 +146,14 @@ impl Failure {
 pub(crate) fn of_word(alloc: Global, fault: WordFault<'_>) -> Failure {
     match format!(in alloc; "{fault}\n{USAGE}") {
         Ok(text) => Failure::Usage(text),
+        Err(_) => Failure::Memory,
+    }
+}
+
+// A fault in words of its own.
+pub(crate) fn told(text: Result<String, AllocError>) -> Failure {
+    match text {
+        Ok(text) => Failure::Told(text),
         Err(_) => Failure::Memory,
     }
 }

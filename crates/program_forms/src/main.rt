@@ -3,12 +3,16 @@
 #![tactic(auto)]
 
 mod answers;
+mod catalog_faults;
 mod check_words;
 mod exponents;
 mod failure;
 mod opened;
+mod packing;
 mod rules;
 mod rules_text;
+mod saying;
+mod spoken_rules;
 mod word_fault;
 
 use answers::{Asked, print, write_answer};
@@ -17,10 +21,12 @@ use exponents::{EXPONENT, may_mean_exponents};
 use failure::{EXAMPLES, Failure, USAGE, VERSION, of_word, of_words};
 use form_commands::{FormsError, Question, TranslationFile, Verdict, Wanted, question_of};
 use opened::{Opened, documents_of, has_input, have_translations, open_all, translations_of};
+use packing::pack;
 use plural_commands::arguments::arguments;
 use plural_documents::read_input;
 use rules::{open, rules_name};
 use rules_text::{RulesFault, fault_in};
+use saying::say;
 use std::io::Read;
 use std::process::ExitCode;
 use word_fault::{WordFault, fault_of};
@@ -38,13 +44,22 @@ fn answer_words(rt: &HostRuntime) -> Result<Verdict, Failure> {
     else {
         return Err(Failure::Memory);
     };
-    match question_of(words.as_slice()) {
+    match words.as_slice() {
+        [command, rest @ ..] if *command == "pack" => pack(rt, rest),
+        [command, rest @ ..] if *command == "say" => say(rt, rest),
+        words => answer_question(rt, words),
+    }
+}
+
+// Writes the answer to the words that name no catalogue.
+fn answer_question(rt: &HostRuntime, words: &[&str]) -> Result<Verdict, Failure> {
+    match question_of(words) {
         Some(Question::Help) => help(rt),
         Some(Question::Version) => print(&mut rt.stdout(), VERSION),
         Some(Question::List(wanted)) => answer(rt, wanted.file, Asked::List(wanted)),
         Some(Question::Gettext(wanted)) => answer(rt, wanted.file, Asked::Gettext(wanted)),
         Some(Question::Category(wanted, numbers)) => category(rt, wanted, numbers),
-        Some(Question::Check(_, _, _)) | None => check(rt, words.as_slice()),
+        Some(Question::Check(_, _, _)) | None => check(rt, words),
     }
 }
 

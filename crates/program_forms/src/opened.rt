@@ -8,7 +8,7 @@ use plural_documents::{InputError, JsonTextError, json_value, read_input};
 use serde_json::Value;
 use std::alloc::{AllocError, Global};
 use std::fs::File;
-use std::io::Read;
+use std::io::{ErrorKind, Read};
 use translation_files::is_document;
 
 // The name of standard input.
@@ -64,6 +64,53 @@ fn held_in(rt: &HostRuntime, name: &str) -> Result<Held, Failure> {
     match File::open(rt, name) {
         Ok(mut file) => held_by(rt.alloc(), &mut file),
         Err(_) => Ok(Held::Unopened),
+    }
+}
+
+// The messages in a file.
+pub(crate) fn messages_in(rt: &HostRuntime, name: &str) -> Result<Value, Failure> {
+    if name == INPUT {
+        return messages_by(rt.alloc(), name, &mut rt.stdin());
+    }
+    match File::open(rt, name) {
+        Ok(mut file) => messages_by(rt.alloc(), name, &mut file),
+        Err(_) => Err(unread(rt.alloc(), name, None)),
+    }
+}
+
+// The messages in a reader, which is named so.
+fn messages_by<R: Read>(alloc: Global, name: &str, reader: &mut R) -> Result<Value, Failure> {
+    let bytes = match read_input(alloc, reader) {
+        Ok(bytes) => bytes,
+        Err(InputError::Read) => return Err(unread(alloc, name, Some(MessagesFault::Read))),
+        Err(InputError::TooLong) => return Err(unread(alloc, name, Some(MessagesFault::TooLong))),
+        Err(InputError::Memory) => return Err(Failure::Memory),
+    };
+    match json_value(alloc, bytes.as_slice()) {
+        Ok(value) => Ok(value),
+        Err(JsonTextError::Json) => Err(unread(alloc, name, no_json(alloc, bytes.as_slice()))),
+        Err(JsonTextError::Memory) => Err(Failure::Memory),
+    }
+}
+
+// All bytes of a file.
+pub(crate) fn read_whole(rt: &HostRuntime, name: &str) -> Result<Vec<u8>, Failure> {
+    if name == INPUT {
+        return bytes_by(rt.alloc(), name, &mut rt.stdin());
+    }
+    match File::open(rt, name) {
+        Ok(mut file) => bytes_by(rt.alloc(), name, &mut file),
+        Err(_) => Err(unread(rt.alloc(), name, None)),
+    }
+}
+
+// All bytes of a reader, which is named so.
+fn bytes_by<R: Read>(alloc: Global, name: &str, reader: &mut R) -> Result<Vec<u8>, Failure> {
+    let mut bytes = Vec::new(alloc);
+    match reader.read_to_end(&mut bytes) {
+        Ok(_) => Ok(bytes),
+        Err(fault) if fault.kind() == ErrorKind::OutOfMemory => Err(Failure::Memory),
+        Err(_) => Err(unread(alloc, name, Some(MessagesFault::Read))),
     }
 }
 
@@ -163,11 +210,14 @@ fn document_in<'a>(alloc: Global, opened: &'a Opened<'a>) -> Result<&'a Value, F
         Held::Unread(fault) => Some(*fault),
         Held::Unopened => None,
     };
-    let Ok(name) = String::from_str(alloc, opened.name) else {
-        return Err(Failure::Memory);
-    };
-    match fault {
-        Some(fault) => Err(Failure::Messages(name, fault)),
-        None => Err(Failure::Open(name)),
+    Err(unread(alloc, opened.name, fault))
+}
+
+// Why a file isn't read, or that it can't be opened.
+fn unread(alloc: Global, name: &str, fault: Option<MessagesFault>) -> Failure {
+    match (String::from_str(alloc, name), fault) {
+        (Ok(name), Some(fault)) => Failure::Messages(name, fault),
+        (Ok(name), None) => Failure::Open(name),
+        (Err(_), _) => Failure::Memory,
     }
 }

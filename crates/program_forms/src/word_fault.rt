@@ -17,16 +17,22 @@ pub(crate) enum WordFault<'w> {
     // Behind the command no locale is named.
     #[error("{0}: no locale is named")]
     NoLocale(&'w str),
-    // Behind `check` no file is named.
-    #[error("check: no file is named")]
-    NoFile,
+    // Behind the command no file is named.
+    #[error("{0}: no file is named")]
+    NoFile(&'w str),
+    // Behind the catalogue no key is named.
+    #[error("say: no key is named")]
+    NoKey,
+    // The word gives no value.
+    #[error("{0}: not NAME=VALUE")]
+    NoValue(&'w str),
     // Behind the option stands no word.
     #[error("{0}: no word follows")]
     NoWord(&'w str),
     // The option is none of the command, or not there.
     #[error("{0}: not an option here")]
     Option(&'w str),
-    // The option was given before.
+    // The option or the argument was given before.
     #[error("{0}: given twice")]
     Twice(&'w str),
     // The option stands behind a file.

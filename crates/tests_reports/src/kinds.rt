@@ -1,6 +1,7 @@
 //! The kinds of rows: one file a subject.
 
 mod callers;
+mod catalog_words;
 mod checker;
 mod document_findings;
 mod document_reports;
@@ -37,6 +38,7 @@ impl Kinds for Calls {
             || located_findings::make(kind, call)
             || forms::make(kind, call)
             || callers::make(kind, call)
+            || catalog_words::make(kind, call)
             || exports::make(kind, call)
             || exported_bytes::make(kind, call)
             || json_files::make(kind, call)
