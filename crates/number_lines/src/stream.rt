@@ -39,21 +39,33 @@ pub fn answer_input<N: Read, W: Write>(
 ) -> Result<bool, LinesError>
     ensures { AnswersInput rules.now (N.remaining numbers.old) (N.remaining numbers.new) (W.contents writer.old) (W.contents writer.new) result }
 {
+    let mut asked = AskedRules::of(rules.as_borrowed());
+    answer_reads(alloc, &mut asked, numbers, writer)
+}
+
+// The same by rules that are prepared for so many numbers as are read.
+fn answer_reads<N: Read, W: Write>(
+    alloc: Global,
+    asked: &mut AskedRules<'_>,
+    numbers: &mut N,
+    writer: &mut W,
+) -> Result<bool, LinesError>
+    ensures { AnswersInput asked.old (N.remaining numbers.old) (N.remaining numbers.new) (W.contents writer.old) (W.contents writer.new) result }
+{
     let mut lines = Lines {
         line: Vec::new(alloc),
         place: 1,
         printed: Printed::new(alloc),
     };
-    let mut asked = AskedRules::of(rules.as_borrowed());
     let mut chunk = [0u8; 4096];
     for _ in 0..u64::MAX {
         match numbers.read(&mut chunk) {
-            Ok(0) => return last_line(alloc, &asked, &mut lines, writer),
+            Ok(0) => return last_line(alloc, asked, &mut lines, writer),
             Ok(count) => {
                 asked.prepare(numbers_after(lines.place, count));
                 if let Err(error) = answer_bytes(
                     alloc,
-                    &asked,
+                    asked,
                     &chunk[..count],
                     &mut lines,
                     writer,
