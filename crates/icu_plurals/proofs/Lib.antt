@@ -1,5 +1,6 @@
 pub mod ReferenceCalls
 pub mod Stops
+pub mod ElementsMapped
 pub mod ExplicitNumbers
 pub mod ElementsAgain
 pub mod ElementsOneFault

@@ -8,7 +8,6 @@ ghost use Rattle.icu_plurals.specs.Inner.ElementsReading.{AreElements};
 ghost use Rattle.icu_plurals.specs.Inner.ElementsViews.{lent_elements, lent_value};
 
 use crate::elements::PluralElements;
-use crate::elements::places::make_elements;
 use crate::packed::PluralElementsPackedULE;
 use crate::packed::error::ElementsBytesError;
 use crate::packed::metadata::FourBitMetadata;
@@ -150,11 +149,7 @@ impl<'data> PluralElementsPackedCow<'data> {
 fn plain<'a>(elements: &PluralElements<&'a str>) -> PluralElements<(FourBitMetadata, &'a str)>
     ensures { each_by lent_value result ≡ each_by plain_value elements.now }
 {
-    make_elements!(
-        &elements,
-        |text| plain_text(text),
-        |text| plain_option(text)
-    )
+    elements.as_ref().map(|text| plain_text(*text))
 }
 
 // A text with metadata 0.
@@ -162,16 +157,6 @@ fn plain_text(text: &str) -> (FourBitMetadata, &str)
     ensures { lent_value result ≡ plain_value text.entry }
 {
     (FourBitMetadata::zero(), text)
-}
-
-// A text that may be absent, with metadata 0.
-fn plain_option<'a>(text: &Option<&'a str>) -> Option<(FourBitMetadata, &'a str)>
-    ensures { option_map lent_value result ≡ option_map plain_value text.now }
-{
-    match text {
-        Some(text) => Some(plain_text(text)),
-        None => None,
-    }
 }
 
 impl<'data> PartialEq for PluralElementsPackedCow<'data> {

@@ -2,10 +2,8 @@
 
 ghost use Rattle.std.specs.Prelude.{◌≡◌, IfOk, IsOk};
 ghost use Rattle.icu_plurals.specs.Elements.{AreClones};
-ghost use Rattle.plural_base.specs.FiveRules.{Paired};
 
 use super::PluralElements;
-use super::places::make_elements;
 use std::alloc::AllocError;
 
 impl<T: Clone> PluralElements<T> {
@@ -38,18 +36,6 @@ impl<T: Clone> PluralElements<T> {
         ensures same { ((x : T) (y : T) → T.is_clone x y → y ≡ x) → IfOk result (λ e. e ≡ self.now) }
         ensures succeeds { ((x : T) → T.is_infallible x) → IsOk result }
     {
-        Ok(make_elements!(&self, |value| value.clone()?, |place| cloned(place)?))
-    }
-}
-
-// A clone of the value, if present.
-fn cloned<T: Clone>(place: &Option<T>) -> Result<Option<T>, AllocError>
-    ensures clone { IfOk result (λ s. Paired T.is_clone place.now s) }
-    ensures same { ((x : T) (y : T) → T.is_clone x y → y ≡ x) → IfOk result (λ s. s ≡ place.now) }
-    ensures succeeds { ((x : T) → T.is_infallible x) → IsOk result }
-{
-    match place {
-        Some(value) => Ok(Some(value.clone()?)),
-        None => Ok(None),
+        self.as_ref().try_map(|value| value.clone())
     }
 }

@@ -1,0 +1,10 @@
+use Rattle.std.proofs.Common.{ap, ◌∙◌, rules}
+use Rattle.icu_plurals.specs.Elements.{each_by}
+use Rattle.icu_plurals.specs.Inner.ElementsViews.{lent_value}
+use Rattle.icu_plurals.specs.PackedElements.{plain_value}
+use Rattle.icu_plurals.proofs.ElementsMapped.{same_results}
+use Rattle.icu_plurals.proofs.cow.plain.Goals as goal
+
+pub returns : goal.returns
+returns c = same_results {h = lent_value} {k = plain_value} (λ p x y q called. search rules) _ _ _ _ c.map.ensures.1
+    ∙ ap (each_by plain_value) c.as_ref.ensures

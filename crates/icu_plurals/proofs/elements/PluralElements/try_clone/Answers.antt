@@ -1,0 +1,16 @@
+use Rattle.std.proofs.Common.{rules}
+use Rattle.std.proofs.lemmas.Result.{IfOk-weaker}
+use Rattle.icu_plurals.proofs.ElementsMapped.{clones, same_clones}
+use Rattle.icu_plurals.proofs.elements.PluralElements.try_clone.Goals as goal
+
+pub returns-clause-clones : goal.returns-clause-clones
+returns-clause-clones g c = rw (← c.as_ref.ensures) (IfOk-weaker c.try_map.result _ _
+    (λ made called. clones {IsClone = g.T.Clone.is_clone} (λ p x y q called. search rules) _ _ made _ called.1) c.try_map.ensures.ok)
+
+pub returns-clause-same : goal.returns-clause-same
+returns-clause-same g c = λ equal. rw (← c.as_ref.ensures) (IfOk-weaker c.try_map.result _ _
+    (λ made called. same_clones {IsClone = g.T.Clone.is_clone} equal _ made
+        (clones {IsClone = g.T.Clone.is_clone} (λ p x y q called. search rules) _ _ made _ called.1)) c.try_map.ensures.ok)
+
+pub returns-clause-succeeds : goal.returns-clause-succeeds
+returns-clause-succeeds g c = ?
