@@ -1,5 +1,5 @@
 -- A closure's results for borrowed values, one value at a time.
-use Rattle.std.proofs.Common.{◌≡◌, Option, Some, None, Bor, sym, subst, ap, refl}
+use Rattle.std.proofs.Common.{◌≡◌, Option, Some, None, Result, Ok, Err, IfErr, IsOk, Bor, sym, subst, ap, refl, ⊥}
 use Rattle.std.specs.Prelude.{option_map}
 use Rattle.plural_base.specs.FiveRules.{Paired}
 use Rattle.icu_plurals.specs.Elements.{Elements, AreClones, each_by, values_in_order}
@@ -72,3 +72,8 @@ same_results {A = A} {B = B} {h = h} {k = k} gives f e made last called =
     let many = same _ _ (related {R = λ a b. h b ≡ k a} gives _ e.many made.many _ called.2.2.2.2.2.1) in
     let explicit_zero = same _ _ (related {R = λ a b. h b ≡ k a} gives _ e.explicit_zero made.explicit_zero _ called.2.2.2.2.2.2.1) in
     let explicit_one = same _ _ (related {R = λ a b. h b ≡ k a} gives _ e.explicit_one made.explicit_one _ called.2.2.2.2.2.2.2.1) in cc
+
+-- an `Err` that can't come leaves `Ok`
+pub ok_unless : {T E : Type 0} (r : Result T E) (P : E → Type 0) → ((e : E) → P e → ⊥) → IfErr r P → IsOk r
+ok_unless (Ok x) P never is = refl
+ok_unless (Err e) P never is = absurd (never e is)

@@ -5,6 +5,7 @@ use Rattle.std.specs.Prelude.{IsTrue, map, nat_lt, unwrap_or}
 use Rattle.std.specs.List.{AllByRecursion}
 use Rattle.std.proofs.lemmas.Bool.{lt-ltb, le-ltb, ltb-true, ltb-false}
 use Rattle.packed_list.specs.ListBytes.{CanPack, has_high_start}
+use Rattle.plural_base.specs.declared.elements_pack_error.ElementsPackError.{ElementsPackError}
 use Rattle.plural_base.specs.declared.elements_pack_error.ElementsPackError.TheVariants.{DefaultLimit, StartLimit, Memory}
 use Rattle.icu_plurals.specs.declared.encode.items.Item.{Item}
 use Rattle.icu_plurals.specs.Elements.{Elements, element_at}
@@ -166,8 +167,8 @@ refused was same told = ((λ h. told.0 cc), (λ h. let is = told.1 h in cc))
 pub bytes_are_no_fault : {T E : Type 0} (bytes : T) (fault : E) → Ok bytes ≢ Err fault
 bytes_are_no_fault bytes fault h = absurd cc
 
-pub memory_is_no_default_limit : {T : Type 0} → Err {T = T} Memory ≢ Err DefaultLimit
-memory_is_no_default_limit h = absurd cc
+pub memory_is_no_default_limit : {T : Type 0} (answer : Result T ElementsPackError) → answer ≡ Err Memory → answer ≢ Err DefaultLimit
+memory_is_no_default_limit answer is h = absurd cc
 
-pub memory_is_no_start_limit : {T : Type 0} → Err {T = T} Memory ≢ Err StartLimit
-memory_is_no_start_limit h = absurd cc
+pub memory_is_no_start_limit : {T : Type 0} (answer : Result T ElementsPackError) → answer ≡ Err Memory → answer ≢ Err StartLimit
+memory_is_no_start_limit answer is h = absurd cc

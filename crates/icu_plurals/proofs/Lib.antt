@@ -1,6 +1,7 @@
 pub mod ReferenceCalls
 pub mod Stops
 pub mod ElementsMapped
+pub mod ElementsByThrees
 pub mod ExplicitNumbers
 pub mod ElementsAgain
 pub mod ElementsOneFault

@@ -3,7 +3,9 @@ use Rattle.std.proofs.Common.{List, [], ◌∷◌, Option, Some, None, Result, O
 use Rattle.std.specs.Prelude.{map, option_map}
 use Rattle.std.proofs.lemmas.List.{map-append}
 use Rattle.std.specs.Fn.{Mut, Called, CalledAt, CalledAtMut}
-use Rattle.icu_plurals.specs.ElementCalls.{CallsAt, VisitsAt, VisitsEach, StopsAt, ChangesTo, RefusesChanging}
+use Rattle.icu_plurals.specs.Elements.{Elements, each_by, values_in_order}
+use Rattle.icu_plurals.specs.ElementCalls.{CallsAt, CallsEach, VisitsAt, VisitsEach, StopsAt, ChangesTo, RefusesChanging}
+use Rattle.icu_plurals.proofs.Stops.{visits_each}
 
 -- the value that is borrowed, if present
 abbrev lent : {A : Type 0} → Option (Bor A) → Option A
@@ -21,6 +23,14 @@ pub visits_shown : {F A B R : Type 0} (g : Mut F (Bor A × Unit {0}) R) (of : B 
 visits_shown g of f [] last called = called
 visits_shown g of f (x ∷ xs) last called =
     (called.0, visits_shown_at g of f x called.0 called.1, visits_shown g of called.0 xs last called.2)
+
+-- the same, where the results are kept
+pub visits_kept_shown : {F A B E : Type 0} (g : Mut F (Bor A × Unit {0}) (Result B E)) (f : F) (e : Elements (Bor A)) (made : Elements B)
+    (last : F)
+    → CallsEach (λ p b y q. Called g p (b, tt) (Ok y) q) f (values_in_order e) (values_in_order made) last
+    → VisitsEach (λ p b y q. CalledAt g p b (Ok y) q) f (values_in_order (each_by (λ b. b.now) e)) last
+visits_kept_shown g f e made last called = visits_shown g Ok f (values_in_order e) last
+    (visits_each (λ p b y q. Called g p (b, tt) (Ok y) q) f (values_in_order e) (values_in_order made) last called)
 
 -- calls with borrowed values that stop do so with the values
 pub stops_shown : {F A B E : Type 0} (g : Mut F (Bor A × Unit {0}) (Result B E)) (f : F) (xs : List (Option (Bor A))) (e : E) (last : F)

@@ -15,12 +15,12 @@ three_then call f g last a b c a' b' c' xs ys three rest =
 -- a call with the value of other, and calls with three places, with three more, and with the last
 pub in_steps : {F A B : Type 0} (call : F → A → B → F → Type 0) (f g h i last : F) (x : A) (a b c a' b' c' z : Option A)
     (y : B) (p q r p' q' r' o : Option B)
-    → call f x y g → CallsEach call g (a ∷ b ∷ c ∷ []) (p ∷ q ∷ r ∷ []) h → CallsEach call h (a' ∷ b' ∷ c' ∷ []) (p' ∷ q' ∷ r' ∷ []) i
+    → CallsAt call f (Some x) (Some y) g → CallsEach call g (a ∷ b ∷ c ∷ []) (p ∷ q ∷ r ∷ []) h → CallsEach call h (a' ∷ b' ∷ c' ∷ []) (p' ∷ q' ∷ r' ∷ []) i
     → CallsAt call i z o last
     → CallsEach call f (Some x ∷ a ∷ b ∷ c ∷ a' ∷ b' ∷ c' ∷ z ∷ []) (Some y ∷ p ∷ q ∷ r ∷ p' ∷ q' ∷ r' ∷ o ∷ []) last
 in_steps call f g h i last x a b c a' b' c' z y p q r p' q' r' o first three more place = (
   g,
-  (y, refl, first),
+  first,
   three_then call g h last a b c p q r (a' ∷ b' ∷ c' ∷ z ∷ []) (p' ∷ q' ∷ r' ∷ o ∷ []) three
       (three_then call h i last a' b' c' p' q' r' (z ∷ []) (o ∷ []) more (last, place, refl)),
 )

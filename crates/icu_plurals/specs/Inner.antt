@@ -1,3 +1,4 @@
 -- No definitions of the subject: readers and steps, for views and private contracts.
 pub mod ElementsReading
 pub mod ElementsViews
+pub mod ThreePlaces

@@ -3,12 +3,12 @@
 ghost use Rattle.std.specs.Prelude.{◌≡◌, ◌≢◌, ◌↔◌, Err, Ok, IfErr, IfOk, IsFalse, IsTrue, None, OnOk, codes, option_map};
 ghost use Rattle.std.specs.Option.{option_and_then};
 ghost use Rattle.plural_base.specs.Json.{GivesMeaning};
-ghost use Rattle.serde_json.specs.Find.{as_str};
+ghost use Rattle.serde_json.specs.Find.{as_str, get};
 ghost use Rattle.serde_json.specs.View.{view, members_view};
 ghost use Rattle.serde_json.specs.Written.{has_float};
 ghost use Rattle.icu_plurals.specs.Elements.{each_by};
 ghost use Rattle.icu_plurals.specs.ElementsJson.{elements_in_json, elements_json, metadata_in, optional_in, packed_of_json, packs, packed_value_in, value_json, with_value};
-ghost use Rattle.icu_plurals.specs.Inner.ElementsReading.{all_three};
+ghost use Rattle.icu_plurals.specs.Inner.ThreePlaces.{all_three};
 ghost use Rattle.icu_plurals.specs.Inner.ElementsViews.{lent_value, metadata_number};
 ghost use Rattle.icu_plurals.specs.PackedElements.{PackedElements, elements_of};
 

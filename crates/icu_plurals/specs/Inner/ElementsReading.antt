@@ -125,10 +125,3 @@ head_with default (item ∷ items) = (128 + default.metadata) ∷ length default
 -- the bytes of a default and the byte items after it
 abbrev pub bytes_with_items : PackedValue → List (List ℕ) → List ℕ
 bytes_with_items default items = head_with default items ++ (default.text ++ list_bytes items)
-
--- ---- Steps of reading JSON
-
--- three values, if all are of their form
-abbrev pub all_three : {A : Type 0} → Option A → Option A → Option A → Option (A × A × A)
-all_three (Some a) (Some b) (Some c) = Some (a, b, c)
-all_three _ _ _ = None

@@ -122,7 +122,8 @@ fn try_change_three<T, E, F: FnMut(&mut T) -> Result<(), E>>(
 {
     try_change_place(a, f)?;
     try_change_place(b, f)?;
-    try_change_place(c, f)
+    try_change_place(c, f)?;
+    Ok(())
 }
 
 // A call with the value, if present.

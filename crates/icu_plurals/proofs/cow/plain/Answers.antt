@@ -6,5 +6,5 @@ use Rattle.icu_plurals.proofs.ElementsMapped.{same_results}
 use Rattle.icu_plurals.proofs.cow.plain.Goals as goal
 
 pub returns : goal.returns
-returns c = same_results {h = lent_value} {k = plain_value} (λ p x y q called. search rules) _ _ _ _ c.map.ensures.1
+returns c = same_results {h = lent_value} {k = plain_value} (λ p x y q called. search rules) _ c.as_ref.result c.map.result c.map.ensures.0 c.map.ensures.1
     ∙ ap (each_by plain_value) c.as_ref.ensures

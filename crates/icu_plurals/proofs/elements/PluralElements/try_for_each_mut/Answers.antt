@@ -1,5 +1,7 @@
 use Rattle.std.proofs.Common.{refl}
 use Rattle.std.proofs.lemmas.Result.{err_from_is_err_and, IfOk-at_ok, IfErr-at_err}
+use Rattle.std.specs.Fn.{CalledAtMut}
+use Rattle.icu_plurals.specs.ElementCalls.{ChangesTo}
 use Rattle.icu_plurals.proofs.ReferenceCalls.{lent_ok, lent_err}
 use Rattle.icu_plurals.proofs.Stops.{in_steps, stops_here_changing, stops_later_changing, stops_after_three_changing, stops_before_changing}
 use Rattle.icu_plurals.proofs.elements.PluralElements.try_for_each_mut.Goals as goal
@@ -16,7 +18,7 @@ returns-in_err-try_change_three-clause-err g c =
     rw (p.1, p.2, ← c.self.view_is) (
       c.try_change_three.new.f,
       stops_later_changing (IfOk-at_ok _ c.in_ok-f.was (lent_ok _ _ _ _ _ _ c.f.ensures))
-          (stops_before_changing _ c.in_err-try_change_three.ensures.err),
+          (stops_before_changing _ {last = c.try_change_three.new.f} c.in_err-try_change_three.ensures.err),
     )
 
 pub returns-in_err-try_change_three-2-clause-err : goal.returns-in_err-try_change_three-2-clause-err
@@ -26,7 +28,7 @@ returns-in_err-try_change_three-2-clause-err g c =
       c.try_change_three-2.new.f,
       stops_later_changing (IfOk-at_ok _ c.in_ok-f.was (lent_ok _ _ _ _ _ _ c.f.ensures))
           (stops_after_three_changing c.in_ok-try_change_three.ensures.ok
-          (stops_before_changing _ c.in_err-try_change_three-2.ensures.err)),
+          (stops_before_changing _ {last = c.try_change_three-2.new.f} c.in_err-try_change_three-2.ensures.err)),
     )
 
 pub returns-in_err-try_change_place-clause-err : goal.returns-in_err-try_change_place-clause-err
@@ -43,6 +45,7 @@ returns-in_err-try_change_place-clause-err g c =
 pub returns-clause-ok : goal.returns-clause-ok
 returns-clause-ok g c = rw (← c.self.view_is) (
   c.try_change_place.new.f,
-  in_steps _ _ _ _ _ _ _ _ _ _ _ _ _ _ _ _ _ _ _ _ _ _ (IfOk-at_ok _ c.in_ok-f.was (lent_ok _ _ _ _ _ _ c.f.ensures)).2 c.in_ok-try_change_three.ensures.ok
+  in_steps (ChangesTo (CalledAtMut g.F.FnMut)) _ _ _ _ _ _ _ _ _ _ _ _ _ _ _ _ _ _ _ _ _
+      (IfOk-at_ok _ c.in_ok-f.was (lent_ok _ _ _ _ _ _ c.f.ensures)) c.in_ok-try_change_three.ensures.ok
       c.in_ok-try_change_three-2.ensures.ok c.in_ok-try_change_place.ensures.ok,
 )

@@ -1,4 +1,4 @@
-use Rattle.std.proofs.Common.{refl}
+use Rattle.std.proofs.Common.{Ok, refl}
 use Rattle.std.proofs.lemmas.Result.{err_from_is_err_and}
 use Rattle.icu_plurals.proofs.Stops.{in_steps, stops_here, stops_later, stops_after_three, stops_before}
 use Rattle.icu_plurals.proofs.elements.PluralElements.try_map.Goals as goal
@@ -14,7 +14,7 @@ returns-in_err-zero-clause-err g c =
     rw (p.1, p.2, ← c.self.view_is) (
       c.try_map_three.new.f,
       stops_later _ (c.in_ok-other.other, refl, rw (← c.in_ok-other.was) c.f.ensures)
-          (stops_before _ c.in_err-zero.ensures.err),
+          (stops_before _ {last = c.try_map_three.new.f} c.in_err-zero.ensures.err),
     )
 
 pub returns-in_err-few-clause-err : goal.returns-in_err-few-clause-err
@@ -24,7 +24,7 @@ returns-in_err-few-clause-err g c =
       c.try_map_three-2.new.f,
       stops_later _ (c.in_ok-other.other, refl, rw (← c.in_ok-other.was) c.f.ensures)
           (stops_after_three _ _ _ c.in_ok-zero.ensures.ok
-          (stops_before _ c.in_err-few.ensures.err)),
+          (stops_before _ {last = c.try_map_three-2.new.f} c.in_err-few.ensures.err)),
     )
 
 pub returns-in_err-explicit_one-clause-err : goal.returns-in_err-explicit_one-clause-err
@@ -41,5 +41,7 @@ returns-in_err-explicit_one-clause-err g c =
 pub returns-clause-ok : goal.returns-clause-ok
 returns-clause-ok g c = rw (← c.self.view_is) (
   c.try_map_place.new.f,
-  in_steps _ _ _ _ _ _ _ _ _ _ _ _ _ _ _ _ _ _ _ _ _ _ (rw (← c.in_ok-other.was) c.f.ensures) c.in_ok-zero.ensures.ok c.in_ok-few.ensures.ok c.in_ok-explicit_one.ensures.ok,
+  in_steps (λ p x y q. goal.F-step g p x (Ok y) q) _ _ _ _ _ _ _ _ _ _ _ _ _ _ _ _ _ _ _ _ _
+      (c.in_ok-other.other, refl, rw (← c.in_ok-other.was) c.f.ensures) c.in_ok-zero.ensures.ok c.in_ok-few.ensures.ok
+      c.in_ok-explicit_one.ensures.ok,
 )

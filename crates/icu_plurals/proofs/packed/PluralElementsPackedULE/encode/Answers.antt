@@ -1,4 +1,4 @@
-use Rattle.std.proofs.Common.{◌≡◌, ◌≤◌, length, ap, subst, ◌∙◌, ◌↔◌, Some}
+use Rattle.std.proofs.Common.{refl, ◌≡◌, ◌≤◌, length, ap, subst, ◌∙◌, ◌↔◌, Some}
 use Rattle.std.specs.Prelude.{map, Err}
 use Rattle.std.proofs.lemmas.Result.{err_from_is_err_and}
 use Rattle.plural_base.specs.declared.elements_pack_error.ElementsPackError.TheVariants.{DefaultLimit, StartLimit}
@@ -58,11 +58,11 @@ returns-in-Ok-clause-start_limit c =
 
 pub returns-in-Err-clause-default_limit : goal.returns-in-Err-clause-default_limit
 returns-in-Err-clause-default_limit c =
-    not_refused c.in_ok-list.was (long (goal.at.returns-in-Err-clause-default_limit c).After-list_beside) memory_is_no_default_limit
+    not_refused c.in_ok-list.was (long (goal.at.returns-in-Err-clause-default_limit c).After-list_beside) (memory_is_no_default_limit _ refl)
 
 pub returns-in-Err-clause-start_limit : goal.returns-in-Err-clause-start_limit
 returns-in-Err-clause-start_limit c =
-    not_refused c.in_ok-list.was (high (goal.at.returns-in-Err-clause-start_limit c).After-list_beside) memory_is_no_start_limit
+    not_refused c.in_ok-list.was (high (goal.at.returns-in-Err-clause-start_limit c).After-list_beside) (memory_is_no_start_limit _ refl)
 
 -- ---- the bytes
 
