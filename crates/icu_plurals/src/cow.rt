@@ -149,7 +149,16 @@ impl<'data> PluralElementsPackedCow<'data> {
 fn plain<'a>(elements: &PluralElements<&'a str>) -> PluralElements<(FourBitMetadata, &'a str)>
     ensures { each_by lent_value result ≡ each_by plain_value elements.now }
 {
-    elements.as_ref().map(|text| plain_text(*text))
+    PluralElements {
+        other: plain_text(elements.other),
+        zero: plain_option(&elements.zero),
+        one: plain_option(&elements.one),
+        two: plain_option(&elements.two),
+        few: plain_option(&elements.few),
+        many: plain_option(&elements.many),
+        explicit_zero: plain_option(&elements.explicit_zero),
+        explicit_one: plain_option(&elements.explicit_one),
+    }
 }
 
 // A text with metadata 0.
@@ -157,6 +166,16 @@ fn plain_text(text: &str) -> (FourBitMetadata, &str)
     ensures { lent_value result ≡ plain_value text.entry }
 {
     (FourBitMetadata::zero(), text)
+}
+
+// A text that may be absent, with metadata 0.
+fn plain_option<'a>(text: &Option<&'a str>) -> Option<(FourBitMetadata, &'a str)>
+    ensures { option_map lent_value result ≡ option_map plain_value text.now }
+{
+    match text {
+        Some(text) => Some(plain_text(text)),
+        None => None,
+    }
 }
 
 impl<'data> PartialEq for PluralElementsPackedCow<'data> {
