@@ -6,5 +6,5 @@ pub returns : goal.returns
 returns g c = rw (← c.self.view_is) (
   c.map_place-explicit_one.new.f,
   in_steps (goal.F-step g) _ _ _ _ _ _ _ _ _ _ _ _ _ _ _ _ _ _ _ _ _
-      (_, refl, c.f-other.ensures) c.map_three.ensures.called c.map_three-2.ensures.called c.map_place-explicit_one.ensures.called,
+      (_, refl, c.f-other.ensures) c.map_three-zero.ensures.called c.map_three-few.ensures.called c.map_place-explicit_one.ensures.called,
 )
