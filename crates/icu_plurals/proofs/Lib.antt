@@ -1,7 +1,5 @@
 pub mod ReferenceCalls
 pub mod Stops
-pub mod ElementsMapped
-pub mod ElementsByThrees
 pub mod ExplicitNumbers
 pub mod ElementsAgain
 pub mod ElementsOneFault

@@ -1,4 +1,3 @@
 -- No definitions of the subject: readers and steps, for views and private contracts.
 pub mod ElementsReading
 pub mod ElementsViews
-pub mod ThreePlaces

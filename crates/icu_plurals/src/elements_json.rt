@@ -3,18 +3,16 @@
 ghost use Rattle.std.specs.Prelude.{◌≡◌, ◌≢◌, ◌↔◌, Err, Ok, IfErr, IfOk, IsFalse, IsTrue, None, OnOk, codes, option_map};
 ghost use Rattle.std.specs.Option.{option_and_then};
 ghost use Rattle.plural_base.specs.Json.{GivesMeaning};
-ghost use Rattle.serde_json.specs.Find.{as_str, get};
+ghost use Rattle.serde_json.specs.Find.{as_str};
 ghost use Rattle.serde_json.specs.View.{view, members_view};
 ghost use Rattle.serde_json.specs.Written.{has_float};
 ghost use Rattle.icu_plurals.specs.Elements.{each_by};
 ghost use Rattle.icu_plurals.specs.ElementsJson.{elements_in_json, elements_json, metadata_in, optional_in, packed_of_json, packs, packed_value_in, value_json, with_value};
-ghost use Rattle.icu_plurals.specs.Inner.ThreePlaces.{all_three};
 ghost use Rattle.icu_plurals.specs.Inner.ElementsViews.{lent_value, metadata_number};
 ghost use Rattle.icu_plurals.specs.PackedElements.{PackedElements, elements_of};
 
 use crate::cow::PluralElementsPackedCow;
 use crate::elements::PluralElements;
-use crate::elements::places::make_elements;
 use crate::packed::PluralElementsPackedULE;
 use crate::packed::metadata::FourBitMetadata;
 use packed_list::laws::read_again;
@@ -122,39 +120,24 @@ fn packed(
     }
 }
 
-// A value that may be absent.
-type Place<'a> = Option<(FourBitMetadata, &'a str)>;
-
 // The elements of a value, if it is of their form.
 fn read_elements(value: &Value) -> Option<PluralElements<(FourBitMetadata, &str)>>
     ensures { option_map (each_by lent_value) result ≡ elements_in_json (view value.now) }
 {
-    Some(make_elements!(
-        |key| read_value(value.get(key)?)?,
-        |a, b, c| read_three(value, a, b, c)?,
-        |key| read_optional(value.get(key))?
-    ))
-}
-
-// Three values that may be absent or null.
-fn read_three<'a>(
-    value: &'a Value,
-    a: &str,
-    b: &str,
-    c: &str,
-) -> Option<(Place<'a>, Place<'a>, Place<'a>)>
-    ensures { option_map (λ three. (option_map lent_value three.0, option_map lent_value three.1, option_map lent_value three.2)) result
-        ≡ all_three (optional_in (get a.now (view value.entry.now))) (optional_in (get b.now (view value.entry.now))) (optional_in (get c.now (view value.entry.now))) }
-{
-    Some((
-        read_optional(value.get(a))?,
-        read_optional(value.get(b))?,
-        read_optional(value.get(c))?,
-    ))
+    Some(PluralElements {
+        other: read_value(value.get("other")?)?,
+        zero: read_optional(value.get("zero"))?,
+        one: read_optional(value.get("one"))?,
+        two: read_optional(value.get("two"))?,
+        few: read_optional(value.get("few"))?,
+        many: read_optional(value.get("many"))?,
+        explicit_zero: read_optional(value.get("explicit_zero"))?,
+        explicit_one: read_optional(value.get("explicit_one"))?,
+    })
 }
 
 // A value that may be absent or null.
-fn read_optional(value: Option<&Value>) -> Option<Place<'_>>
+fn read_optional(value: Option<&Value>) -> Option<Option<(FourBitMetadata, &str)>>
     ensures { option_map (option_map lent_value) result ≡ optional_in (option_map (λ v. view v.now) value.entry) }
 {
     let Some(value) = value else {

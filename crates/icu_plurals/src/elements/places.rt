@@ -18,8 +18,8 @@ macro_rules! only_other {
 }
 
 /// Makes elements in four steps: the first expression gives the value of other, the second one each
-/// three of the six next places, and the third one the last place. Where other elements are given,
-/// each names what stands there, which is moved; else it names the key of its place in JSON.
+/// three of the six next places, and the third one the last place. Each names what stands there in
+/// the given elements, which is moved.
 macro_rules! make_elements {
     (@each |$value:ident| $first:expr, |$a:ident, $b:ident, $c:ident| $three:expr,
         |$place:ident| $last:expr,
@@ -48,11 +48,6 @@ macro_rules! make_elements {
             explicit_one,
         }
     }};
-    (|$value:ident| $first:expr, |$a:ident, $b:ident, $c:ident| $three:expr,
-        |$place:ident| $last:expr) => {
-        make_elements!(@each |$value| $first, |$a, $b, $c| $three, |$place| $last,
-            "other", "zero", "one", "two", "few", "many", "explicit_zero", "explicit_one")
-    };
     ($from:expr, |$value:ident| $first:expr, |$a:ident, $b:ident, $c:ident| $three:expr,
         |$place:ident| $last:expr) => {
         make_elements!(@each |$value| $first, |$a, $b, $c| $three, |$place| $last,

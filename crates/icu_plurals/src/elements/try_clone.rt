@@ -2,6 +2,7 @@
 
 ghost use Rattle.std.specs.Prelude.{◌≡◌, IfOk, IsOk};
 ghost use Rattle.icu_plurals.specs.Elements.{AreClones};
+ghost use Rattle.plural_base.specs.FiveRules.{Paired};
 
 use super::PluralElements;
 use std::alloc::AllocError;
@@ -36,6 +37,27 @@ impl<T: Clone> PluralElements<T> {
         ensures same { ((x : T) (y : T) → T.is_clone x y → y ≡ x) → IfOk result (λ e. e ≡ self.now) }
         ensures succeeds { ((x : T) → T.is_infallible x) → IsOk result }
     {
-        self.as_ref().try_map(|value| value.clone())
+        Ok(PluralElements {
+            other: self.other.clone()?,
+            zero: cloned(&self.zero)?,
+            one: cloned(&self.one)?,
+            two: cloned(&self.two)?,
+            few: cloned(&self.few)?,
+            many: cloned(&self.many)?,
+            explicit_zero: cloned(&self.explicit_zero)?,
+            explicit_one: cloned(&self.explicit_one)?,
+        })
+    }
+}
+
+// A clone of the value, if present.
+fn cloned<T: Clone>(place: &Option<T>) -> Result<Option<T>, AllocError>
+    ensures clone { IfOk result (λ s. Paired T.is_clone place.now s) }
+    ensures same { ((x : T) (y : T) → T.is_clone x y → y ≡ x) → IfOk result (λ s. s ≡ place.now) }
+    ensures succeeds { ((x : T) → T.is_infallible x) → IsOk result }
+{
+    match place {
+        Some(value) => Ok(Some(value.clone()?)),
+        None => Ok(None),
     }
 }
