@@ -1,11 +1,12 @@
 -- The bytes that are written encode the packed elements.
-use Rattle.std.proofs.Common.{◌≡◌, ◌≢◌, ◌↔◌, ℕ, ◌<◌, ◌≤◌, List, [], ◌∷◌, length, Bool, true, false, cond, Option, Some, None}
+use Rattle.std.proofs.Common.{◌≡◌, ◌≢◌, ◌↔◌, ℕ, ◌<◌, ◌≤◌, List, [], ◌∷◌, length, Bool, true, false, cond, Option, Some, None, Result, Ok, Err}
 use Rattle.std.proofs.Common.{refl, sym, ap, subst, ◌∙◌, arith, append-nil}
 use Rattle.std.specs.Prelude.{IsTrue, map, nat_lt, unwrap_or}
 use Rattle.std.specs.List.{AllByRecursion}
 use Rattle.std.proofs.lemmas.Bool.{lt-ltb, le-ltb, ltb-true, ltb-false}
 use Rattle.packed_list.specs.ListBytes.{CanPack, has_high_start}
-use Rattle.plural_base.specs.declared.elements_pack_error.ElementsPackError.TheVariants.{DefaultLimit, StartLimit}
+use Rattle.plural_base.specs.declared.elements_pack_error.ElementsPackError.{ElementsPackError}
+use Rattle.plural_base.specs.declared.elements_pack_error.ElementsPackError.TheVariants.{DefaultLimit, StartLimit, Memory}
 use Rattle.icu_plurals.specs.declared.encode.items.Item.{Item}
 use Rattle.icu_plurals.specs.Elements.{Elements, element_at}
 use Rattle.icu_plurals.specs.PackedElements.{AnswersAs, fault_beside, pack_fault, PackedValue, PackedItem, IsPackedValue}
@@ -149,3 +150,25 @@ no_other_fault e long high = one_of_two e.other (none_if_empty (packed_items e))
 -- elements that have bytes have no fault
 pub no_fault : (e : Elements PackedValue) (bytes : List ℕ) → ElementsBytes (packed_of e) bytes → pack_fault (packed_of e) ≡ None
 no_fault e bytes h = fault_free e.other (none_if_empty (packed_items e)) h.can_pack
+
+-- ---- the answer after a list is made, or refused
+
+-- where the list is made, an answer that isn't a fault shows that there is none
+pub not_refused : {T S E P : Type 0} {made : Result T E} {list : T} {fault : E} {answer : Result S E}
+    → made ≡ Ok list → (made ≡ Err fault) ↔ P → answer ≢ Err fault → (answer ≡ Err fault) ↔ P
+not_refused was told other = ((λ h. absurd (other h)), (λ h. absurd (let is = told.1 h in cc)))
+
+-- where the list is refused, its error is the answer
+pub refused : {T S E P : Type 0} {made : Result T E} {error fault : E} {answer : Result S E}
+    → made ≡ Err error → answer ≡ Err error → (made ≡ Err fault) ↔ P → (answer ≡ Err fault) ↔ P
+refused was same told = ((λ h. told.0 cc), (λ h. let is = told.1 h in cc))
+
+-- bytes are no fault, and want of memory is another one
+pub bytes_are_no_fault : {T E : Type 0} (bytes : T) (fault : E) → Ok bytes ≢ Err fault
+bytes_are_no_fault bytes fault h = absurd cc
+
+pub memory_is_no_default_limit : {T : Type 0} (answer : Result T ElementsPackError) → answer ≡ Err Memory → answer ≢ Err DefaultLimit
+memory_is_no_default_limit answer is h = absurd cc
+
+pub memory_is_no_start_limit : {T : Type 0} (answer : Result T ElementsPackError) → answer ≡ Err Memory → answer ≢ Err StartLimit
+memory_is_no_start_limit answer is h = absurd cc

@@ -8,7 +8,6 @@ ghost use Rattle.icu_plurals.specs.Inner.ElementsReading.{AreElements};
 ghost use Rattle.icu_plurals.specs.Inner.ElementsViews.{lent_elements, lent_value};
 
 use crate::elements::PluralElements;
-use crate::elements::places::make_elements;
 use crate::packed::PluralElementsPackedULE;
 use crate::packed::error::ElementsBytesError;
 use crate::packed::metadata::FourBitMetadata;
@@ -150,11 +149,16 @@ impl<'data> PluralElementsPackedCow<'data> {
 fn plain<'a>(elements: &PluralElements<&'a str>) -> PluralElements<(FourBitMetadata, &'a str)>
     ensures { each_by lent_value result ≡ each_by plain_value elements.now }
 {
-    make_elements!(
-        &elements,
-        |text| plain_text(text),
-        |text| plain_option(text)
-    )
+    PluralElements {
+        other: plain_text(elements.other),
+        zero: plain_option(&elements.zero),
+        one: plain_option(&elements.one),
+        two: plain_option(&elements.two),
+        few: plain_option(&elements.few),
+        many: plain_option(&elements.many),
+        explicit_zero: plain_option(&elements.explicit_zero),
+        explicit_one: plain_option(&elements.explicit_one),
+    }
 }
 
 // A text with metadata 0.

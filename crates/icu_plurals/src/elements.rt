@@ -10,7 +10,7 @@ pub(crate) mod places;
 mod try_clone;
 mod with_values;
 
-use crate::elements::places::{make_elements, only_other};
+use crate::elements::places::only_other;
 use plural_base::{PluralCategory, PluralRules, at_category};
 use plural_reference::PluralOperands;
 use std::marker::Model;
@@ -177,7 +177,16 @@ impl<T> PluralElements<T> {
     pub fn as_ref(&self) -> PluralElements<&T>
         ensures { each_by (λ x. x.now) result ≡ self.now }
     {
-        make_elements!(&self, |value| value, |value| value.as_ref())
+        PluralElements {
+            other: &self.other,
+            zero: self.zero.as_ref(),
+            one: self.one.as_ref(),
+            two: self.two.as_ref(),
+            few: self.few.as_ref(),
+            many: self.many.as_ref(),
+            explicit_zero: self.explicit_zero.as_ref(),
+            explicit_one: self.explicit_one.as_ref(),
+        }
     }
 
     /// Returns the value for a number: the explicit one if the operands are exactly 0 or 1 and it

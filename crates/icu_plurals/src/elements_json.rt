@@ -13,7 +13,6 @@ ghost use Rattle.icu_plurals.specs.PackedElements.{PackedElements, elements_of};
 
 use crate::cow::PluralElementsPackedCow;
 use crate::elements::PluralElements;
-use crate::elements::places::make_elements;
 use crate::packed::PluralElementsPackedULE;
 use crate::packed::metadata::FourBitMetadata;
 use packed_list::laws::read_again;
@@ -125,10 +124,16 @@ fn packed(
 fn read_elements(value: &Value) -> Option<PluralElements<(FourBitMetadata, &str)>>
     ensures { option_map (each_by lent_value) result ≡ elements_in_json (view value.now) }
 {
-    Some(make_elements!(
-        |key| read_value(value.get(key)?)?,
-        |key| read_optional(value.get(key))?
-    ))
+    Some(PluralElements {
+        other: read_value(value.get("other")?)?,
+        zero: read_optional(value.get("zero"))?,
+        one: read_optional(value.get("one"))?,
+        two: read_optional(value.get("two"))?,
+        few: read_optional(value.get("few"))?,
+        many: read_optional(value.get("many"))?,
+        explicit_zero: read_optional(value.get("explicit_zero"))?,
+        explicit_one: read_optional(value.get("explicit_one"))?,
+    })
 }
 
 // A value that may be absent or null.

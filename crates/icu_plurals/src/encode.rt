@@ -1,11 +1,11 @@
 //! Packs elements.
 
-ghost use Rattle.std.specs.Prelude.{◌≡◌, ◌≢◌, ◌↔◌, ◌^◌, ◌<◌, ◌≤◌, Err, Some, IfOk, IsTrue, length};
+ghost use Rattle.std.specs.Prelude.{◌≡◌, ◌≢◌, ◌↔◌, ◌^◌, ◌<◌, ◌≤◌, ◌++◌, Err, Some, IfOk, OnOk, IsTrue, length};
 ghost use Rattle.packed_list.specs.ListBytes.{CanPack, has_high_start};
 ghost use Rattle.icu_plurals.specs.Elements.{each_by};
 ghost use Rattle.icu_plurals.specs.PackedElements.{AnswersAs, pack_fault, ElementsBytes, IsPackedValue, packed_of};
-ghost use Rattle.icu_plurals.specs.Inner.ElementsReading.{bytes_with_items};
-ghost use Rattle.icu_plurals.specs.Inner.ElementsViews.{lent_value, lent_bytes};
+ghost use Rattle.icu_plurals.specs.Inner.ElementsReading.{bytes_with_items, head_with};
+ghost use Rattle.icu_plurals.specs.Inner.ElementsViews.{lent_value, lent_bytes, metadata_number};
 
 mod items;
 
@@ -93,21 +93,36 @@ fn written(
     ensures valid { IfOk result (λ _. IsPackedValue (lent_value default.now)) }
     ensures bytes { IfOk result (λ bytes. bytes.items ≡ bytes_with_items (lent_value default.now) (lent_bytes items.now)) }
 {
-    let (metadata, text) = *default;
-    let metadata = metadata.get();
+    let text = default.1;
     let size = if items.is_empty() {
         1 + text.len()
     } else {
         2 + text.len() + list.byte_count()
     };
     let mut bytes = Vec::with_capacity(alloc, size)?;
+    push_head(&mut bytes, default, items)?;
+    bytes.extend_from_slice(text.as_bytes())?;
+    list.write_to(&mut bytes)?;
+    Ok(bytes)
+}
+
+// Puts what is before the text of a default.
+fn push_head(
+    bytes: &mut Vec<u8>,
+    default: &(FourBitMetadata, &str),
+    items: &[Item<'_>],
+) -> Result<(), AllocError>
+    requires { 0 < length items.now → length default.now.1.now ≤ 255 }
+    ensures metadata { metadata_number default.now.0 < 16 }
+    ensures head { OnOk result (bytes.new.items ≡ bytes.old.items ++ head_with (lent_value default.now) (lent_bytes items.now)) }
+{
+    let (metadata, text) = *default;
+    let metadata = metadata.get();
     if items.is_empty() {
         bytes.push(metadata)?;
     } else {
         bytes.push(128 + metadata)?;
         bytes.push(text.len() as u8)?;
     }
-    bytes.extend_from_slice(text.as_bytes())?;
-    list.write_to(&mut bytes)?;
-    Ok(bytes)
+    Ok(())
 }

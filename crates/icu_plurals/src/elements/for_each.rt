@@ -1,9 +1,9 @@
 //! A closure called with the values.
 
-ghost use Rattle.std.specs.Prelude.{Ok, OnOk, IfErr};
+ghost use Rattle.std.specs.Prelude.{Ok, OnOk, IfErr, [], ◌∷◌};
 ghost use Rattle.std.specs.Fn.{CalledAt};
 ghost use Rattle.icu_plurals.specs.Elements.{values_in_order};
-ghost use Rattle.icu_plurals.specs.ElementCalls.{VisitsAt, VisitsEach, RefusesAt, StopsAt};
+ghost use Rattle.icu_plurals.specs.ElementCalls.{VisitsAt, VisitsEach, StopsAt};
 
 use super::PluralElements;
 use super::places::for_places;
@@ -55,16 +55,12 @@ impl<T> PluralElements<T> {
     /// ```text
     /// 5 is refused
     /// ```
-    pub fn try_for_each<E, F: FnMut(&T) -> Result<(), E>>(&self, mut f: F) -> Result<(), E>
+    pub fn try_for_each<E, F: FnMut(&T) -> Result<(), E>>(&self, f: F) -> Result<(), E>
         requires { F.IsAlwaysCallable f }
         ensures ok { OnOk result ((last : F) × VisitsEach (λ p x y q. CalledAt F.FnMut p x (Ok y) q) f (values_in_order self.now) last) }
         ensures err { IfErr result (λ e. (last : F) × StopsAt (CalledAt F.FnMut) f (values_in_order self.now) e last) }
     {
-        for_places!(
-            &self,
-            |value| f(value)?,
-            |place| try_visit_place(place, &mut f)?
-        );
+        self.as_ref().try_map(f)?;
         Ok(())
     }
 
@@ -73,8 +69,24 @@ impl<T> PluralElements<T> {
         requires { F.IsAlwaysCallable f.old }
         ensures { VisitsEach (CalledAt F.FnMut) f.old (values_in_order self.now) f.new }
     {
-        for_places!(&self, |value| f(value), |place| visit_place(place, f));
+        for_places!(
+            &self,
+            |value| f(value),
+            |a, b, c| visit_three(a, b, c, f),
+            |place| visit_place(place, f)
+        );
     }
+}
+
+// A call with each of three values that is present.
+fn visit_three<T, F: FnMut(&T)>(a: &Option<T>, b: &Option<T>, c: &Option<T>, f: &mut F)
+    requires { F.IsAlwaysCallable f.old }
+    ensures called { VisitsEach (CalledAt F.FnMut) f.old (a.now ∷ b.now ∷ c.now ∷ []) f.new }
+    ensures again { F.IsAlwaysCallable f.new }
+{
+    visit_place(a, f);
+    visit_place(b, f);
+    visit_place(c, f);
 }
 
 // A call with the value, if present.
@@ -85,21 +97,5 @@ fn visit_place<T, F: FnMut(&T)>(place: &Option<T>, f: &mut F)
 {
     if let Some(value) = place {
         f(value);
-    }
-}
-
-// A call with the value, if present.
-fn try_visit_place<T, E, F: FnMut(&T) -> Result<(), E>>(
-    place: &Option<T>,
-    f: &mut F,
-) -> Result<(), E>
-    requires { F.IsAlwaysCallable f.old }
-    ensures ok { OnOk result (VisitsAt (λ p x y q. CalledAt F.FnMut p x (Ok y) q) f.old place.now f.new) }
-    ensures err { IfErr result (λ e. RefusesAt (CalledAt F.FnMut) f.old place.now e f.new) }
-    ensures again { F.IsAlwaysCallable f.new }
-{
-    match place {
-        Some(value) => f(value),
-        None => Ok(()),
     }
 }

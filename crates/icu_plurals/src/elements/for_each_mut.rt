@@ -1,6 +1,6 @@
 //! A closure that may change the values.
 
-ghost use Rattle.std.specs.Prelude.{Ok, OnOk, IfErr};
+ghost use Rattle.std.specs.Prelude.{Ok, OnOk, IfErr, [], ◌∷◌};
 ghost use Rattle.std.specs.Fn.{CalledAtMut};
 ghost use Rattle.icu_plurals.specs.Elements.{values_in_order};
 ghost use Rattle.icu_plurals.specs.ElementCalls.{CallsAt, CallsEach, Changes, ChangesTo, RefusesChanging, StopsAtChanging};
@@ -32,6 +32,7 @@ impl<T> PluralElements<T> {
         for_places!(
             &mut self,
             |value| f(value),
+            |a, b, c| change_three(a, b, c, &mut f),
             |place| change_place(place, &mut f)
         );
     }
@@ -73,10 +74,27 @@ impl<T> PluralElements<T> {
         for_places!(
             &mut self,
             |value| f(value)?,
+            |a, b, c| try_change_three(a, b, c, &mut f)?,
             |place| try_change_place(place, &mut f)?
         );
         Ok(())
     }
+}
+
+// A call with each of three values that is present.
+fn change_three<T, F: FnMut(&mut T)>(
+    a: &mut Option<T>,
+    b: &mut Option<T>,
+    c: &mut Option<T>,
+    f: &mut F,
+)
+    requires { F.IsAlwaysCallable f.old }
+    ensures called { CallsEach (Changes (CalledAtMut F.FnMut)) f.old (a.old ∷ b.old ∷ c.old ∷ []) (a.new ∷ b.new ∷ c.new ∷ []) f.new }
+    ensures again { F.IsAlwaysCallable f.new }
+{
+    change_place(a, f);
+    change_place(b, f);
+    change_place(c, f);
 }
 
 // A call with the value, if present.
@@ -88,6 +106,24 @@ fn change_place<T, F: FnMut(&mut T)>(place: &mut Option<T>, f: &mut F)
     if let Some(value) = place {
         f(value);
     }
+}
+
+// A call with each of three values that is present.
+fn try_change_three<T, E, F: FnMut(&mut T) -> Result<(), E>>(
+    a: &mut Option<T>,
+    b: &mut Option<T>,
+    c: &mut Option<T>,
+    f: &mut F,
+) -> Result<(), E>
+    requires { F.IsAlwaysCallable f.old }
+    ensures ok { OnOk result (CallsEach (ChangesTo (CalledAtMut F.FnMut)) f.old (a.old ∷ b.old ∷ c.old ∷ []) (a.new ∷ b.new ∷ c.new ∷ []) f.new) }
+    ensures err { IfErr result (λ e. StopsAtChanging (CalledAtMut F.FnMut) f.old (a.old ∷ b.old ∷ c.old ∷ []) (a.new ∷ b.new ∷ c.new ∷ []) e f.new) }
+    ensures again { F.IsAlwaysCallable f.new }
+{
+    try_change_place(a, f)?;
+    try_change_place(b, f)?;
+    try_change_place(c, f)?;
+    Ok(())
 }
 
 // A call with the value, if present.

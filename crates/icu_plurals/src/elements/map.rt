@@ -1,6 +1,6 @@
 //! Elements of a closure's results.
 
-ghost use Rattle.std.specs.Prelude.{Ok, IfOk, IfErr};
+ghost use Rattle.std.specs.Prelude.{Ok, IfOk, IfErr, [], ◌∷◌};
 ghost use Rattle.icu_plurals.specs.Elements.{values_in_order};
 ghost use Rattle.icu_plurals.specs.ElementCalls.{CallsAt, CallsEach, RefusesAt, StopsAt};
 
@@ -29,7 +29,12 @@ impl<T> PluralElements<T> {
         requires { F.IsAlwaysCallable f }
         ensures { (last : F) × CallsEach (λ p x y q. F.step p x y q) f (values_in_order self) (values_in_order result) last }
     {
-        make_elements!(self, |value| f(value), |place| map_place(place, &mut f))
+        make_elements!(
+            self,
+            |value| f(value),
+            |a, b, c| map_three(a, b, c, &mut f),
+            |place| map_place(place, &mut f)
+        )
     }
 
     /// As [`PluralElements::map`] up to the first `Err` of the closure, which is then the result;
@@ -62,9 +67,24 @@ impl<T> PluralElements<T> {
         Ok(make_elements!(
             self,
             |value| f(value)?,
+            |a, b, c| try_map_three(a, b, c, &mut f)?,
             |place| try_map_place(place, &mut f)?
         ))
     }
+}
+
+// The results for three values, each if present.
+fn map_three<T, B, F: FnMut(T) -> B>(
+    a: Option<T>,
+    b: Option<T>,
+    c: Option<T>,
+    f: &mut F,
+) -> (Option<B>, Option<B>, Option<B>)
+    requires { F.IsAlwaysCallable f.old }
+    ensures called { CallsEach (λ p x y q. F.step p x y q) f.old (a ∷ b ∷ c ∷ []) (result.0 ∷ result.1 ∷ result.2 ∷ []) f.new }
+    ensures again { F.IsAlwaysCallable f.new }
+{
+    (map_place(a, f), map_place(b, f), map_place(c, f))
 }
 
 // The result for the value, if present.
@@ -77,6 +97,25 @@ fn map_place<T, B, F: FnMut(T) -> B>(place: Option<T>, f: &mut F) -> Option<B>
         Some(value) => Some(f(value)),
         None => None,
     }
+}
+
+// The results for three values, each if present.
+fn try_map_three<T: Drop, B: Drop, E, F: FnMut(T) -> Result<B, E>>(
+    a: Option<T>,
+    b: Option<T>,
+    c: Option<T>,
+    f: &mut F,
+) -> Result<(Option<B>, Option<B>, Option<B>), E>
+    requires { F.IsAlwaysCallable f.old }
+    ensures ok { IfOk result (λ y. CallsEach (λ p x y q. F.step p x (Ok y) q) f.old (a ∷ b ∷ c ∷ []) (y.0 ∷ y.1 ∷ y.2 ∷ []) f.new) }
+    ensures err { IfErr result (λ e. StopsAt (λ p x y q. F.step p x y q) f.old (a ∷ b ∷ c ∷ []) e f.new) }
+    ensures again { F.IsAlwaysCallable f.new }
+{
+    Ok((
+        try_map_place(a, f)?,
+        try_map_place(b, f)?,
+        try_map_place(c, f)?,
+    ))
 }
 
 // The result for the value, if present.

@@ -17,94 +17,75 @@ macro_rules! only_other {
     };
 }
 
-/// Makes elements: the first expression gives the value of other, and the second one each further
-/// place. Where other elements are given, each names what stands there: itself, which is moved, or,
-/// behind a `&`, a reference to it. Else each names the key of its place in JSON.
+/// Makes elements in four steps: the first expression gives the value of other, the second one each
+/// three of the six next places, and the third one the last place. Each names what stands there in
+/// the given elements, which is moved.
 macro_rules! make_elements {
-    (@each |$value:ident| $first:expr, |$place:ident| $next:expr,
+    (@each |$value:ident| $first:expr, |$a:ident, $b:ident, $c:ident| $three:expr,
+        |$place:ident| $last:expr,
         $other:expr, $zero:expr, $one:expr, $two:expr, $few:expr, $many:expr,
-        $explicit_zero:expr, $explicit_one:expr) => {
+        $explicit_zero:expr, $explicit_one:expr) => {{
+        let $value = $other;
+        let other = $first;
+        let $a = $zero;
+        let $b = $one;
+        let $c = $two;
+        let (zero, one, two) = $three;
+        let $a = $few;
+        let $b = $many;
+        let $c = $explicit_zero;
+        let (few, many, explicit_zero) = $three;
+        let $place = $explicit_one;
+        let explicit_one = $last;
         $crate::PluralElements {
-            other: {
-                let $value = $other;
-                $first
-            },
-            zero: {
-                let $place = $zero;
-                $next
-            },
-            one: {
-                let $place = $one;
-                $next
-            },
-            two: {
-                let $place = $two;
-                $next
-            },
-            few: {
-                let $place = $few;
-                $next
-            },
-            many: {
-                let $place = $many;
-                $next
-            },
-            explicit_zero: {
-                let $place = $explicit_zero;
-                $next
-            },
-            explicit_one: {
-                let $place = $explicit_one;
-                $next
-            },
+            other,
+            zero,
+            one,
+            two,
+            few,
+            many,
+            explicit_zero,
+            explicit_one,
         }
-    };
-    (|$value:ident| $first:expr, |$place:ident| $next:expr) => {
-        make_elements!(@each |$value| $first, |$place| $next,
-            "other", "zero", "one", "two", "few", "many", "explicit_zero", "explicit_one")
-    };
-    (&$from:expr, |$value:ident| $first:expr, |$place:ident| $next:expr) => {
-        make_elements!(@each |$value| $first, |$place| $next,
-            &$from.other, &$from.zero, &$from.one, &$from.two, &$from.few, &$from.many,
-            &$from.explicit_zero, &$from.explicit_one)
-    };
-    ($from:expr, |$value:ident| $first:expr, |$place:ident| $next:expr) => {
-        make_elements!(@each |$value| $first, |$place| $next,
+    }};
+    ($from:expr, |$value:ident| $first:expr, |$a:ident, $b:ident, $c:ident| $three:expr,
+        |$place:ident| $last:expr) => {
+        make_elements!(@each |$value| $first, |$a, $b, $c| $three, |$place| $last,
             $from.other, $from.zero, $from.one, $from.two, $from.few, $from.many,
             $from.explicit_zero, $from.explicit_one)
     };
 }
 
-/// Does the first step for a reference to the value of other, and the second one for a reference to
-/// each further place. Behind a `&mut` a step may change what it gets.
+/// Does the first step for a reference to the value of other, the second one for references to each
+/// three of the six next places, and the third one for a reference to the last place. Behind a
+/// `&mut` a step may change what it gets.
 macro_rules! for_places {
-    (@each |$value:ident| $first:expr, |$place:ident| $next:expr,
+    (@each |$value:ident| $first:expr, |$a:ident, $b:ident, $c:ident| $three:expr,
+        |$place:ident| $last:expr,
         $other:expr, $zero:expr, $one:expr, $two:expr, $few:expr, $many:expr,
         $explicit_zero:expr, $explicit_one:expr) => {
         let $value = $other;
         $first;
-        let $place = $zero;
-        $next;
-        let $place = $one;
-        $next;
-        let $place = $two;
-        $next;
-        let $place = $few;
-        $next;
-        let $place = $many;
-        $next;
-        let $place = $explicit_zero;
-        $next;
+        let $a = $zero;
+        let $b = $one;
+        let $c = $two;
+        $three;
+        let $a = $few;
+        let $b = $many;
+        let $c = $explicit_zero;
+        $three;
         let $place = $explicit_one;
-        $next;
+        $last;
     };
-    (&mut $from:expr, |$value:ident| $first:expr, |$place:ident| $next:expr) => {
-        for_places!(@each |$value| $first, |$place| $next,
+    (&mut $from:expr, |$value:ident| $first:expr, |$a:ident, $b:ident, $c:ident| $three:expr,
+        |$place:ident| $last:expr) => {
+        for_places!(@each |$value| $first, |$a, $b, $c| $three, |$place| $last,
             &mut $from.other, &mut $from.zero, &mut $from.one, &mut $from.two, &mut $from.few,
             &mut $from.many, &mut $from.explicit_zero, &mut $from.explicit_one);
     };
-    (&$from:expr, |$value:ident| $first:expr, |$place:ident| $next:expr) => {
-        for_places!(@each |$value| $first, |$place| $next,
+    (&$from:expr, |$value:ident| $first:expr, |$a:ident, $b:ident, $c:ident| $three:expr,
+        |$place:ident| $last:expr) => {
+        for_places!(@each |$value| $first, |$a, $b, $c| $three, |$place| $last,
             &$from.other, &$from.zero, &$from.one, &$from.two, &$from.few, &$from.many,
             &$from.explicit_zero, &$from.explicit_one);
     };

@@ -5,7 +5,6 @@ ghost use Rattle.icu_plurals.specs.Elements.{AreClones};
 ghost use Rattle.plural_base.specs.FiveRules.{Paired};
 
 use super::PluralElements;
-use super::places::make_elements;
 use std::alloc::AllocError;
 
 impl<T: Clone> PluralElements<T> {
@@ -38,7 +37,16 @@ impl<T: Clone> PluralElements<T> {
         ensures same { ((x : T) (y : T) → T.is_clone x y → y ≡ x) → IfOk result (λ e. e ≡ self.now) }
         ensures succeeds { ((x : T) → T.is_infallible x) → IsOk result }
     {
-        Ok(make_elements!(&self, |value| value.clone()?, |place| cloned(place)?))
+        Ok(PluralElements {
+            other: self.other.clone()?,
+            zero: cloned(&self.zero)?,
+            one: cloned(&self.one)?,
+            two: cloned(&self.two)?,
+            few: cloned(&self.few)?,
+            many: cloned(&self.many)?,
+            explicit_zero: cloned(&self.explicit_zero)?,
+            explicit_one: cloned(&self.explicit_one)?,
+        })
     }
 }
 

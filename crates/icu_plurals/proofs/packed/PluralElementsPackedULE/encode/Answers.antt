@@ -1,4 +1,4 @@
-use Rattle.std.proofs.Common.{◌≡◌, ◌≤◌, length, ap, subst, ◌∙◌, ◌↔◌, Some}
+use Rattle.std.proofs.Common.{refl, ◌≡◌, ◌≤◌, length, ap, subst, ◌∙◌, ◌↔◌, Some}
 use Rattle.std.specs.Prelude.{map, Err}
 use Rattle.std.proofs.lemmas.Result.{err_from_is_err_and}
 use Rattle.plural_base.specs.declared.elements_pack_error.ElementsPackError.TheVariants.{DefaultLimit, StartLimit}
@@ -6,7 +6,8 @@ use Rattle.icu_plurals.specs.Elements.{Elements, each_by}
 use Rattle.icu_plurals.specs.PackedElements.{pack_fault, PackedValue, IsPackedValue, ElementsBytes, item_bytes, packed_items, packed_of}
 use Rattle.icu_plurals.specs.Inner.ElementsReading.{bytes_with_items}
 use Rattle.icu_plurals.specs.Inner.ElementsViews.{lent_value, lent_bytes}
-use Rattle.icu_plurals.proofs.Encoded.{answers_as, encoded, default_refused, start_refused}
+use Rattle.icu_plurals.proofs.Encoded.{answers_as, encoded, default_refused, start_refused, refused, not_refused}
+use Rattle.icu_plurals.proofs.Encoded.{bytes_are_no_fault, memory_is_no_default_limit, memory_is_no_start_limit}
 use Rattle.icu_plurals.proofs.packed.PluralElementsPackedULE.encode.Goals as goal
 use Rattle.icu_plurals.proofs.packed.PluralElementsPackedULE.encode.Goals.{After-list_beside, In-Ok}
 
@@ -40,42 +41,28 @@ high c =
 pub returns-in_err-list-clause-default_limit : goal.returns-in_err-list-clause-default_limit
 returns-in_err-list-clause-default_limit c =
     let p = err_from_is_err_and c.from_residual.result c.from_residual.ensures.1 in
-    let same = p.1 ∙ ap Err p.2 in
-    let was = c.in_err-list.was in
-    let told = long (goal.at.returns-in_err-list-clause-default_limit c).After-list_beside in
-    ((λ h. told.0 cc), (λ h. let e = told.1 h in cc))
+    refused c.in_err-list.was (p.1 ∙ ap Err p.2) (long (goal.at.returns-in_err-list-clause-default_limit c).After-list_beside)
 
 pub returns-in_err-list-clause-start_limit : goal.returns-in_err-list-clause-start_limit
 returns-in_err-list-clause-start_limit c =
     let p = err_from_is_err_and c.from_residual.result c.from_residual.ensures.1 in
-    let same = p.1 ∙ ap Err p.2 in
-    let was = c.in_err-list.was in
-    let told = high (goal.at.returns-in_err-list-clause-start_limit c).After-list_beside in
-    ((λ h. told.0 cc), (λ h. let e = told.1 h in cc))
+    refused c.in_err-list.was (p.1 ∙ ap Err p.2) (high (goal.at.returns-in_err-list-clause-start_limit c).After-list_beside)
 
 pub returns-in-Ok-clause-default_limit : goal.returns-in-Ok-clause-default_limit
 returns-in-Ok-clause-default_limit c =
-    let was = c.in_ok-list.was in
-    let told = long (goal.at.returns-in-Ok-clause-default_limit c).After-list_beside in
-    ((λ h. absurd cc), (λ h. let e = told.1 h in absurd cc))
+    not_refused c.in_ok-list.was (long (goal.at.returns-in-Ok-clause-default_limit c).After-list_beside) (bytes_are_no_fault _ _)
 
 pub returns-in-Ok-clause-start_limit : goal.returns-in-Ok-clause-start_limit
 returns-in-Ok-clause-start_limit c =
-    let was = c.in_ok-list.was in
-    let told = high (goal.at.returns-in-Ok-clause-start_limit c).After-list_beside in
-    ((λ h. absurd cc), (λ h. let e = told.1 h in absurd cc))
+    not_refused c.in_ok-list.was (high (goal.at.returns-in-Ok-clause-start_limit c).After-list_beside) (bytes_are_no_fault _ _)
 
 pub returns-in-Err-clause-default_limit : goal.returns-in-Err-clause-default_limit
 returns-in-Err-clause-default_limit c =
-    let was = c.in_ok-list.was in
-    let told = long (goal.at.returns-in-Err-clause-default_limit c).After-list_beside in
-    ((λ h. absurd cc), (λ h. let e = told.1 h in absurd cc))
+    not_refused c.in_ok-list.was (long (goal.at.returns-in-Err-clause-default_limit c).After-list_beside) (memory_is_no_default_limit _ refl)
 
 pub returns-in-Err-clause-start_limit : goal.returns-in-Err-clause-start_limit
 returns-in-Err-clause-start_limit c =
-    let was = c.in_ok-list.was in
-    let told = high (goal.at.returns-in-Err-clause-start_limit c).After-list_beside in
-    ((λ h. absurd cc), (λ h. let e = told.1 h in absurd cc))
+    not_refused c.in_ok-list.was (high (goal.at.returns-in-Err-clause-start_limit c).After-list_beside) (memory_is_no_start_limit _ refl)
 
 -- ---- the bytes
 
