@@ -2,3 +2,4 @@
 pub mod Conversions
 pub mod GivenResults
 pub mod GivenMaps
+pub mod UnderRules
