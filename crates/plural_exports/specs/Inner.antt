@@ -3,3 +3,4 @@ pub mod Conversions
 pub mod GivenResults
 pub mod GivenMaps
 pub mod UnderRules
+pub mod KeptTexts

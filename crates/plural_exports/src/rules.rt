@@ -136,7 +136,7 @@ fn packed_texts(alloc: Global, texts: &Five<Option<&str>>) -> Result<Vec<u8>, Fa
 }
 
 // The texts that have any byte.
-fn given_texts<'a>(texts: &Five<&'a [u8]>) -> Result<Five<Option<&'a str>>, Fault>
+pub(crate) fn given_texts<'a>(texts: &Five<&'a [u8]>) -> Result<Five<Option<&'a str>>, Fault>
     ensures { GivesSeen lent_texts (ReadsTexts (lent_bytes texts.now)) result }
 {
     Ok(make_five!(Five, texts, |text| given(*text)?))

@@ -1,4 +1,4 @@
-use Rattle.std.proofs.Common.{◌≡◌, ◌∙◌, ◌++◌, drop, length, arith, subst}
+use Rattle.std.proofs.Common.{◌≡◌, ◌++◌, drop, length, arith, subst}
 use Rattle.std.specs.Prelude.{map}
 use Rattle.icu_plurals.specs.CategoryTables.{integer_entry}
 use Rattle.icu_plurals.specs.FiveRules.{FiveRules}
