@@ -1,4 +1,4 @@
-use Rattle.std.proofs.Common.{◌≡◌, List, ℕ, Option, ap}
+use Rattle.std.proofs.Common.{List, ℕ, Option, ap}
 use Rattle.std.proofs.lemmas.Result.{err_from_is_err_and}
 use Rattle.icu_plurals.specs.declared.Five.{Five}
 use Rattle.plural_exports.specs.Inner.GivenResults.{lent_eight}
