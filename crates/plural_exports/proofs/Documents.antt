@@ -5,14 +5,15 @@ use Rattle.serde_json.specs.Find.{as_object}
 use Rattle.serde_json.specs.Written.{has_float}
 use Rattle.icu_plurals.specs.declared.JsonError.{JsonError}
 use Rattle.icu_plurals.specs.declared.JsonError.TheVariants as json
-use Rattle.icu_plurals.specs.DocumentJson.{Document as Maps, document_of_json}
+use Rattle.icu_plurals.specs.DocumentJson.{Document as Maps, document_of_json, rows_for}
 use Rattle.icu_plurals.specs.ElementsJson.{packed_of_json}
 use Rattle.icu_plurals.specs.Json.{IsRefusal}
 use Rattle.icu_plurals.specs.PackedElements.{PackedElements}
 use Rattle.icu_plurals.specs.FiveRules.{FiveRules}
 use Rattle.icu_plurals.specs.declared.PluralRuleType.{PluralRuleType}
+use Rattle.plural_documents.specs.Steps.{Then}
 use Rattle.plural_exports.specs.GivenBytes.{ReadsText}
-use Rattle.plural_exports.specs.GivenDocuments.{AreRulesIn, HasRulesFor, MeansElements, MeansMaps, ReadsType}
+use Rattle.plural_exports.specs.GivenDocuments.{AreRulesIn, HasRulesAt, HasRulesFor, MeansElements, MeansMaps, ReadsType}
 use Rattle.plural_exports.specs.GivenTexts.{PackRules}
 use Rattle.plural_exports.specs.Inner.Conversions.{json_fault}
 use Rattle.plural_exports.specs.Inner.GivenResults.{GivesSeen}
@@ -72,16 +73,16 @@ pub refused_locale : (bytes locale : List ℕ) (n : ℕ) (type : PluralRuleType)
 refused_locale bytes locale n type e r is known h = rw is (Ok type, known, (Err e, h, refl))
 
 -- the document has no rules
-pub refused_document : (bytes locale : List ℕ) (n : ℕ) (type : PluralRuleType) (text : List ℕ) (e : Fault) (r : Block)
-    → r ≡ Err e → ReadsType n (Ok type) → ReadsText locale (Ok text) → HasRulesFor bytes text type (Err e)
-    → GivesSeen bytes_of (AreRulesIn bytes locale n) r
-refused_document bytes locale n type text e r is known read h = rw is (Ok type, known, (Ok text, read, (Err e, h, refl)))
+pub refused_document : (bytes locale : List ℕ) (n : ℕ) (type : PluralRuleType) (text : List ℕ) (e : Fault)
+    → ReadsType n (Ok type) → ReadsText locale (Ok text) → HasRulesFor bytes text type (Err e) → AreRulesIn bytes locale n (Err e)
+refused_document bytes locale n type text e known read h = (Ok type, known, (Ok text, read, (Err e, h, refl)))
 
--- its rules are packed, or can't be
-pub packed_document : (bytes locale : List ℕ) (n : ℕ) (type : PluralRuleType) (text : List ℕ) (rules : FiveRules) (r : Block)
-    → ReadsType n (Ok type) → ReadsText locale (Ok text) → HasRulesFor bytes text type (Ok rules)
-    → GivesSeen bytes_of (PackRules rules) r → GivesSeen bytes_of (AreRulesIn bytes locale n) r
-packed_document bytes locale n type text rules (Ok block) known read given packed =
-    (Ok type, known, (Ok text, read, (Ok rules, given, packed)))
-packed_document bytes locale n type text rules (Err e) known read given packed =
-    (Ok type, known, (Ok text, read, (Ok rules, given, packed)))
+-- the rules of its maps are packed, or can't be
+pub packed_maps : (bytes locale : List ℕ) (n : ℕ) (type : PluralRuleType) (text : List ℕ) (maps : Maps) (r : Block)
+    → ReadsType n (Ok type) → ReadsText locale (Ok text)
+    → ((found : Result FiveRules Fault) → HasRulesAt text (rows_for type maps) found → HasRulesFor bytes text type found)
+    → GivesSeen bytes_of (Then (HasRulesAt text (rows_for type maps)) PackRules) r → GivesSeen bytes_of (AreRulesIn bytes locale n) r
+packed_maps bytes locale n type text maps (Ok block) known read has (found, at, packed) =
+    (Ok type, known, (Ok text, read, (found, has found at, packed)))
+packed_maps bytes locale n type text maps (Err e) known read has (found, at, packed) =
+    (Ok type, known, (Ok text, read, (found, has found at, packed)))

@@ -1,11 +1,15 @@
 -- The elements of eight texts, and what they are packed as.
-use Rattle.std.proofs.Common.{◌≡◌, List, ℕ, Bool, true, false, Option, Some, None, Bor, refl, sym, ◌∙◌, ap, option_map}
+use Rattle.std.proofs.Common.{◌≡◌, List, ℕ, Bool, true, false, Option, Some, None, Bor, refl, sym, ◌∙◌, ap, option_map, Result, Err}
 use Rattle.std.specs.Option.{option_copied}
-use Rattle.std.specs.Str.{bytes_eq}
+use Rattle.icu_plurals.specs.declared.Five.{Five}
 use Rattle.icu_plurals.specs.Elements.{Elements, each_by, unless_equal}
 use Rattle.icu_plurals.specs.PackedElements.{PackedValue, is_same_value, packed_of, plain_value}
-use Rattle.plural_exports.specs.GivenElements.{Eight, plain_text, value_given, values_given}
+use Rattle.plural_exports.specs.GivenElements.{AreAllUtf8, ArePackedAs, Eight, plain_text, value_given, values_given}
 use Rattle.plural_exports.specs.GivenTexts.{text_given}
+use Rattle.plural_exports.specs.Inner.GivenResults.{GivesSeen}
+use Rattle.plural_exports.specs.Inner.KeptTexts.{kept_texts, same_text}
+use Rattle.plural_exports.specs.declared.fault.Fault.{Fault}
+use Rattle.plural_exports.specs.declared.fault.Fault.TheVariants.{Utf8}
 
 -- the value of a text that is given
 pub given_value : (z : Option (Bor (List ℕ))) (bytes : List ℕ) → option_copied z ≡ text_given bytes
@@ -38,10 +42,6 @@ pub packed_alike : (e d : Elements PackedValue) → e.other ≡ d.other
 packed_alike e d other zero one two few many explicit_zero explicit_one =
     rw (zero, one, two, few, many, explicit_zero, explicit_one, other) refl
 
--- whether borrowed texts are the same
-abbrev pub same_text : Bor (List ℕ) → Bor (List ℕ) → Bool
-same_text x y = bytes_eq x.now y.now
-
 -- the value of a category beside that of other
 category_value : (o : Bor (List ℕ)) (z : Option (Bor (List ℕ))) (other text : List ℕ) → o.now ≡ other → option_copied z ≡ text_given text
     → unless_equal is_same_value (plain_value o) (option_map plain_value (unless_equal same_text o z))
@@ -51,37 +51,28 @@ category_value o z other text is given =
     ∙ (ap (λ (t : List ℕ). unless_equal is_same_value (plain_text t) (option_map plain_value z)) is
     ∙ ap (λ (v : Option PackedValue). unless_equal is_same_value (plain_text other) v) (given_value z text given))
 
--- the elements that are made of texts
-abbrev pub kept_texts : Bor (List ℕ) → Option (Bor (List ℕ)) → Option (Bor (List ℕ)) → Option (Bor (List ℕ)) → Option (Bor (List ℕ))
-    → Option (Bor (List ℕ)) → Option (Bor (List ℕ)) → Option (Bor (List ℕ)) → Elements (Bor (List ℕ))
-kept_texts o zero one two few many explicit_zero explicit_one = record {
-  other = o;
-  zero = unless_equal same_text o zero;
-  one = unless_equal same_text o one;
-  two = unless_equal same_text o two;
-  few = unless_equal same_text o few;
-  many = unless_equal same_text o many;
-  explicit_zero = explicit_zero;
-  explicit_one = explicit_one;
-}
-
 -- they are packed as what the texts mean
-pub packed_texts : (o : Bor (List ℕ)) (zero one two few many explicit_zero explicit_one : Option (Bor (List ℕ)))
+pub packed_texts : (o : Bor (List ℕ)) (five : Five (Option (Bor (List ℕ)))) (explicit_zero explicit_one : Option (Bor (List ℕ)))
     (texts : Elements (Bor (List ℕ))) (bytes : Eight)
-    → texts ≡ kept_texts o zero one two few many explicit_zero explicit_one
-    → o.now ≡ bytes.other → option_copied zero ≡ text_given bytes.zero → option_copied one ≡ text_given bytes.one
-    → option_copied two ≡ text_given bytes.two → option_copied few ≡ text_given bytes.few
-    → option_copied many ≡ text_given bytes.many → option_copied explicit_zero ≡ text_given bytes.explicit_zero
+    → texts ≡ kept_texts o five explicit_zero explicit_one
+    → o.now ≡ bytes.other → option_copied five.zero ≡ text_given bytes.zero → option_copied five.one ≡ text_given bytes.one
+    → option_copied five.two ≡ text_given bytes.two → option_copied five.few ≡ text_given bytes.few
+    → option_copied five.many ≡ text_given bytes.many → option_copied explicit_zero ≡ text_given bytes.explicit_zero
     → option_copied explicit_one ≡ text_given bytes.explicit_one
     → packed_of (each_by plain_value texts) ≡ packed_of (values_given bytes)
-packed_texts o zero one two few many explicit_zero explicit_one texts bytes are other z o1 t f m ez eo =
+packed_texts o five explicit_zero explicit_one texts bytes are other z o1 t f m ez eo =
     ap (λ (made : Elements (Bor (List ℕ))). packed_of (each_by plain_value made)) are
-    ∙ packed_alike (each_by plain_value (kept_texts o zero one two few many explicit_zero explicit_one)) (values_given bytes)
+    ∙ packed_alike (each_by plain_value (kept_texts o five explicit_zero explicit_one)) (values_given bytes)
     (ap plain_text other)
-    (category_value o zero bytes.other bytes.zero other z)
-    (category_value o one bytes.other bytes.one other o1)
-    (category_value o two bytes.other bytes.two other t)
-    (category_value o few bytes.other bytes.few other f)
-    (category_value o many bytes.other bytes.many other m)
+    (category_value o five.zero bytes.other bytes.zero other z)
+    (category_value o five.one bytes.other bytes.one other o1)
+    (category_value o five.two bytes.other bytes.two other t)
+    (category_value o five.few bytes.other bytes.few other f)
+    (category_value o five.many bytes.other bytes.many other m)
     (given_value explicit_zero bytes.explicit_zero ez)
     (given_value explicit_one bytes.explicit_one eo)
+
+-- one of the texts isn't UTF-8
+pub not_all_texts : (bytes : Eight) (e : Fault) (r : Result (Elements (Bor (List ℕ))) Fault) → r ≡ Err e → e ≡ Utf8 → ¬ (AreAllUtf8 bytes)
+    → GivesSeen (λ texts. packed_of (each_by plain_value texts)) (ArePackedAs bytes) r
+not_all_texts bytes e r is same none = rw is (same, none)

@@ -1,15 +1,11 @@
--- A number, and what is read before it.
-use Rattle.std.proofs.Common.{◌≡◌, ◌≢◌, ◌≤◌, ◌↔◌, List, length, ℕ, Result, Ok, Err, refl}
+-- Texts that are refused as numbers.
+use Rattle.std.proofs.Common.{◌≡◌, ◌≢◌, ◌≤◌, ◌↔◌, List, length, ℕ, Result, Err, refl}
 use Rattle.std.proofs.Math.Nat.{lt_of_not-le}
 use Rattle.icu_plurals.specs.declared.DecimalError.{DecimalError}
 use Rattle.icu_plurals.specs.declared.DecimalError.TheVariants as decimal
-use Rattle.icu_plurals.specs.FiveRules.{FiveRules}
-use Rattle.icu_plurals.specs.PackedElements.{PackedElements}
 use Rattle.icu_plurals.specs.Written.{CompactNumber, WritesCompact, IsCompactOverLimit}
-use Rattle.plural_exports.specs.GivenBytes.{ReadsElements, ReadsNumberBytes, ReadsRules, WritesNumber}
+use Rattle.plural_exports.specs.GivenBytes.{WritesNumber}
 use Rattle.plural_exports.specs.Inner.Conversions.{decimal_fault}
-use Rattle.plural_exports.specs.Inner.GivenResults.{GivesSeen}
-use Rattle.plural_exports.specs.NumberAnswers.{AfterAll}
 use Rattle.plural_exports.specs.declared.fault.Fault.{Fault}
 
 -- the fault of a text that is refused as a number
@@ -27,19 +23,3 @@ number_refused text decimal.Memory r is syntax limit short =
       λ over. (let same : ◌≡◌ {A = Result CompactNumber DecimalError} (Err decimal.Memory) (Err decimal.Limit) = limit.1 over in absurd cc),
       lt_of_not-le (λ few. short few refl),
     )
-
--- ---- After the rules
-
--- elements that are refused after rules
-pub refused_elements : {B D : Type 0} (seen : D → B) (Is : FiveRules → PackedElements → CompactNumber → Result B Fault → Type 0)
-    (rules elements number : List ℕ) (five : FiveRules) (e : Fault) (r : Result D Fault)
-    → r ≡ Err e → ReadsRules rules (Ok five) → ReadsElements elements (Err e) → GivesSeen seen (AfterAll Is rules elements number) r
-refused_elements seen Is rules elements number five e r is read h = rw is (Ok five, read, (Err e, h, refl))
-
--- a number that is refused after rules and elements
-pub refused_number : {B D : Type 0} (seen : D → B) (Is : FiveRules → PackedElements → CompactNumber → Result B Fault → Type 0)
-    (rules elements number : List ℕ) (five : FiveRules) (values : PackedElements) (e : Fault) (r : Result D Fault)
-    → r ≡ Err e → ReadsRules rules (Ok five) → ReadsElements elements (Ok values) → ReadsNumberBytes number (Err e)
-    → GivesSeen seen (AfterAll Is rules elements number) r
-refused_number seen Is rules elements number five values e r is read packed h =
-    rw is (Ok five, read, (Ok values, packed, (Err e, h, refl)))

@@ -28,3 +28,10 @@ of_second seen First Next x (Err e) h next = (Ok x, h, next)
 pub faulty : (Is : Result (List ℕ) Fault → Type 0) (old : List ℕ) (e : Fault) (r : Result ℤ Fault) → r ≡ Err e → Is (Err e)
     → GivesWritten Is old old r
 faulty Is old e r is right = rw is (right, refl)
+
+-- what is written after a value of the first, is written for both
+pub written_second : {A : Type 0} (First : Result A Fault → Type 0) (Next : A → Result (List ℕ) Fault → Type 0)
+    (x : A) (old new : List ℕ) (r : Result ℤ Fault) → First (Ok x) → GivesWritten (Next x) old new r
+    → GivesWritten (Then First Next) old new r
+written_second First Next x old new (Ok told) h next = (next.0, (Ok x, h, next.1), next.2)
+written_second First Next x old new (Err e) h next = ((Ok x, h, next.0), next.1)

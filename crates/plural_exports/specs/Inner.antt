@@ -2,3 +2,5 @@
 pub mod Conversions
 pub mod GivenResults
 pub mod GivenMaps
+pub mod UnderRules
+pub mod KeptTexts

@@ -1,16 +1,18 @@
 //! Packed elements from eight texts.
 
+ghost use Rattle.std.specs.Prelude.{◌≡◌};
 ghost use Rattle.icu_plurals.specs.Elements.{each_by};
 ghost use Rattle.icu_plurals.specs.PackedElements.{packed_of, plain_value};
 ghost use Rattle.plural_exports.specs.GivenElements.{AreElementsFrom, ArePackedAs, CanBePacked, HasElementsFrom, eight};
 ghost use Rattle.plural_exports.specs.Inner.GivenResults.{lent_eight};
 ghost use Rattle.plural_exports.specs.Inner.GivenResults.{GivesSeen};
+ghost use Rattle.plural_exports.specs.Inner.KeptTexts.{kept_texts};
 ghost use Rattle.plural_exports.specs.Results.{Written};
 
 use crate::buffer::put;
 use crate::fault::Fault;
 use crate::given::text_in;
-use crate::rules::given;
+use crate::rules::{given, given_texts};
 use icu_plurals::provider::PluralElementsPackedCow;
 use icu_plurals::{ElementsPackError, Five, JsonError, PluralElements};
 use std::alloc::Global;
@@ -79,23 +81,29 @@ fn texts_in<'a>(texts: &EightTexts<'a>) -> Result<PluralElements<&'a str>, Fault
     ensures { GivesSeen (λ texts. packed_of (each_by plain_value texts)) (ArePackedAs (lent_eight texts.now)) result }
 {
     let other = text_in(texts.other)?;
-    let zero = given(texts.five.zero)?;
-    let one = given(texts.five.one)?;
-    let two = given(texts.five.two)?;
-    let few = given(texts.five.few)?;
-    let many = given(texts.five.many)?;
+    let five = given_texts(&texts.five)?;
     let explicit_zero = given(texts.explicit_zero)?;
     let explicit_one = given(texts.explicit_one)?;
-    Ok(
-        PluralElements::new(other)
-            .with_zero_value(zero)
-            .with_one_value(one)
-            .with_two_value(two)
-            .with_few_value(few)
-            .with_many_value(many)
-            .with_explicit_zero_value(explicit_zero)
-            .with_explicit_one_value(explicit_one),
-    )
+    Ok(elements_with(other, &five, explicit_zero, explicit_one))
+}
+
+// The elements with these texts.
+fn elements_with<'a>(
+    other: &'a str,
+    five: &Five<Option<&'a str>>,
+    explicit_zero: Option<&'a str>,
+    explicit_one: Option<&'a str>,
+) -> PluralElements<&'a str>
+    ensures { result ≡ kept_texts other.entry five.now explicit_zero.entry explicit_one.entry }
+{
+    PluralElements::new(other)
+        .with_zero_value(five.zero)
+        .with_one_value(five.one)
+        .with_two_value(five.two)
+        .with_few_value(five.few)
+        .with_many_value(five.many)
+        .with_explicit_zero_value(explicit_zero)
+        .with_explicit_one_value(explicit_one)
 }
 
 // The texts as packed elements.

@@ -3,6 +3,7 @@
 ghost use Rattle.serde_json.specs.View.{view};
 ghost use Rattle.plural_exports.specs.GivenDocuments.{AreElementsIn, HasElements, MeansElements};
 ghost use Rattle.plural_exports.specs.Inner.GivenResults.{GivesSeen};
+ghost use Rattle.plural_exports.specs.Inner.UnderRules.{IsElementUnder};
 ghost use Rattle.plural_exports.specs.NumberAnswers.{IsElementOf};
 ghost use Rattle.plural_exports.specs.Results.{Written};
 
@@ -10,9 +11,9 @@ use crate::buffer::put;
 use crate::document::value_in;
 use crate::fault::Fault;
 use crate::given::{elements_in, number_in, rules_in};
-use icu_plurals::PluralOperands;
 use icu_plurals::laws::kept_element_is_exact;
 use icu_plurals::provider::PluralElementsPackedCow;
+use icu_plurals::{PluralOperands, PluralRules};
 use serde_json::Value;
 use std::alloc::Global;
 
@@ -69,11 +70,25 @@ fn element_of<'a>(
 ) -> Result<&'a str, Fault>
     ensures { GivesSeen (λ text. text.now) (IsElementOf rules.now elements.now number.now) result }
 {
+    match rules_in(rules) {
+        Ok(rules) => element_under(alloc, &rules, elements, number),
+        Err(fault) => Err(fault),
+    }
+}
+
+// The text of the element that the number chooses under the rules.
+fn element_under<'a>(
+    alloc: Global,
+    rules: &PluralRules<'_>,
+    elements: &'a [u8],
+    number: &[u8],
+) -> Result<&'a str, Fault>
+    ensures { GivesSeen (λ text. text.now) (IsElementUnder rules.now elements.now number.now) result }
+{
     // Within the exactness bound the element is that of the number itself.
     kept_element_is_exact();
-    let rules = rules_in(rules)?;
     let elements = elements_in(elements)?;
     let number = number_in(alloc, number)?;
-    let (_, text) = elements.get(PluralOperands::from(&number), &rules);
+    let (_, text) = elements.get(PluralOperands::from(&number), rules);
     Ok(text)
 }

@@ -28,14 +28,22 @@ fn put_categories(rules: PluralRules<'_>, numbers: &[u64], out: &mut [u8]) -> i6
     ensures told { result ≡ pos (length numbers.now) }
     ensures written { out.new ≡ filled (map (integer_entry rules.entry) numbers.now) out.old }
 {
+    let mut asked = AskedRules::of(rules);
+    put_asked(&mut asked, numbers, out)
+}
+
+// Writes the categories as asked rules tell them, and prepares these for so many numbers.
+fn put_asked(asked: &mut AskedRules<'_>, numbers: &[u64], out: &mut [u8]) -> i64
+    ensures told { result ≡ pos (length numbers.now) }
+    ensures written { out.new ≡ filled (map (integer_entry asked.old) numbers.now) out.old }
+{
     let count = numbers.len();
     let room = out.len();
     if room < count {
         return count as i64;
     }
-    let mut asked = AskedRules::of(rules);
     asked.prepare(count as u64);
-    write_categories(&asked, numbers, out);
+    write_categories(asked, numbers, out);
     count as i64
 }
 

@@ -1,13 +1,14 @@
 //! The category of a number under a block of rules.
 
 ghost use Rattle.std.specs.Prelude.{◌≡◌};
+ghost use Rattle.plural_exports.specs.Inner.UnderRules.{IsCategoryUnder, IsExactnessUnder};
 ghost use Rattle.plural_exports.specs.NumberAnswers.{IsCategoryOfNumber, IsCategoryOfInteger, IsExactnessOf, category_number, truth_number};
 ghost use Rattle.plural_exports.specs.Results.{Answered};
 
 use crate::fault::Fault;
 use crate::given::{number_in, rules_in};
 use crate::ranges::number_of;
-use icu_plurals::{PluralCategory, PluralOperands};
+use icu_plurals::{PluralCategory, PluralOperands, PluralRules};
 use std::alloc::Global;
 
 /// Returns the category of an integer, by its number: 0 zero, 1 one, 2 two, 3 few, 4 many, 5 other.
@@ -64,7 +65,20 @@ fn integer_category(rules: &[u8], number: u64) -> Result<PluralCategory, Fault>
 fn category_of(alloc: Global, rules: &[u8], number: &[u8]) -> Result<PluralCategory, Fault>
     ensures { IsCategoryOfNumber rules.now number.now result }
 {
-    let rules = rules_in(rules)?;
+    match rules_in(rules) {
+        Ok(rules) => category_under(alloc, &rules, number),
+        Err(fault) => Err(fault),
+    }
+}
+
+// The category under the rules.
+fn category_under(
+    alloc: Global,
+    rules: &PluralRules<'_>,
+    number: &[u8],
+) -> Result<PluralCategory, Fault>
+    ensures { IsCategoryUnder rules.now number.now result }
+{
     let number = number_in(alloc, number)?;
     Ok(rules.category_for_compact(&number))
 }
@@ -73,7 +87,16 @@ fn category_of(alloc: Global, rules: &[u8], number: &[u8]) -> Result<PluralCateg
 fn is_exact_for(alloc: Global, rules: &[u8], number: &[u8]) -> Result<bool, Fault>
     ensures { IsExactnessOf rules.now number.now result }
 {
-    let rules = rules_in(rules)?;
+    match rules_in(rules) {
+        Ok(rules) => is_exact_under(alloc, &rules, number),
+        Err(fault) => Err(fault),
+    }
+}
+
+// Whether the category under the rules is exact.
+fn is_exact_under(alloc: Global, rules: &PluralRules<'_>, number: &[u8]) -> Result<bool, Fault>
+    ensures { IsExactnessUnder rules.now number.now result }
+{
     let number = number_in(alloc, number)?;
     Ok(rules.is_exact_for(&number))
 }

@@ -1,11 +1,13 @@
 //! The message of a number.
 
 ghost use Rattle.plural_exports.specs.Inner.GivenResults.{GivesWritten};
+ghost use Rattle.plural_exports.specs.Inner.UnderRules.{IsMessageUnder};
 ghost use Rattle.plural_exports.specs.NumberAnswers.{IsMessageFor};
 ghost use Rattle.plural_exports.specs.Results.{Written};
 
 use crate::fault::Fault;
 use crate::given::{elements_in, number_of, rules_in, text_in};
+use icu_plurals::PluralRules;
 use plural_message::Message;
 use std::alloc::Global;
 
@@ -39,11 +41,26 @@ fn write_message(
 ) -> Result<i64, Fault>
     ensures { GivesWritten (IsMessageFor rules.now elements.now number.now) out.old out.new result }
 {
-    let rules = rules_in(rules)?;
+    match rules_in(rules) {
+        Ok(rules) => write_under(alloc, &rules, elements, number, out),
+        Err(fault) => Err(fault),
+    }
+}
+
+// Writes the message that the number has under the rules, if it fits, and returns its length.
+fn write_under(
+    alloc: Global,
+    rules: &PluralRules<'_>,
+    elements: &[u8],
+    number: &[u8],
+    out: &mut [u8],
+) -> Result<i64, Fault>
+    ensures { GivesWritten (IsMessageUnder rules.now elements.now number.now) out.old out.new result }
+{
     let message = Message::new(elements_in(elements)?);
     let text = text_in(number)?;
     let number = number_of(alloc, text)?;
-    let length = message.format_number_into(&number, text, &rules, out);
+    let length = message.format_number_into(&number, text, rules, out);
     if length <= MOST_BYTES {
         Ok(length as i64)
     } else {

@@ -1,9 +1,11 @@
 //! Blocks of patterns, and what they say.
 
 ghost use Rattle.std.specs.Prelude.{pos};
+ghost use Rattle.message_format.specs.Inner.FormatViews.{two_rules};
 ghost use Rattle.plural_exports.specs.FormattedPatterns.{IsPackedFormatted};
 ghost use Rattle.plural_exports.specs.GivenPatterns.{IsPatternPacked, ReadsPatternBlock};
 ghost use Rattle.plural_exports.specs.Inner.GivenResults.{GivesSeen};
+ghost use Rattle.plural_exports.specs.Inner.UnderRules.{IsSaidUnder, IsSaidWith};
 ghost use Rattle.plural_exports.specs.Results.{Answered, Written};
 
 use crate::arguments::{GivenArgument, arguments_in};
@@ -11,6 +13,7 @@ use crate::buffer::put;
 use crate::fault::Fault;
 use crate::given::rules_in;
 use crate::patterns::pattern_in;
+use icu_plurals::PluralRules;
 use message_format::Rules;
 use packed_format::format_packed;
 use packed_pattern::{PackedPattern, pack};
@@ -88,13 +91,44 @@ pub(crate) fn formatted(
 ) -> Result<Vec<u8>, Fault>
     ensures { GivesSeen (λ text. text.items) (IsPackedFormatted cardinal.now ordinal.now block.now arguments.now) result }
 {
-    let cardinal = rules_in(cardinal)?;
-    let ordinal = rules_in(ordinal)?;
+    match rules_in(cardinal) {
+        Ok(cardinal) => formatted_with(alloc, &cardinal, ordinal, block, arguments),
+        Err(fault) => Err(fault),
+    }
+}
+
+// What the block of a pattern says, with these rules for cardinal numbers.
+fn formatted_with(
+    alloc: Global,
+    cardinal: &PluralRules<'_>,
+    ordinal: &[u8],
+    block: &[u8],
+    arguments: &[GivenArgument<'_>],
+) -> Result<Vec<u8>, Fault>
+    ensures { GivesSeen (λ text. text.items) (IsSaidWith (ReadsPatternBlock block.now) cardinal.now ordinal.now arguments.now) result }
+{
+    match rules_in(ordinal) {
+        Ok(ordinal) => {
+            let rules = Rules {
+                cardinal,
+                ordinal: &ordinal,
+            };
+            said(alloc, &rules, block, arguments)
+        }
+        Err(fault) => Err(fault),
+    }
+}
+
+// What the block of a pattern says under both rules.
+fn said(
+    alloc: Global,
+    rules: &Rules<'_, '_>,
+    block: &[u8],
+    arguments: &[GivenArgument<'_>],
+) -> Result<Vec<u8>, Fault>
+    ensures { GivesSeen (λ text. text.items) (IsSaidUnder (ReadsPatternBlock block.now) (two_rules rules.now) arguments.now) result }
+{
     let pattern = block_in(block)?;
     let arguments = arguments_in(alloc, arguments)?;
-    let rules = Rules {
-        cardinal: &cardinal,
-        ordinal: &ordinal,
-    };
-    Ok(format_packed(alloc, &pattern, arguments.as_slice(), &rules)?)
+    Ok(format_packed(alloc, &pattern, arguments.as_slice(), rules)?)
 }

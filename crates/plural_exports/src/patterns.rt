@@ -1,14 +1,17 @@
 //! What a pattern says.
 
+ghost use Rattle.message_format.specs.Inner.FormatViews.{two_rules};
 ghost use Rattle.plural_exports.specs.FormattedPatterns.{IsPatternFormatted};
 ghost use Rattle.plural_exports.specs.GivenPatterns.{ReadsPatternText};
 ghost use Rattle.plural_exports.specs.Inner.GivenResults.{GivesSeen};
+ghost use Rattle.plural_exports.specs.Inner.UnderRules.{IsSaidUnder, IsSaidWith};
 ghost use Rattle.plural_exports.specs.Results.{Written};
 
 use crate::arguments::{GivenArgument, arguments_in};
 use crate::buffer::put;
 use crate::fault::Fault;
 use crate::given::rules_in;
+use icu_plurals::PluralRules;
 use message_format::{Rules, format};
 use message_pattern::Pattern;
 use std::alloc::Global;
@@ -47,15 +50,46 @@ fn formatted(
 ) -> Result<Vec<u8>, Fault>
     ensures { GivesSeen (λ text. text.items) (IsPatternFormatted cardinal.now ordinal.now pattern.now arguments.now) result }
 {
-    let cardinal = rules_in(cardinal)?;
-    let ordinal = rules_in(ordinal)?;
+    match rules_in(cardinal) {
+        Ok(cardinal) => formatted_with(alloc, &cardinal, ordinal, pattern, arguments),
+        Err(fault) => Err(fault),
+    }
+}
+
+// What the pattern says, with these rules for cardinal numbers.
+fn formatted_with(
+    alloc: Global,
+    cardinal: &PluralRules<'_>,
+    ordinal: &[u8],
+    pattern: &[u8],
+    arguments: &[GivenArgument<'_>],
+) -> Result<Vec<u8>, Fault>
+    ensures { GivesSeen (λ text. text.items) (IsSaidWith (ReadsPatternText pattern.now) cardinal.now ordinal.now arguments.now) result }
+{
+    match rules_in(ordinal) {
+        Ok(ordinal) => {
+            let rules = Rules {
+                cardinal,
+                ordinal: &ordinal,
+            };
+            said(alloc, &rules, pattern, arguments)
+        }
+        Err(fault) => Err(fault),
+    }
+}
+
+// What the pattern says under both rules.
+fn said(
+    alloc: Global,
+    rules: &Rules<'_, '_>,
+    pattern: &[u8],
+    arguments: &[GivenArgument<'_>],
+) -> Result<Vec<u8>, Fault>
+    ensures { GivesSeen (λ text. text.items) (IsSaidUnder (ReadsPatternText pattern.now) (two_rules rules.now) arguments.now) result }
+{
     let pattern = pattern_in(alloc, pattern)?;
     let arguments = arguments_in(alloc, arguments)?;
-    let rules = Rules {
-        cardinal: &cardinal,
-        ordinal: &ordinal,
-    };
-    Ok(format(alloc, &pattern, arguments.as_slice(), &rules)?)
+    Ok(format(alloc, &pattern, arguments.as_slice(), rules)?)
 }
 
 // The pattern that a text is.

@@ -4,7 +4,9 @@ ghost use Rattle.std.specs.Prelude.{pos};
 ghost use Rattle.std.specs.Option.{option_copied};
 ghost use Rattle.icu_plurals.specs.FiveRules.{five, rules_of};
 ghost use Rattle.plural_exports.specs.GivenBytes.{ReadsRules};
-ghost use Rattle.plural_exports.specs.GivenDocuments.{AreRulesIn};
+ghost use Rattle.icu_plurals.specs.DocumentJson.{rows_for};
+ghost use Rattle.plural_documents.specs.Steps.{Then};
+ghost use Rattle.plural_exports.specs.GivenDocuments.{AreRulesIn, HasRulesAt};
 ghost use Rattle.icu_plurals.specs.RuleTexts.{lent_texts};
 ghost use Rattle.plural_exports.specs.GivenTexts.{AreRulesFrom, GiveRules, PackRules, ReadsTexts};
 ghost use Rattle.plural_exports.specs.Inner.GivenResults.{GivesSeen, lent_bytes, ReadsGiven};
@@ -14,8 +16,8 @@ use crate::buffer::put;
 use crate::document::{maps_in, rule_type_of, rules_for};
 use crate::fault::Fault;
 use crate::given::{rules_in, text_in};
-use icu_plurals::Five;
 use icu_plurals::provider::PluralRulesData;
+use icu_plurals::{Five, JsonProvider, PluralRuleType};
 use plural_base::make_five;
 use std::alloc::Global;
 
@@ -92,22 +94,49 @@ fn rules_of_document(
 {
     let rule_type = rule_type_of(rule_type)?;
     let locale = text_in(locale)?;
-    let maps = maps_in(alloc, json, locale)?;
-    let rules = rules_for(&maps, locale, rule_type)?;
-    packed(alloc, &rules)
+    match maps_in(alloc, json, locale) {
+        Ok(maps) => packed_for(alloc, &maps, locale, rule_type),
+        Err(fault) => Err(fault),
+    }
+}
+
+// The block of the rules of a type that the maps have for a locale.
+fn packed_for(
+    alloc: Global,
+    maps: &JsonProvider,
+    locale: &str,
+    rule_type: PluralRuleType,
+) -> Result<Vec<u8>, Fault>
+    ensures { GivesSeen (λ block. block.items) (Then (HasRulesAt locale.now (rows_for rule_type maps.now)) PackRules) result }
+{
+    match rules_for(maps, locale, rule_type) {
+        Ok(rules) => packed(alloc, &rules),
+        Err(fault) => Err(fault),
+    }
 }
 
 // The block of the rules of five texts.
 fn rules_of_texts(alloc: Global, texts: &Five<&[u8]>) -> Result<Vec<u8>, Fault>
     ensures { GivesSeen (λ block. block.items) (AreRulesFrom (lent_bytes texts.now)) result }
 {
-    let given = given_texts(texts)?;
-    let rules = read(alloc, &given)?;
-    packed(alloc, &rules)
+    match given_texts(texts) {
+        Ok(given) => packed_texts(alloc, &given),
+        Err(fault) => Err(fault),
+    }
+}
+
+// The block of the rules of the texts that have any byte.
+fn packed_texts(alloc: Global, texts: &Five<Option<&str>>) -> Result<Vec<u8>, Fault>
+    ensures { GivesSeen (λ block. block.items) (Then (GiveRules (lent_texts texts.now)) PackRules) result }
+{
+    match read(alloc, texts) {
+        Ok(rules) => packed(alloc, &rules),
+        Err(fault) => Err(fault),
+    }
 }
 
 // The texts that have any byte.
-fn given_texts<'a>(texts: &Five<&'a [u8]>) -> Result<Five<Option<&'a str>>, Fault>
+pub(crate) fn given_texts<'a>(texts: &Five<&'a [u8]>) -> Result<Five<Option<&'a str>>, Fault>
     ensures { GivesSeen lent_texts (ReadsTexts (lent_bytes texts.now)) result }
 {
     Ok(make_five!(Five, texts, |text| given(*text)?))

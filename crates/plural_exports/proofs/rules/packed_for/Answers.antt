@@ -1,0 +1,15 @@
+use Rattle.std.proofs.Common.{Err, refl}
+use Rattle.icu_plurals.specs.DocumentJson.{rows_for}
+use Rattle.icu_plurals.specs.FiveRules.{rules_of}
+use Rattle.plural_exports.specs.GivenDocuments.{HasRulesAt}
+use Rattle.plural_exports.specs.GivenTexts.{PackRules}
+use Rattle.plural_exports.proofs.Steps.{of_second}
+use Rattle.plural_exports.proofs.rules.packed_for.Goals as goal
+
+pub returns-in-Ok : goal.returns-in-Ok
+returns-in-Ok c =
+    of_second (λ block. block.items) (HasRulesAt c.args.locale.now (rows_for c.args.rule_type c.args.maps.now)) PackRules
+    (rules_of c.in-Ok.rules) c.packed.result c.in-Ok.ensures c.packed.ensures
+
+pub returns-in-Err : goal.returns-in-Err
+returns-in-Err c = (Err c.in-Err.fault, c.in-Err.ensures, refl)
