@@ -126,6 +126,53 @@ macro_rules! for_five {
     };
 }
 
+// Does something for a `&mut` reference to each field of a struct with the fields `zero` to `many`,
+// in this order, and its category if that is named or, where another such struct is named, a reference
+// to its field there, and its category if that is named too.
+macro_rules! put_five {
+    ($into:expr, |$place:ident, $category:ident| $step:expr) => {
+        let $place = &mut $into.zero;
+        let $category = $crate::PluralCategory::Zero;
+        $step;
+        let $place = &mut $into.one;
+        let $category = $crate::PluralCategory::One;
+        $step;
+        let $place = &mut $into.two;
+        let $category = $crate::PluralCategory::Two;
+        $step;
+        let $place = &mut $into.few;
+        let $category = $crate::PluralCategory::Few;
+        $step;
+        let $place = &mut $into.many;
+        let $category = $crate::PluralCategory::Many;
+        $step;
+    };
+    ($into:expr, $from:expr, |$place:ident, $field:ident $(, $category:ident)?| $step:expr) => {
+        let $place = &mut $into.zero;
+        let $field = &$from.zero;
+        $(let $category = $crate::PluralCategory::Zero;)?
+        $step;
+        let $place = &mut $into.one;
+        let $field = &$from.one;
+        $(let $category = $crate::PluralCategory::One;)?
+        $step;
+        let $place = &mut $into.two;
+        let $field = &$from.two;
+        $(let $category = $crate::PluralCategory::Two;)?
+        $step;
+        let $place = &mut $into.few;
+        let $field = &$from.few;
+        $(let $category = $crate::PluralCategory::Few;)?
+        $step;
+        let $place = &mut $into.many;
+        let $field = &$from.many;
+        $(let $category = $crate::PluralCategory::Many;)?
+        $step;
+    };
+}
+
+pub(crate) use put_five;
+
 /// Gives what the expression gives for a reference to the field of a category, of a struct with the
 /// fields `zero` to `many`, or the last expression for other.
 #[macro_export]

@@ -1,12 +1,13 @@
 //! Categories that are sure to be those of the number itself.
 
-ghost use Rattle.std.specs.Prelude.{◌≡◌, ◌↔◌, ◌≢◌, IfOk, IfErr, IfSome, IsSome, MatchResult, Some, ◌⊎◌};
+ghost use Rattle.std.specs.Prelude.{◌≡◌, ◌↔◌, ◌≢◌, ℕ, List, Option, IfOk, IfErr, IfSome, IsSome, MatchResult, Some, ◌⊎◌};
 ghost use Rattle.plural_reference.specs.Exactness.{IsWithinBound};
 ghost use Rattle.plural_base.specs.DecimalChoice.{IsExactChoice};
 ghost use Rattle.plural_base.specs.FiveRules.{moduli_of};
+ghost use Rattle.plural_base.specs.declared.five.Five.{Five};
 ghost use Rattle.plural_base.specs.PluralBaseErrors.{sure_category_error_text};
-ghost use Rattle.plural_base.specs.RuleTexts.{texts_of};
-ghost use Rattle.plural_base.specs.SureChoice.{IsSureCategory, IsSure, HasSureFault, IsOutOfMemory};
+ghost use Rattle.plural_base.specs.RuleTexts.{AreRulesOf, texts_of};
+ghost use Rattle.plural_base.specs.SureChoice.{IsBounded, IsSureCategory, IsSure, HasSureFault, IsOutOfMemory};
 
 use crate::category::PluralCategory;
 use crate::laws::{rules_have_every_reading, texts_give_one_answer};
@@ -79,19 +80,46 @@ pub fn sure_category(
     ensures given { let texts = texts_of zero.entry one.entry two.entry few.entry many.entry in
         IsSure texts number.now → IfErr result (λ found. IsOutOfMemory found) }
 {
-    rules_have_every_reading();
     texts_give_one_answer();
     texts_write_one_number();
-    let data = match PluralRulesData::from_texts(alloc, zero, one, two, few, many) {
-        Ok(data) => data,
-        Err(error) => return Err(SureCategoryError::Rules(error)),
-    };
-    let number = match CompactDecimal::from_str(alloc, number) {
-        Ok(number) => number,
-        Err(error) => return Err(SureCategoryError::Number(error)),
-    };
-    let rules = PluralRules::from_data(data);
-    match rules.sure_category_for(&number) {
+    match PluralRulesData::from_texts(alloc, zero, one, two, few, many) {
+        Ok(data) => {
+            let rules = PluralRules::from_data(data);
+            let sure = sure_by_rules(alloc, &rules, number);
+            drop(rules);
+            sure
+        }
+        Err(error) => Err(SureCategoryError::Rules(error)),
+    }
+}
+
+// The category that a number's text has under the rules of any texts, where it is sure.
+fn sure_by_rules(
+    alloc: Global,
+    rules: &PluralRules<'_>,
+    number: &str,
+) -> Result<PluralCategory, SureCategoryError>
+    ensures exact { (texts : Five (Option (List ℕ))) → AreRulesOf texts rules.now → IfOk result (λ category. IsSureCategory texts number.now category) }
+    ensures sure { (texts : Five (Option (List ℕ))) → AreRulesOf texts rules.now → IfOk result (λ _. IsSure texts number.now) }
+    ensures refused { (texts : Five (Option (List ℕ))) → AreRulesOf texts rules.now → IfErr result (λ error. HasSureFault texts number.now error) }
+{
+    rules_have_every_reading();
+    match CompactDecimal::from_str(alloc, number) {
+        Ok(number) => sure_or_outside(rules, &number),
+        Err(error) => Err(SureCategoryError::Number(error)),
+    }
+}
+
+// The category of a number within the bound of the rules.
+fn sure_or_outside(
+    rules: &PluralRules<'_>,
+    number: &CompactDecimal,
+) -> Result<PluralCategory, SureCategoryError>
+    ensures exact { let digits = number.now.significand.absolute in
+        IfOk result (λ category. IsBounded rules.now number.now × IsExactChoice rules.now digits number.now.exponent category) }
+    ensures outside { IfErr result (λ error. (error ≡ SureCategoryError.OutsideBound) × ¬ (IsBounded rules.now number.now)) }
+{
+    match rules.sure_category_for(number) {
         Some(category) => Ok(category),
         None => Err(SureCategoryError::OutsideBound),
     }

@@ -1,6 +1,6 @@
 -- Of the reasons why there is no sure category a text has at most one.
 use Rattle.std.proofs.Common.{◌≡◌, inl, inr, ℕ, List, Option, Some, None, Result, Ok, Err, refl, sym, ap, ◌∙◌, subst, arith}
-use Rattle.std.specs.Prelude.{◌⊎◌, ◌↔◌, ◌≤◌, ◌≢◌, IsSome, length}
+use Rattle.std.specs.Prelude.{◌⊎◌, ◌↔◌, ◌≤◌, ◌≢◌, IfErr, IfOk, IsSome, MatchResult, length}
 use Rattle.std.proofs.Math.Nat.{lt_of_not-le}
 use Rattle.fixed_decimal.specs.Places.{IsWithinLimit}
 use Rattle.fixed_decimal.specs.Written.{CompactNumber, IsCompactOverLimit, OneCompact, WritesCompact}
@@ -227,3 +227,14 @@ sure_leaves_memory one compact texts number OutsideBound sure has =
     let rules : has.0 ≡ sure.0 = same_rules one texts has.0 sure.0 has.2 sure.2 in
     let x : has.1 ≡ sure.1 = compact number has.1 sure.1 has.3.0 sure.3.0 in
     absurd (has.4 (rw (rules, x) sure.4))
+
+-- what returns a sure category or a reason returns the reason that there is, but for memory
+pub told_fault : TextsGiveOneAnswer → OneCompact → (texts : Five (Option (List ℕ))) (number : List ℕ)
+    (result : Result PluralCategory SureCategoryError) (error : SureCategoryError)
+    → IfOk result (λ _. IsSure texts number) → IfErr result (λ found. HasSureFault texts number found)
+    → HasSureFault texts number error → ¬ (IsOutOfMemory error)
+    → MatchResult result (λ _. ⊥) (λ found. (found ≡ error) ⊎ IsOutOfMemory found)
+told_fault one compact texts number (Ok category) error sure refused has other =
+    other (sure_leaves_memory one compact texts number error sure has)
+told_fault one compact texts number (Err found) error sure refused has other =
+    one_sure_fault one compact texts number found error refused has other

@@ -3,19 +3,21 @@ use Rattle.std.specs.Prelude.{◌≡◌, ⊤, ℕ, Option, fold, Some, None, Res
 use Rattle.plural_runtime.specs.declared.error.RuleError.{RuleError}
 use Rattle.plural_runtime.specs.declared.error.RuleError.TheVariants as fault
 use Rattle.plural_base.specs.declared.category.PluralCategory.{PluralCategory}
+use Rattle.plural_base.specs.declared.category.PluralCategory.TheVariants.{Zero, One, Two, Few, Many}
 use Rattle.plural_base.specs.declared.json.error.JsonError.{JsonError}
 use Rattle.plural_base.specs.declared.json.error.JsonError.TheVariants.{Rule, Memory}
 use Rattle.plural_base.specs.declared.ranges.PluralRanges.{PluralRanges}
 use Rattle.plural_base.specs.declared.category.raw.RawPluralCategory.{RawPluralCategory}
-use Rattle.plural_base.specs.Categories.{all_raw_categories}
+use Rattle.plural_base.specs.Categories.{all_raw_categories, name_of}
 use Rattle.plural_base.specs.Ranges.{range_text, category_at}
 use Rattle.plural_base.specs.RangesJson.{name_json}
+use Rattle.plural_base.specs.RulesJson.{member_meant, optional_rule_json}
 use Rattle.serde_json.specs.Data.{Members, no_members, put}
 use Rattle.std.specs.declared.alloc.Global.{Global}
 use Rattle.plural_base.specs.declared.rules.data.PluralRulesData.{PluralRulesData}
 use Rattle.plural_base.specs.DocumentJson.{Rows, found, row_of}
 use Rattle.plural_base.specs.FiveRules.{FiveRules, rules_of}
-use Rattle.plural_base.specs.Json.{Stands, ◌>>=◌, IsRefusal}
+use Rattle.plural_base.specs.Json.{Stands, ◌>>=◌, IsRefusal, all_five}
 use Rattle.plural_runtime.specs.PackedRelations.{PackedRelation}
 use Rattle.plural_runtime.specs.RuleOfText.{rule_of_text}
 use Rattle.serde_json.specs.Data.{Data}
@@ -41,6 +43,22 @@ put_row ranges members start = fold (λ ms end. put_range start end ms (category
 -- all of them
 abbrev pub range_members : PluralRanges → Members
 range_members ranges = fold (put_row ranges) no_members all_raw_categories
+
+-- ---- Not a definition of the subject: the members that the code reads and puts for rules, one
+-- after the other.
+
+-- the rules under the five names
+abbrev pub members_meant : Data → Stands FiveRules
+members_meant value =
+    all_five (member_meant Zero value) (member_meant One value) (member_meant Two value) (member_meant Few value)
+    (member_meant Many value)
+
+-- the values of the rules, put under the five names
+abbrev pub rule_members : FiveRules → Members → Members
+rule_members rules members =
+    put (name_of Many) (optional_rule_json rules.many) (put (name_of Few) (optional_rule_json rules.few)
+    (put (name_of Two) (optional_rule_json rules.two) (put (name_of One) (optional_rule_json rules.one)
+    (put (name_of Zero) (optional_rule_json rules.zero) members))))
 
 -- ---- Not a definition of the subject: the rows of a map of the provider from JSON.
 

@@ -1,30 +1,32 @@
 //! Rules as JSON.
 
-ghost use Rattle.std.specs.Prelude.{◌≡◌, ◌≢◌, ◌↔◌, Option, Some, None, Err, option_map, IfOk, IfErr, IsTrue, IsFalse};
+ghost use Rattle.std.specs.Prelude.{◌≡◌, ◌≢◌, ◌↔◌, Option, Some, None, Err, option_map, IfOk, IfErr, OnOk, IsTrue, IsFalse, string_bytes};
 ghost use Rattle.std.specs.Option.{option_and_then};
 ghost use Rattle.plural_base.specs.declared.category.PluralCategory.{PluralCategory as Category};
 ghost use Rattle.plural_base.specs.RuleTexts.{AreRulesOf, IsRuleOf};
+ghost use Rattle.plural_base.specs.Categories.{name_of};
 ghost use Rattle.plural_base.specs.FiveRules.{rules_of, five};
+ghost use Rattle.plural_base.specs.Inner.JsonSteps.{members_meant, rule_members};
 ghost use Rattle.plural_base.specs.Json.{GivesMeaning};
 ghost use Rattle.plural_base.specs.RulesJson.{member_meant, optional_rule_json, optional_meant, rules_meant, text_under, texts_in};
-ghost use Rattle.plural_base.specs.RulesJson as written;
 ghost use Rattle.serde_json.specs.Find.{as_str, as_object};
-ghost use Rattle.serde_json.specs.View.{view};
+ghost use Rattle.serde_json.specs.Data.{put};
+ghost use Rattle.serde_json.specs.View.{view, members_view};
 ghost use Rattle.serde_json.specs.Written.{has_float};
 
 use crate::category::PluralCategory;
 use crate::category::raw::RawPluralCategory;
-use crate::five::Five;
+use crate::five::put_five;
+use crate::for_five;
 use crate::json::checks::check_rules;
 use crate::json::error::JsonError;
 use crate::json::float::holds_float;
 use crate::json::known::KnownTexts;
 use crate::json::rows::FromJson;
 use crate::json::rule::{read_rule, rule_to_json};
-use crate::make_five;
 use crate::rules::data::PluralRulesData;
 use plural_runtime::{Rule, RuleError};
-use serde_json::{Value, json};
+use serde_json::{Map, Value};
 use std::alloc::{AllocError, Global};
 
 impl PluralRulesData<'static> {
@@ -78,8 +80,11 @@ impl<'data> PluralRulesData<'data> {
         ensures written { IfOk result (λ value. view value ≡ rules_json (rules_of self.now)) }
         ensures memory { IfErr result (λ error. error ≡ JsonError.Memory) }
     {
-        let values = make_five!(Five, self, |rule| write_optional(alloc, rule)?);
-        Ok(object_of(alloc, values)?)
+        let mut members = Map::new(alloc);
+        match put_texts(alloc, self, &mut members) {
+            Ok(()) => Ok(Value::Object(members)),
+            Err(error) => Err(error),
+        }
     }
 }
 
@@ -118,10 +123,44 @@ fn read_rules(alloc: Global, value: &Value) -> Result<PluralRulesData<'static>, 
     if !value.is_object() {
         return Err(JsonError::Shape);
     }
-    let rules = make_five!(PluralRulesData, |category| {
-        read_member(alloc, value, category)?
-    });
-    Ok(rules)
+    let mut rules = PluralRulesData::default();
+    put_members(alloc, value, &mut rules).and(Ok(rules))
+}
+
+// Puts the rules under the names of their categories.
+fn put_members(
+    alloc: Global,
+    value: &Value,
+    rules: &mut PluralRulesData<'static>,
+) -> Result<(), JsonError>
+    ensures answers { GivesMeaning (λ _. rules_of rules.new) result (members_meant (view value.now)) }
+    ensures read { OnOk result (AreRulesOf (texts_in (view value.now)) (rules_of rules.new)) }
+    ensures float { result ≢ Err JsonError.Float }
+    ensures memory { (category : Option Category) → result ≢ Err (JsonError.Rule category RuleError.Memory) }
+    ensures no_text { texts_in (view value.now) ≡ five None None None None None → result ≢ Err JsonError.Memory }
+{
+    put_five!(
+        rules,
+        |rule, category| put_member(alloc, value, category, rule)?
+    );
+    Ok(())
+}
+
+// Puts the rule under the name of a category, if present.
+fn put_member(
+    alloc: Global,
+    value: &Value,
+    category: PluralCategory,
+    rule: &mut Option<Rule<'static>>,
+) -> Result<(), JsonError>
+    ensures answers { GivesMeaning (λ _. rule.new) result (member_meant category (view value.now)) }
+    ensures read { OnOk result (IsRuleOf (text_under category (view value.now)) rule.new) }
+    ensures float { result ≢ Err JsonError.Float }
+    ensures memory { (c : Option Category) → result ≢ Err (JsonError.Rule c RuleError.Memory) }
+    ensures no_text { text_under category (view value.now) ≡ None → result ≢ Err JsonError.Memory }
+{
+    *rule = read_member(alloc, value, category)?;
+    Ok(())
 }
 
 // The rule under the name of a category, if present.
@@ -175,9 +214,41 @@ fn write_optional(alloc: Global, rule: &Option<Rule<'_>>) -> Result<Value, JsonE
     }
 }
 
-// The object with these values under the five names.
-fn object_of(alloc: Global, values: Five<Value>) -> Result<Value, AllocError>
-    ensures { IfOk result (λ value. view value ≡ written.object_of (five (view values.zero) (view values.one) (view values.two) (view values.few) (view values.many))) }
+// Puts the values of the rules under the names of their categories.
+fn put_texts(
+    alloc: Global,
+    rules: &PluralRulesData<'_>,
+    members: &mut Map<String, Value>,
+) -> Result<(), JsonError>
+    ensures written { OnOk result (members_view members.new.entries ≡ rule_members (rules_of rules.now) (members_view members.old.entries)) }
+    ensures memory { IfErr result (λ error. error ≡ JsonError.Memory) }
 {
-    json!(in alloc; {"zero": values.zero, "one": values.one, "two": values.two, "few": values.few, "many": values.many})
+    for_five!(
+        rules,
+        |rule, category| put_text(alloc, rule, category, members)?
+    );
+    Ok(())
+}
+
+// Puts the value of a rule under the name of its category.
+fn put_text(
+    alloc: Global,
+    rule: &Option<Rule<'_>>,
+    category: PluralCategory,
+    members: &mut Map<String, Value>,
+) -> Result<(), JsonError>
+    ensures written { OnOk result (members_view members.new.entries ≡ put (name_of category) (optional_rule_json rule.now) (members_view members.old.entries)) }
+    ensures memory { IfErr result (λ error. error ≡ JsonError.Memory) }
+{
+    let name = String::from_str(alloc, RawPluralCategory::from(category).as_str())?;
+    let value = write_optional(alloc, rule)?;
+    Ok(put_value(name, value, members)?)
+}
+
+// Puts a value under a name.
+fn put_value(name: String, value: Value, members: &mut Map<String, Value>) -> Result<(), AllocError>
+    ensures { OnOk result (members_view members.new.entries ≡ put (string_bytes name) (view value) (members_view members.old.entries)) }
+{
+    drop(members.insert(name, value)?);
+    Ok(())
 }

@@ -76,7 +76,8 @@ impl<'data> AskedRules<'data> {
         if count > FEW_BEFORE_TABLES
             && let Way::Rules(rules) = &mut self.way
         {
-            self.way = way_of_many(rules.taken());
+            let way = way_of_many(rules.taken());
+            put(&mut self.way, way);
         }
     }
 
@@ -91,7 +92,10 @@ impl<'data> AskedRules<'data> {
         if count > FEW_BEFORE_ORDER
             && let Way::ManyRanges(rules) = &mut self.way
         {
-            self.way = Way::Ordered(OrderedRules::of(alloc, rules)?);
+            match OrderedRules::of(alloc, rules) {
+                Ok(ordered) => put(&mut self.way, Way::Ordered(ordered)),
+                Err(error) => return Err(error),
+            }
         }
         Ok(())
     }
@@ -174,6 +178,14 @@ impl<'data> AskedRules<'data> {
             Err(error) => Err(error),
         }
     }
+}
+
+// Puts a value in a place, in that of the one before it.
+#[inline(always)]
+fn put<T: Drop>(place: &mut T, value: T)
+    ensures { place.new ≡ value }
+{
+    *place = value;
 }
 
 // How rules are asked for many numbers.

@@ -1,7 +1,8 @@
 //! Rules as data.
 
-ghost use Rattle.std.specs.Prelude.{◌≡◌, IfOk};
+ghost use Rattle.std.specs.Prelude.{◌≡◌, IfOk, OnOk};
 
+use crate::five::put_five;
 use crate::make_five;
 use plural_runtime::Rule;
 use std::alloc::AllocError;
@@ -49,7 +50,8 @@ impl<'data> PluralRulesData<'data> {
     pub fn try_clone(&self) -> Result<PluralRulesData<'data>, AllocError>
         ensures { IfOk result (λ copy. copy ≡ self.now) }
     {
-        Ok(make_five!(PluralRulesData, self, |rule| cloned(rule)?))
+        let mut copy = PluralRulesData::default();
+        put_copies(self, &mut copy).and(Ok(copy))
     }
 }
 
@@ -61,6 +63,28 @@ fn borrowed<'a>(rule: &'a Option<Rule<'_>>) -> Option<Rule<'a>>
         Some(rule) => Some(rule.as_borrowed()),
         None => None,
     }
+}
+
+// Puts copies of the rules.
+fn put_copies<'data>(
+    rules: &PluralRulesData<'data>,
+    copies: &mut PluralRulesData<'data>,
+) -> Result<(), AllocError>
+    ensures { OnOk result (copies.new ≡ rules.now) }
+{
+    put_five!(copies, rules, |copy, rule| put_copy(rule, copy)?);
+    Ok(())
+}
+
+// Puts a copy of the rule, if present.
+fn put_copy<'data>(
+    rule: &Option<Rule<'data>>,
+    copy: &mut Option<Rule<'data>>,
+) -> Result<(), AllocError>
+    ensures { OnOk result (copy.new ≡ rule.now) }
+{
+    *copy = cloned(rule)?;
+    Ok(())
 }
 
 // A copy of the rule, if present.

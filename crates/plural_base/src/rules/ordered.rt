@@ -1,6 +1,6 @@
 //! Rules of many ranges, with these in order.
 
-ghost use Rattle.std.specs.Prelude.{◌≡◌, Contains, IfErr, IfOk};
+ghost use Rattle.std.specs.Prelude.{◌≡◌, Contains, IfErr, IfOk, OnOk};
 ghost use Rattle.plural_runtime.specs.PackedTruth.{packed_truth};
 ghost use Rattle.plural_base.specs.FiveRules.{ArePaired, Paired, categories_of, first_category, passes, rules_of};
 ghost use Rattle.plural_base.specs.Inner.OrderedRules.{AreLike};
@@ -10,11 +10,11 @@ pub(crate) mod relation;
 pub(crate) mod rule;
 
 use crate::category::PluralCategory;
-use crate::five::Five;
+use crate::five::{Five, put_five};
+use crate::for_five;
 use crate::rules::PluralRules;
 use crate::rules::data::PluralRulesData;
 use crate::rules::ordered::rule::OrderedRule;
-use crate::{for_five, make_five};
 use plural_reference::PluralOperands;
 use plural_runtime::Rule;
 use std::alloc::{AllocError, Global};
@@ -78,7 +78,36 @@ fn ordered_rules(
 ) -> Result<Five<Option<OrderedRule>>, AllocError>
     ensures { IfOk result (λ ordered. ArePaired AreLike ordered (rules_of rules.now)) }
 {
-    Ok(make_five!(Five, rules, |rule| ordered_if_there(alloc, rule)?))
+    let mut ordered = Five::none();
+    put_ordered_rules(alloc, rules, &mut ordered).and(Ok(ordered))
+}
+
+// Puts the rules with their ranges in order.
+fn put_ordered_rules(
+    alloc: Global,
+    rules: &PluralRulesData<'_>,
+    ordered: &mut Five<Option<OrderedRule>>,
+) -> Result<(), AllocError>
+    ensures { OnOk result (ArePaired AreLike ordered.new (rules_of rules.now)) }
+{
+    put_five!(
+        ordered,
+        rules,
+        |place, rule| put_ordered(alloc, rule, place)?
+    );
+    Ok(())
+}
+
+// Puts the rule with its ranges in order, if it is present.
+fn put_ordered(
+    alloc: Global,
+    rule: &Option<Rule<'_>>,
+    ordered: &mut Option<OrderedRule>,
+) -> Result<(), AllocError>
+    ensures { OnOk result (Paired AreLike ordered.new rule.now) }
+{
+    *ordered = ordered_if_there(alloc, rule)?;
+    Ok(())
 }
 
 // The rule with its ranges in order, if it is present.

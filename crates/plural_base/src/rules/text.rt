@@ -1,16 +1,16 @@
 //! Rules from texts.
 
-ghost use Rattle.std.specs.Prelude.{◌≡◌, ◌≢◌, ◌++◌, ◌⊎◌, Some, Ok, Err, codes, IfOk, IfErr};
+ghost use Rattle.std.specs.Prelude.{◌≡◌, ◌≢◌, ◌++◌, ◌⊎◌, Some, Ok, Err, codes, IfOk, IfErr, OnOk};
 ghost use Rattle.std.specs.Option.{option_copied};
 ghost use Rattle.plural_runtime.specs.RuleOfText.{rule_error_text};
 ghost use Rattle.plural_runtime.specs.RuleOfText.{IsPackedFrom, TextGives, rule_of_text};
 ghost use Rattle.plural_base.specs.Categories.{name_of};
-ghost use Rattle.plural_base.specs.RuleTexts.{IsRuleOf, IsRefused, IsFirstRefused};
+ghost use Rattle.plural_base.specs.FiveRules.{rules_of};
+ghost use Rattle.plural_base.specs.RuleTexts.{AreRulesOf, IsRuleOf, IsRefused, IsFirstRefused, lent_texts};
 
 use crate::category::PluralCategory;
 use crate::category::raw::RawPluralCategory;
-use crate::five::Five;
-use crate::make_five;
+use crate::five::{Five, put_five};
 use crate::rules::data::PluralRulesData;
 use plural_reference::ParseError;
 use plural_runtime::laws::texts_give_one_answer;
@@ -116,11 +116,43 @@ impl PluralRulesData<'static> {
         // The values of a text fit: only trees made by hand have this fault.
         ensures fits { IfErr result (λ e. e.error ≢ RuleError.Parse ParseError.ValueTooLarge) }
     {
-        let rules = make_five!(PluralRulesData, texts, |text, category| {
-            rule_of(alloc, *text, category)?
-        });
-        Ok(rules)
+        let mut rules = PluralRulesData::default();
+        put_rules(alloc, texts, &mut rules).and(Ok(rules))
     }
+}
+
+// Puts the rules of the texts.
+fn put_rules(
+    alloc: Global,
+    texts: &Five<Option<&str>>,
+    rules: &mut PluralRulesData<'static>,
+) -> Result<(), RulesTextError>
+    ensures ok { OnOk result (AreRulesOf (lent_texts texts.now) (rules_of rules.new)) }
+    ensures refused { IfErr result (λ e. IsFirstRefused (lent_texts texts.now) e.category e.error) }
+    ensures fits { IfErr result (λ e. e.error ≢ RuleError.Parse ParseError.ValueTooLarge) }
+{
+    put_five!(
+        rules,
+        texts,
+        |rule, text, category| put_rule(alloc, *text, category, rule)?
+    );
+    Ok(())
+}
+
+// Puts the rule of a category's text, if present.
+fn put_rule(
+    alloc: Global,
+    text: Option<&str>,
+    category: PluralCategory,
+    rule: &mut Option<Rule<'static>>,
+) -> Result<(), RulesTextError>
+    ensures ok { OnOk result (IsRuleOf (option_copied text.entry) rule.new) }
+    ensures refused { IfErr result (λ e.
+        (e.category ≡ category) × IsRefused (option_copied text.entry) e.error) }
+    ensures fits { IfErr result (λ e. e.error ≢ RuleError.Parse ParseError.ValueTooLarge) }
+{
+    *rule = rule_of(alloc, text, category)?;
+    Ok(())
 }
 
 // The rule of a category's text, if present.
