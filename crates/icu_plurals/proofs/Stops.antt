@@ -84,7 +84,7 @@ pub stops_after_three : {F A B E : Type 0} {call : F → A → Result B E → F 
     → StopsAt call f (a ∷ b ∷ c ∷ xs) e last
 stops_after_three {call = call} a' b' c' {xs = xs} {e = e} {last = last} three s =
     stops_later a' three.1 (stops_later b' three.2.1
-        (stops_later c' three.2.2.1 (subst (λ p. StopsAt call p xs e last) three.2.2.2 s)))
+    (stops_later c' three.2.2.1 (subst (λ p. StopsAt call p xs e last) three.2.2.2 s)))
 
 -- calls that stop do so before further places
 pub stops_before : {F A B E : Type 0} {call : F → A → Result B E → F → Type 0} {f : F} {xs : List (Option A)} (more : List (Option A))
@@ -143,7 +143,7 @@ pub stops_after_three_changing : {F A B E : Type 0} {call : F → A → Result B
     → StopsAtChanging call f (a ∷ b ∷ c ∷ xs) (a' ∷ b' ∷ c' ∷ ys) e last
 stops_after_three_changing {call = call} {xs = xs} {ys = ys} {e = e} {last = last} three s =
     stops_later_changing three.1 (stops_later_changing three.2.1
-        (stops_later_changing three.2.2.1 (subst (λ p. StopsAtChanging call p xs ys e last) three.2.2.2 s)))
+    (stops_later_changing three.2.2.1 (subst (λ p. StopsAtChanging call p xs ys e last) three.2.2.2 s)))
 
 -- calls that stop do so before further places, which keep their values
 pub stops_before_changing : {F A B E : Type 0} {call : F → A → Result B E → F → A → Type 0} {f : F} {xs ys : List (Option A)}

@@ -17,4 +17,4 @@ pub returns-in_err-try_change_place-3-clause-err : goal.returns-in_err-try_chang
 returns-in_err-try_change_place-3-clause-err g c =
     let p = err_from_is_err_and c.from_residual-in_err-try_change_place-3.result c.from_residual-in_err-try_change_place-3.ensures.1 in
     rw (p.1, p.2) (stops_later_changing c.in_ok-try_change_place.ensures.ok
-        (stops_later_changing c.in_ok-try_change_place-2.ensures.ok (stops_here_changing c.in_err-try_change_place-3.ensures.err)))
+    (stops_later_changing c.in_ok-try_change_place-2.ensures.ok (stops_here_changing c.in_err-try_change_place-3.ensures.err)))

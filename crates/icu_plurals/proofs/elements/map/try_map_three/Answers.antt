@@ -17,4 +17,4 @@ pub returns-in_err-try_map_place-3-clause-err : goal.returns-in_err-try_map_plac
 returns-in_err-try_map_place-3-clause-err g c =
     let p = err_from_is_err_and c.from_residual-in_err-try_map_place-3.result c.from_residual-in_err-try_map_place-3.ensures.1 in
     rw (p.1, p.2) (stops_later _ c.in_ok-try_map_place.ensures.ok
-        (stops_later _ c.in_ok-try_map_place-2.ensures.ok (stops_here c.in_err-try_map_place-3.ensures.err)))
+    (stops_later _ c.in_ok-try_map_place-2.ensures.ok (stops_here c.in_err-try_map_place-3.ensures.err)))
