@@ -15,10 +15,7 @@ use serde_json::{Value, json};
 use std::alloc::{AllocError, Global};
 
 // The object of the place of a note.
-pub(crate) fn note_place_value(
-    alloc: Global,
-    note: &DocumentNote<'_>,
-) -> Result<Value, AllocError>
+pub(crate) fn note_place_value(alloc: Global, note: &DocumentNote<'_>) -> Result<Value, AllocError>
     ensures { IfOk result (λ value. view value ≡ note_place_data (note_view note.now)) }
 {
     match note {

@@ -124,9 +124,5 @@ impl<'f, 'a> ValueMaker<DocumentNote<'a>> for NoteResults<'f> {
 fn note_level(is_strict: bool) -> &'static str
     ensures { result.now ≡ note_level is_strict }
 {
-    if is_strict {
-        "error"
-    } else {
-        "note"
-    }
+    if is_strict { "error" } else { "note" }
 }

@@ -40,10 +40,7 @@ fn notes_on<'a>(alloc: Global, found: Vec<RepeatedKey<'a>>) -> Result<DocumentNo
 }
 
 // What is printed for a key: those that lead to its object, and then the key.
-pub(crate) fn key_place_text(
-    alloc: Global,
-    repeated: RepeatedKey<'_>,
-) -> Result<String, AllocError>
+pub(crate) fn key_place_text(alloc: Global, repeated: RepeatedKey<'_>) -> Result<String, AllocError>
     ensures { IfOk result (λ text. string_bytes text ≡ keys_text (path_view repeated.entry.path) repeated.entry.key.now) }
 {
     let key = printed_name(repeated.key);
