@@ -131,7 +131,8 @@ impl<'a> DocumentNotes<'a> {
         ensures { OnOk result (self.new ≡ self.old ++ others) }
     {
         let mut notes = others.notes;
-        self.notes.append(&mut notes)
+        self.notes.append(&mut notes)?;
+        Ok(())
     }
 }
 
