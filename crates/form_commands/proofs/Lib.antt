@@ -14,6 +14,8 @@ pub mod SameNames
 pub mod OutlineFound
 pub mod OutlineStays
 pub mod OutlineServes
+-- the byte of a fault
+pub mod FoundBytes
 -- unknown languages
 pub mod UnknownLemmas
 pub mod SimilarLemmas

@@ -60,6 +60,7 @@ fn byte_in(alloc: Global, text: &str, kind: ParseError) -> Result<Option<usize>,
 {
     match fault_of(alloc, text.as_bytes())? {
         Some(fault) if fault.kind == kind => Ok(Some(fault.byte)),
-        _ => Ok(None),
+        Some(_) => Ok(None),
+        None => Ok(None),
     }
 }
