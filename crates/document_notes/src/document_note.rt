@@ -120,7 +120,7 @@ impl<'a> DocumentNotes<'a> {
 
     // Adds a note.
     pub(crate) fn add(&mut self, note: DocumentNote<'a>) -> Result<(), AllocError>
-        ensures { OnOk result (self.new ≡ self.old ++ note_view note ∷ []) }
+        ensures { OnOk result (self.new ≡ self.old ++ note_view note.entry ∷ []) }
     {
         self.notes.push(note)?;
         Ok(())
@@ -128,7 +128,7 @@ impl<'a> DocumentNotes<'a> {
 
     // Adds notes behind these.
     pub(crate) fn append(&mut self, others: DocumentNotes<'a>) -> Result<(), AllocError>
-        ensures { OnOk result (self.new ≡ self.old ++ others) }
+        ensures { OnOk result (self.new ≡ self.old ++ others.entry) }
     {
         let mut notes = others.notes;
         self.notes.append(&mut notes)?;

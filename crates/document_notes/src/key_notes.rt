@@ -30,7 +30,7 @@ pub fn key_notes_of<'a>(
 
 // A note on each of these keys.
 fn notes_on<'a>(alloc: Global, found: Vec<RepeatedKey<'a>>) -> Result<DocumentNotes<'a>, AllocError>
-    ensures { IfOk result (λ notes. notes ≡ map on_key (map repeated_view found.items)) }
+    ensures { IfOk result (λ notes. notes ≡ map on_key (map repeated_view found.entry.items)) }
 {
     let mut notes = DocumentNotes::nothing(alloc);
     for repeated in found {
