@@ -1,12 +1,14 @@
 -- findings
 pub mod DocumentCodes
 pub mod DocumentObjects
+pub mod NoteCodes
 -- formats
 pub mod DocumentLines
 pub mod DocumentLog
 pub mod DocumentCommands
 pub mod FileText
 pub mod DocumentFormats
+pub mod NotedLog
 pub mod NotedFormats
 pub mod DocumentLineLaws
 -- words

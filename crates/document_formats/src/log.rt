@@ -35,7 +35,7 @@ pub(crate) fn file_log(alloc: Global, file: &str, report: &Report<'_>) -> Result
 
 // The rules of codes.
 #[derive(Drop)]
-struct CodeRules;
+pub(crate) struct CodeRules;
 
 impl ValueMaker<Code> for CodeRules {
     ghost Seen = { of_codes.Code };
@@ -51,8 +51,8 @@ impl ValueMaker<Code> for CodeRules {
 
 // The results of findings in a file.
 #[derive(Drop)]
-struct FileResults<'f> {
-    file: &'f str,
+pub(crate) struct FileResults<'f> {
+    pub(crate) file: &'f str,
 }
 
 impl<'f, 'a> ValueMaker<Finding<'a>> for FileResults<'f> {

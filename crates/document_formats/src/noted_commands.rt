@@ -7,7 +7,7 @@ ghost use Rattle.document_notes.specs.DocumentNotes.{note_view};
 ghost use Rattle.finding_formats.specs.LocatedFindings.{located_view};
 
 use crate::commands::{NO_TOTALS, file_commands};
-use crate::noted_objects::note_code;
+use crate::note_code::NoteCode;
 use document_notes::{DocumentNote, DocumentNotes};
 use document_report::Report;
 use finding_formats::{Format, Located, Notice, Told, print_located};
@@ -50,7 +50,7 @@ impl<'f, 'a> LinePrinter<DocumentNote<'a>> for NoteCommands<'f> {
         text: &mut String,
     ) -> Result<(), AllocError> {
         let line = note.line(alloc)?;
-        let code = note_code(&note.note.cause);
+        let code = NoteCode::of(note).as_str();
         let located = note_located(self.file, code, line.as_str());
         let command = print_located(alloc, Format::GitHub, &[located], NO_TOTALS)?;
         text.push_str(command.as_str())

@@ -1,21 +1,20 @@
 //! Notes as lines of JSON.
 
 ghost use Rattle.std.specs.Prelude.{◌≡◌, IfOk, option_map, string_bytes};
-ghost use Rattle.document_formats.specs.NotedFormats.{file_name, last_data, note_cause_data, note_code, note_data_in, noted_json};
+ghost use Rattle.document_formats.specs.NotedFormats.{file_name, last_data, note_cause_data, note_data_in, noted_json, noted_numbers_data};
 ghost use Rattle.document_notes.specs.DocumentNotes as noted;
 ghost use Rattle.document_notes.specs.DocumentNotes.{note_view};
 ghost use Rattle.finding_formats.specs.JsonLines.{json_line};
-ghost use Rattle.rule_notes.specs.CauseTexts.{cause_text};
 ghost use Rattle.serde_json.specs.View.{view};
 
-use crate::finding_object::{INPUT_NAME, counts_value, file_counts_value};
+use crate::finding_object::INPUT_NAME;
 use crate::json_lines::FileObjects;
-use crate::place_object::place_value;
+use crate::note_code::NoteCode;
+use crate::note_place::note_place_value;
 use document_notes::{DocumentNote, DocumentNotes};
-use document_report::{Counts, FindingPlace, Report};
+use document_report::{Counts, Report};
 use finding_formats::push_value;
 use plural_documents::{LinePrinter, push_lines};
-use rule_notes::Cause;
 use serde_json::{Value, json};
 use std::alloc::{AllocError, Global};
 
@@ -34,7 +33,7 @@ pub(crate) fn noted_json(
     push_lines(alloc, &mut FileObjects { file: name }, findings, &mut text)?;
     let noted = notes.as_slice();
     push_lines(alloc, &mut NoteObjects { file: name }, noted, &mut text)?;
-    let last = last_value(alloc, file, report.counts())?;
+    let last = last_value(alloc, file, report.counts(), noted.len())?;
     push_value(alloc, &mut text, &last)?;
     Ok(text)
 }
@@ -77,8 +76,8 @@ impl<'f, 'a> LinePrinter<DocumentNote<'a>> for NoteObjects<'f> {
 fn note_value(alloc: Global, file: &str, note: &DocumentNote<'_>) -> Result<Value, AllocError>
     ensures { IfOk result (λ value. view value ≡ note_data_in file.now (note_view note.now)) }
 {
-    let cause = cause_value(alloc, &note.note.cause)?;
-    let place = place_value(alloc, FindingPlace::Text(note.place, note.note.category))?;
+    let cause = cause_value(alloc, note)?;
+    let place = note_place_value(alloc, note)?;
     let text = note.line(alloc)?;
     json!(in alloc; {
         "cause": cause,
@@ -90,38 +89,38 @@ fn note_value(alloc: Global, file: &str, note: &DocumentNote<'_>) -> Result<Valu
 }
 
 // The object of what is noted.
-fn cause_value(alloc: Global, cause: &Cause) -> Result<Value, AllocError>
-    ensures { IfOk result (λ value. view value ≡ note_cause_data cause.now) }
+fn cause_value(alloc: Global, note: &DocumentNote<'_>) -> Result<Value, AllocError>
+    ensures { IfOk result (λ value. view value ≡ note_cause_data (note_view note.now)) }
 {
-    let text = noted_text(alloc, cause)?;
-    json!(in alloc; {"code": note_code(cause), "text": &text})
-}
-
-// What is printed for what is noted.
-fn noted_text(alloc: Global, cause: &Cause) -> Result<String, AllocError>
-    ensures { IfOk result (λ text. string_bytes text ≡ cause_text cause.now) }
-{
-    format!(in alloc; "{cause}")
-}
-
-// Its code.
-pub(crate) fn note_code(cause: &Cause) -> &'static str
-    ensures { result.now ≡ note_code cause.now }
-{
-    match cause {
-        Cause::UpsideDown(..) => "upside-down",
-        Cause::Empty(_) => "never-true",
-        Cause::Alike(_) => "same-condition",
-        Cause::Taken => "too-late",
-    }
+    let text = note.text(alloc)?;
+    json!(in alloc; {"code": NoteCode::of(note).as_str(), "text": &text})
 }
 
 // The object of the line with the counts, of a file if there is one.
-fn last_value(alloc: Global, file: Option<&str>, counts: Counts) -> Result<Value, AllocError>
-    ensures { IfOk result (λ value. view value ≡ last_data (option_map (λ name. name.now) file.entry) counts) }
+fn last_value(
+    alloc: Global,
+    file: Option<&str>,
+    counts: Counts,
+    notes: usize,
+) -> Result<Value, AllocError>
+    ensures { IfOk result (λ value. view value ≡ last_data (option_map (λ name. name.now) file.entry) counts notes) }
 {
+    let counts = numbers_value(alloc, counts, notes)?;
     match file {
-        Some(name) => file_counts_value(alloc, name, counts),
-        None => counts_value(alloc, counts),
+        Some(name) => json!(in alloc; {"counts": counts, "file": name}),
+        None => json!(in alloc; {"counts": counts}),
     }
+}
+
+// The object of counts, with that of the notes.
+fn numbers_value(alloc: Global, counts: Counts, notes: usize) -> Result<Value, AllocError>
+    ensures { IfOk result (λ value. view value ≡ noted_numbers_data counts notes) }
+{
+    json!(in alloc; {
+        "faults": counts.faults,
+        "locales": counts.locales,
+        "notes": notes as u64,
+        "numbers": counts.numbers,
+        "rules": counts.rules
+    })
 }

@@ -16,15 +16,15 @@ pub passed_on : {X E : Type 0} (r : Result X E) (e : E) → (f : E) × (r ≡ Er
 passed_on r e (f, is, same) = is ∙ ap Err same
 
 -- a fault of the document is the answer
-pub refused : (text_of : Texts) (strict : Bool) (value : Result Data CheckError) (e : CheckError) (r : Result Noted CheckError)
-    → r ≡ Err e → IsFaultOf (check_origin e) (value ≡ Err e) → GivesBy check_origin noted_view (AnswersNoted text_of strict value) r
-refused text_of strict value e r is h = rw is (mapped (check_origin e) (λ there. rw there refl) h)
+pub refused : (text_of : Texts) (strict : Bool) (bytes : List ℕ) (value : Result Data CheckError) (e : CheckError) (r : Result Noted CheckError)
+    → r ≡ Err e → IsFaultOf (check_origin e) (value ≡ Err e) → GivesBy check_origin noted_view (AnswersNoted text_of strict bytes value) r
+refused text_of strict bytes value e r is h = rw is (mapped (check_origin e) (λ there. rw there refl) h)
 
 -- the answer to a document is that to the result that holds it
-pub answered : (text_of : Texts) (strict : Bool) (value : Result Data CheckError) (document : Data) (answer : Answer)
-    → value ≡ Ok document → IsNotedAnswer text_of strict document answer → AnswersNoted text_of strict value (Ok answer)
-answered text_of strict value document answer there h =
-    subst (λ (v : Result Data CheckError). AnswersNoted text_of strict v (Ok answer)) (sym there) h
+pub answered : (text_of : Texts) (strict : Bool) (bytes : List ℕ) (value : Result Data CheckError) (document : Data) (answer : Answer)
+    → value ≡ Ok document → IsNotedAnswer text_of strict bytes document answer → AnswersNoted text_of strict bytes value (Ok answer)
+answered text_of strict bytes value document answer there h =
+    subst (λ (v : Result Data CheckError). AnswersNoted text_of strict bytes v (Ok answer)) (sym there) h
 
 -- what is unchanged is kept
 kept : (known : Option (List ℕ)) → Keeps known known

@@ -1,5 +1,5 @@
--- The answer to a document: its report with its notes, and the verdict.
---     AnswersNoted text_of strict document answer      the answer, or why there is no document
+-- The answer to the bytes of a document: its report with its notes, and the verdict.
+--     AnswersNoted text_of strict bytes document answer      the answer, or why there is no document
 use Rattle.std.specs.Prelude.{◌≡◌, ◌&&◌, ◌==◌, not, ℕ, Bool, List, length, Result, Ok, Err, string_bytes, if◌then◌else◌}
 use Rattle.document_report.specs.CheckAnswer.{Answer, verdict_of_report}
 use Rattle.document_report.specs.DocumentReport.{IsReportOf}
@@ -8,7 +8,7 @@ use Rattle.document_report.specs.declared.report.Report.{Report}
 use Rattle.document_report.specs.declared.report.Verdict.{Verdict}
 use Rattle.document_report.specs.declared.report.Verdict.TheVariants.{Faults}
 use Rattle.serde_json.specs.Data.{Data}
-use Rattle.document_notes.specs.DocumentNotes.{AreNotesIn, NoteAt}
+use Rattle.document_notes.specs.DocumentNotes.{AreNotesOfBytes, NoteAt}
 use Rattle.document_notes.specs.declared.run.Noted.{Noted}
 
 -- a note is a fault, if notes are
@@ -23,15 +23,15 @@ abbrev pub answer_with_notes : Texts → Bool → Report → List NoteAt → Ans
 answer_with_notes text_of strict report notes =
     record { text = text_of report notes; verdict = noted_verdict strict report notes }
 
-abbrev pub IsNotedAnswer : Texts → Bool → Data → Answer → Type 0
-IsNotedAnswer text_of strict document answer =
-    (report : Report) × (notes : List NoteAt) × IsReportOf document report × AreNotesIn document notes
+abbrev pub IsNotedAnswer : Texts → Bool → List ℕ → Data → Answer → Type 0
+IsNotedAnswer text_of strict bytes document answer =
+    (report : Report) × (notes : List NoteAt) × IsReportOf document report × AreNotesOfBytes bytes document notes
     × (answer ≡ answer_with_notes text_of strict report notes)
 
-abbrev pub AnswersNoted : Texts → Bool → Result Data CheckError → Result Answer CheckError → Type 0
-AnswersNoted text_of strict (Ok document) (Ok answer) = IsNotedAnswer text_of strict document answer
-AnswersNoted text_of strict (Ok document) (Err fault) = ⊥
-AnswersNoted text_of strict (Err fault) answer = answer ≡ Err fault
+abbrev pub AnswersNoted : Texts → Bool → List ℕ → Result Data CheckError → Result Answer CheckError → Type 0
+AnswersNoted text_of strict bytes (Ok document) (Ok answer) = IsNotedAnswer text_of strict bytes document answer
+AnswersNoted text_of strict bytes (Ok document) (Err fault) = ⊥
+AnswersNoted text_of strict bytes (Err fault) answer = answer ≡ Err fault
 
 -- the answer of the code, with the bytes of its text
 abbrev pub noted_view : Noted → Answer

@@ -2,17 +2,19 @@
 -- counts.
 --     line_in file line      a line, after the name of a file if there is one
 --     noted_text file report notes      the text
-use Rattle.std.specs.Prelude.{◌≡◌, ℕ, ◌==◌, List, [], ◌++◌, codes, length, Option, Some, None, if◌then◌else◌}
+use Rattle.std.specs.Prelude.{◌≡◌, ℕ, ◌==◌, List, [], ◌∷◌, ◌++◌, codes, length, Option, Some, None, if◌then◌else◌}
 use Rattle.std.specs.Fmt.{decimal}
 use Rattle.std.specs.List.{flat_map}
 use Rattle.document_report.specs.DocumentFindings.{finding_line}
-use Rattle.document_report.specs.DocumentPlaces.{at_text, finding_place_text}
+use Rattle.document_report.specs.DocumentPlaces.{at_text, finding_place_text, named}
 use Rattle.document_report.specs.ReportText.{counts_in, findings_in, report_text}
 use Rattle.document_report.specs.declared.counts.Counts.{Counts}
 use Rattle.document_report.specs.declared.report.Report.{Report}
 use Rattle.plural_documents.specs.FirstLines.{ended_line}
+use Rattle.plural_documents.specs.PrintedKeys.{name_text}
+use Rattle.plural_documents.specs.RepeatedKeys.{Path}
 use Rattle.rule_notes.specs.CauseTexts.{cause_text}
-use Rattle.document_notes.specs.DocumentNotes.{NoteAt}
+use Rattle.document_notes.specs.DocumentNotes.{NoteAt, on_key, on_rule}
 
 -- `cldr.json: ` before a line of a file
 abbrev pub name_in : Option (List ℕ) → List ℕ
@@ -22,9 +24,24 @@ name_in (Some file) = file ++ codes ": "
 abbrev pub line_in : Option (List ℕ) → List ℕ → List ℕ
 line_in file line = name_in file ++ ended_line line
 
+-- a key behind those that lead to its object: `cardinal en one`
+abbrev pub keys_text : Path → List ℕ → List ℕ
+keys_text [] key = name_text key
+keys_text (first ∷ path) key = named (name_text first) (keys_text path key)
+
+-- the place of a note: `cardinal ru few`
+abbrev pub note_place_text : NoteAt → List ℕ
+note_place_text (on_rule place note) = finding_place_text (at_text place note.category)
+note_place_text (on_key (path, key)) = keys_text path key
+
+-- what is noted: `range 4..2 is upside down`
+abbrev pub note_text : NoteAt → List ℕ
+note_text (on_rule place note) = cause_text note.cause
+note_text (on_key repeated) = codes "key stands more than once"
+
 -- `cardinal ru few: note: range 4..2 is upside down`
 abbrev pub note_line : NoteAt → List ℕ
-note_line n = finding_place_text (at_text n.place n.note.category) ++ (codes ": note: " ++ cause_text n.note.cause)
+note_line n = note_place_text n ++ (codes ": note: " ++ note_text n)
 
 -- nothing, if there is no note
 abbrev pub notes_text : ℕ → List ℕ

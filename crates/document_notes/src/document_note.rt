@@ -1,28 +1,28 @@
 //! The notes of a document.
 
 ghost use Rattle.std.specs.Prelude.{◌≡◌, ◌++◌, ◌∷◌, [], codes, IfOk, OnOk, map, string_bytes};
-ghost use Rattle.document_notes.specs.DocumentNotes.{AreNotesIn, Gathers, IsNotedInPart, note_at, note_view};
-ghost use Rattle.document_notes.specs.NotedText.{note_line};
-ghost use Rattle.document_report.specs.DocumentPlaces.{locale_place_view};
+ghost use Rattle.document_notes.specs.DocumentNotes.{AreNotesIn, Gathers, IsNotedInPart, note_view};
+ghost use Rattle.document_notes.specs.NotedText.{note_line, note_place_text, note_text};
 ghost use Rattle.rule_notes.specs.CauseTexts.{cause_text};
 ghost use Rattle.serde_json.specs.View.{view};
 
+use crate::key_notes::key_place_text;
 use crate::language_notes::LanguageNotes;
 use document_report::{FindingPlace, LocalePlace, members_of};
-use plural_documents::{Findings, add_members};
+use plural_documents::{Findings, RepeatedKey, add_members};
 use plural_fallback::Part;
 use rule_notes::{Cause, Note};
 use serde_json::Value;
 use std::alloc::{AllocError, Global};
 use std::marker::Model;
 
-/// A note on a rule of a document.
+/// A note on a document.
 #[derive(Debug, Drop)]
-pub struct DocumentNote<'a> {
-    /// The locale, in its part.
-    pub place: LocalePlace<'a>,
-    /// The note, with its category.
-    pub note: Note,
+pub enum DocumentNote<'a> {
+    /// On a rule: the locale, in its part, and the note, with its category.
+    Rule(LocalePlace<'a>, Note),
+    /// On a key that stands more than once in an object, of whose values the last one is read.
+    Key(RepeatedKey<'a>),
 }
 
 impl DocumentNote<'_> {
@@ -31,16 +31,48 @@ impl DocumentNote<'_> {
     pub fn line(&self, alloc: Global) -> Result<String, AllocError>
         ensures { IfOk result (λ line. string_bytes line ≡ note_line (note_view self.now)) }
     {
-        let place = FindingPlace::Text(self.place, self.note.category).text(alloc)?;
-        line_of(alloc, place.as_str(), &self.note.cause)
+        let place = self.place_text(alloc)?;
+        let text = self.text(alloc)?;
+        line_of(alloc, place.as_str(), text.as_str())
+    }
+
+    /// Returns what is printed for the place: `cardinal ru few`. It allocates; the only error is out
+    /// of memory.
+    pub fn place_text(&self, alloc: Global) -> Result<String, AllocError>
+        ensures { IfOk result (λ text. string_bytes text ≡ note_place_text (note_view self.now)) }
+    {
+        match self {
+            DocumentNote::Rule(place, note) => {
+                FindingPlace::Text(*place, note.category).text(alloc)
+            }
+            DocumentNote::Key(repeated) => key_place_text(alloc, *repeated),
+        }
+    }
+
+    /// Returns what is printed of what is noted: `range 4..2 is upside down`. It allocates; the only
+    /// error is out of memory.
+    pub fn text(&self, alloc: Global) -> Result<String, AllocError>
+        ensures { IfOk result (λ text. string_bytes text ≡ note_text (note_view self.now)) }
+    {
+        match self {
+            DocumentNote::Rule(_, note) => cause_text(alloc, &note.cause),
+            DocumentNote::Key(_) => String::from_str(alloc, "key stands more than once"),
+        }
     }
 }
 
-// The line of a cause, given what is printed for the place.
-fn line_of(alloc: Global, place: &str, cause: &Cause) -> Result<String, AllocError>
-    ensures { IfOk result (λ line. string_bytes line ≡ place.now ++ (codes ": note: " ++ cause_text cause.now)) }
+// What is printed for what is noted of a rule.
+fn cause_text(alloc: Global, cause: &Cause) -> Result<String, AllocError>
+    ensures { IfOk result (λ text. string_bytes text ≡ cause_text cause.now) }
 {
-    format!(in alloc; "{place}: note: {cause}")
+    format!(in alloc; "{cause}")
+}
+
+// The line of a text, given what is printed for the place.
+fn line_of(alloc: Global, place: &str, text: &str) -> Result<String, AllocError>
+    ensures { IfOk result (λ line. string_bytes line ≡ place.now ++ (codes ": note: " ++ text.now)) }
+{
+    format!(in alloc; "{place}: note: {text}")
 }
 
 /// The notes of a document, in their order.
@@ -86,11 +118,20 @@ impl<'a> DocumentNotes<'a> {
         self.notes.as_slice()
     }
 
-    // Adds a note on a locale.
-    pub(crate) fn add(&mut self, place: LocalePlace<'a>, note: Note) -> Result<(), AllocError>
-        ensures { OnOk result (self.new ≡ self.old ++ note_at (locale_place_view place.entry) note ∷ []) }
+    // Adds a note.
+    pub(crate) fn add(&mut self, note: DocumentNote<'a>) -> Result<(), AllocError>
+        ensures { OnOk result (self.new ≡ self.old ++ note_view note.entry ∷ []) }
     {
-        self.notes.push(DocumentNote { place, note })?;
+        self.notes.push(note)?;
+        Ok(())
+    }
+
+    // Adds notes behind these.
+    pub(crate) fn append(&mut self, others: DocumentNotes<'a>) -> Result<(), AllocError>
+        ensures { OnOk result (self.new ≡ self.old ++ others.entry) }
+    {
+        let mut notes = others.notes;
+        self.notes.append(&mut notes)?;
         Ok(())
     }
 }

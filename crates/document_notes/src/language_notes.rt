@@ -1,10 +1,10 @@
 //! The notes of a locale's rules.
 
 ghost use Rattle.std.specs.Prelude.{◌≡◌, ◌++◌, OnOk, map};
-ghost use Rattle.document_notes.specs.DocumentNotes.{note_at};
+ghost use Rattle.document_notes.specs.DocumentNotes.{on_rule};
 ghost use Rattle.document_report.specs.DocumentPlaces.{locale_place_view};
 
-use crate::document_note::DocumentNotes;
+use crate::document_note::{DocumentNote, DocumentNotes};
 use document_report::{LocalePlace, texts_of};
 use plural_documents::MemberCheck;
 use plural_fallback::Part;
@@ -43,10 +43,10 @@ fn add_at<'a>(
     notes: Sequence<Note>,
     found: &mut DocumentNotes<'a>,
 ) -> Result<(), AllocError>
-    ensures { OnOk result (found.new ≡ found.old ++ map (note_at (locale_place_view place.entry)) notes) }
+    ensures { OnOk result (found.new ≡ found.old ++ map (on_rule (locale_place_view place.entry)) notes) }
 {
     for note in notes {
-        found.add(place, note)?;
+        found.add(DocumentNote::Rule(place, note))?;
     }
     Ok(())
 }

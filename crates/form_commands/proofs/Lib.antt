@@ -4,6 +4,8 @@ pub mod QuestionLemmas
 pub mod AnswerLemmas
 -- the lines of numbers
 pub mod NumberResults
+-- the byte of a fault
+pub mod FoundBytes
 -- unknown languages
 pub mod UnknownLemmas
 pub mod SimilarLemmas

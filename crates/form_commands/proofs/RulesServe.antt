@@ -1,5 +1,5 @@
 -- Answers by a document that serves a locale as another one does.
-use Rattle.std.proofs.Common.{◌≡◌, ℕ, ◌≤◌, List, [], length, Option, Result, Ok, Err, inl, inr, refl, sym, ◌∙◌, String, Global, string_bytes}
+use Rattle.std.proofs.Common.{◌≡◌, ℕ, ◌≤◌, List, [], length, Option, Result, Ok, Err, inl, inr, refl, sym, subst, ◌∙◌, String, Global, string_bytes}
 use Rattle.std.specs.Prelude.{IfOk}
 use Rattle.std.proofs.KnownBytes.{Keeps-refl}
 use Rattle.std.specs.declared.alloc.AllocError.{AllocError}
@@ -17,6 +17,7 @@ use Rattle.form_commands.specs.Inner.NoteSteps.{IsKeptNote, NotesAfter, Writes, 
 use Rattle.form_commands.specs.Inner.RunSteps.{AnswersFirst, AnswersLines, GivesRules, GivesRulesIn, IsFoundBy, IsFoundUnder}
 use Rattle.form_commands.specs.KeyNotes.{IsKeyNote, IsNote}
 use Rattle.form_commands.specs.Languages.{IsFoundAt, IsFoundFor, IsKnown}
+use Rattle.form_commands.specs.FaultBytes.{IsFaultByte}
 use Rattle.form_commands.specs.declared.error.FormsError.{FormsError}
 use Rattle.form_commands.specs.declared.error.FormsError.TheVariants.{Memory}
 use Rattle.form_commands.specs.declared.error.LanguageError.{LanguageError}
@@ -55,7 +56,8 @@ module _ (part : Part) (locale : List ℕ) (kept : KeptRules) (whole : Data) (se
   found_at : (key : List ℕ) (answer : Result code.Language LanguageError) → value_at (view kept.document) part key ≡ value_at whole part key
       → IsFoundAt (view kept.document) part key answer → IsFoundAt whole part key answer
   found_at key (Ok language) alike at = (at.0, sym alike ∙ at.1, at.2)
-  found_at key (Err error) alike at = (at.0, rw (← alike) at.1, at.2)
+  found_at key (Err error) alike at =
+      (at.0, at.1, rw (← alike) at.2, subst (λ (value : Option Data). IsFaultByte value at.0 at.1) alike at.3, at.4)
 
   found_by : (answer : Result code.Language LanguageError) → IsFoundBy kept part locale answer → IsFoundFor whole part locale answer
   found_by answer = by (key_by string_bytes kept.key) serves

@@ -1,5 +1,6 @@
 -- The texts of errors, and the exit status of the program: 0, 1 if something is missing, or 2.
-use Rattle.std.specs.Prelude.{ℕ, List, ◌++◌, codes, Bool, true, false}
+use Rattle.std.specs.Prelude.{ℕ, List, [], ◌++◌, codes, Bool, true, false, Option, Some, None}
+use Rattle.std.specs.Fmt.{decimal}
 use Rattle.icu_plurals.specs.PluralBaseErrors.{json_error_text}
 use Rattle.plural_fallback.specs.LocalesJson.{part_name}
 use Rattle.plural_fallback.specs.FirstKeys.{fallback_error_text}
@@ -12,13 +13,19 @@ use Rattle.form_commands.specs.declared.error.LanguageError.TheVariants.{NotFoun
 use Rattle.form_commands.specs.declared.error.Verdict.{Verdict}
 use Rattle.form_commands.specs.declared.error.Verdict.TheVariants.{Complete, Noted, Faults}
 
+-- ` at byte 2`, if there is a byte
+abbrev pub at_byte : Option ℕ → List ℕ
+at_byte None = []
+at_byte (Some byte) = codes " at byte " ++ decimal byte
+
 -- the part, the locale or the key, and the reason: `cardinal russian: no rules but those of root;
 -- similar: ru`
 abbrev pub language_error_text : LanguageError → List ℕ
 language_error_text (NotFound part locale reason) = part_name part ++ codes " " ++ locale ++ codes ": " ++ fallback_error_text reason
 language_error_text (Unknown part locale similar) =
     part_name part ++ (codes " " ++ (locale ++ (codes ": no rules but those of root" ++ similar_text similar)))
-language_error_text (Refused part key reason) = part_name part ++ codes " " ++ key ++ codes ": " ++ json_error_text reason
+language_error_text (Refused part key reason byte) =
+    part_name part ++ (codes " " ++ (key ++ (codes ": " ++ (json_error_text reason ++ at_byte byte))))
 
 -- the chain ends without a key, or the language is unknown: the locale has no rules
 abbrev pub language_status : LanguageError → ℕ

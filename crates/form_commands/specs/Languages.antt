@@ -21,6 +21,7 @@ use Rattle.plural_fallback.specs.declared.locales.Part.{Part}
 use Rattle.plural_fallback.specs.declared.locales.Part.TheVariants.{Cardinal, Ordinal}
 use Rattle.rules_outline.specs.LocaleKeys.{HasNoKey, IsKeyOf, value_at}
 use Rattle.form_commands.specs.declared.error.LanguageError.{LanguageError}
+use Rattle.form_commands.specs.FaultBytes.{IsFaultByte}
 use Rattle.form_commands.specs.SimilarKeys.{similar_keys}
 use Rattle.form_commands.specs.declared.error.LanguageError.TheVariants.{NotFound, Refused, Unknown}
 use Rattle.form_commands.specs.declared.language.Language.{Language}
@@ -32,13 +33,14 @@ abbrev pub rules_in : Option Data → Stands FiveRules
 rules_in None = Err Shape
 rules_in (Some value) = rules_of_json value
 
--- the value under the key and its rules, or why it is refused
+-- the value under the key and its rules, or why it is refused, and where
 abbrev pub IsFoundAt : Data → Part → List ℕ → Result Language LanguageError → Type 0
 IsFoundAt document part key (Ok language) =
     (language.key.now ≡ key) × (value_at document part key ≡ Some (view language.value.now))
     × (rules_of_json (view language.value.now) ≡ Ok language.rules)
 IsFoundAt document part key (Err error) =
-    (reason : JsonError) × (rules_in (value_at document part key) ≡ Err reason) × (error ≡ Refused part key reason)
+    (reason : JsonError) × (byte : Option ℕ) × (rules_in (value_at document part key) ≡ Err reason)
+    × IsFaultByte (value_at document part key) reason byte × (error ≡ Refused part key reason byte)
 
 -- ---- The rules of a locale
 

@@ -57,8 +57,9 @@ pub enum LanguageError {
     /// no other has one for cardinal or for ordinal numbers, and neither `root` nor `und` was asked
     /// for. These keys of the part are similar to it.
     Unknown(Part, Name, SimilarKeys),
-    /// What the part has under this key is refused. The reason is never out of memory.
-    Refused(Part, Name, JsonError),
+    /// What the part has under this key is refused. The reason is never out of memory. If it is that
+    /// the text of a rule can't be read, this is the byte from which on.
+    Refused(Part, Name, JsonError, Option<usize>),
 }
 
 impl fmt::Display for LanguageError {
@@ -76,9 +77,17 @@ impl fmt::Display for LanguageError {
                 locale.as_str(),
                 similar
             ),
-            LanguageError::Refused(part, key, reason) => {
+            LanguageError::Refused(part, key, reason, None) => {
                 write!(f, "{} {}: {}", part.as_str(), key.as_str(), *reason)
             }
+            LanguageError::Refused(part, key, reason, Some(byte)) => write!(
+                f,
+                "{} {}: {} at byte {}",
+                part.as_str(),
+                key.as_str(),
+                *reason,
+                *byte
+            ),
         }
     }
 }
@@ -95,7 +104,7 @@ impl LanguageError {
             LanguageError::Unknown(_, _, _) => 1,
             LanguageError::NotFound(_, _, FallbackError::LongChain)
             | LanguageError::NotFound(_, _, FallbackError::NotLoaded)
-            | LanguageError::Refused(_, _, _) => 2,
+            | LanguageError::Refused(_, _, _, _) => 2,
         }
     }
 }

@@ -7,6 +7,7 @@ ghost use Rattle.rules_outline.specs.LocaleKeys.{value_at};
 ghost use Rattle.serde_json.specs.View.{view};
 
 use crate::error::LanguageError;
+use crate::fault_byte::fault_byte;
 use crate::name::Name;
 use icu_plurals::provider::PluralRulesData;
 use icu_plurals::{JsonError, PluralRules};
@@ -51,7 +52,7 @@ fn at_key<'a>(
     ensures { IfOk result (λ answer. IsFoundAt (view document.now) part key.now answer) }
 {
     let Some(value) = value_at(document, part, key) else {
-        return refused(alloc, part, key, JsonError::Shape);
+        return refused(alloc, part, key, JsonError::Shape, None);
     };
     match PluralRulesData::from_json(alloc, value) {
         Ok(data) => Ok(Ok(Language {
@@ -60,7 +61,10 @@ fn at_key<'a>(
             rules: PluralRules::from_data(data),
         })),
         Err(JsonError::Memory) => Err(AllocError),
-        Err(reason) => refused(alloc, part, key, reason),
+        Err(reason) => {
+            let byte = fault_byte(alloc, value, reason)?;
+            refused(alloc, part, key, reason, byte)
+        }
     }
 }
 
@@ -77,9 +81,10 @@ fn refused<'a>(
     part: Part,
     key: &str,
     reason: JsonError,
+    byte: Option<usize>,
 ) -> Result<Result<Language<'a>, LanguageError>, AllocError>
-    ensures { IfOk result (λ answer. answer ≡ Err (LanguageError.Refused part key.now reason)) }
+    ensures { IfOk result (λ answer. answer ≡ Err (LanguageError.Refused part key.now reason byte)) }
 {
     let key = Name::from_str(alloc, key)?;
-    Ok(Err(LanguageError::Refused(part, key, reason)))
+    Ok(Err(LanguageError::Refused(part, key, reason, byte)))
 }

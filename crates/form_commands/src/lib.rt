@@ -3,6 +3,7 @@
 
 mod c_condition;
 mod error;
+mod fault_byte;
 mod gettext;
 mod joined;
 mod language;

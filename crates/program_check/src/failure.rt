@@ -13,7 +13,7 @@ pub(crate) const EXAMPLES: &str = "
 Checks documents of plural rules and ranges, as plurals_cldr_document makes them of CLDR's files.
 Without a FILE the document is in standard input; - is standard input.
 The status is 0 without faults, 1 with some (behind --strict notes are faults), and 2 if there is
-no report of a document. A log of SARIF has no notes.
+no report of a document.
 
 Examples:
   plurals_check cldr.json
@@ -26,9 +26,6 @@ pub(crate) const VERSION: &str = "plurals_check 0.1.0\n";
 
 // What is wrong with words that aren't UTF-8.
 pub(crate) const NOT_TEXT: &str = "a word is not UTF-8";
-
-// What is wrong with strict words that name a format without notes.
-pub(crate) const STRICT_FORMAT: &str = "--strict: sarif has no notes";
 
 // Why there is no report.
 #[derive(Debug, Drop, Error)]

@@ -6,8 +6,7 @@ mod report;
 
 use document_formats::{Asked, WordFault, asked_by};
 use document_report::{CheckError, Verdict};
-use failure::{EXAMPLES, Failure, NOT_TEXT, STRICT_FORMAT, USAGE, VERSION};
-use finding_formats::Format;
+use failure::{EXAMPLES, Failure, NOT_TEXT, USAGE, VERSION};
 use plural_commands::RunError;
 use plural_commands::arguments::arguments;
 use plural_documents::write_output;
@@ -51,7 +50,6 @@ fn answer_asked(rt: &HostRuntime, is_strict: bool, asked: Asked<'_>) -> Result<u
     match asked {
         Asked::Help => help(rt),
         Asked::Version => print(rt, VERSION),
-        Asked::Reports(Format::Sarif, _) if is_strict => { Ok(tell_usage(rt, STRICT_FORMAT)) }
         Asked::Reports(format, []) => report_input(rt, Way { format, is_strict }),
         Asked::Reports(format, files) => Ok(report_files(rt, Way { format, is_strict }, files)),
     }

@@ -28,9 +28,14 @@ pub(crate) fn write_report<R: Read>(
         Ok(bytes) => bytes,
         Err(fault) => return Err(Failure::from(CheckError::from(fault))),
     };
-    let (bytes, format) = (bytes.as_slice(), way.format);
-    let printer = NotedFormat { file, format };
-    match write_noted(rt.alloc(), &printer, way.is_strict, bytes, &mut rt.stdout()) {
+    let bytes = bytes.as_slice();
+    let Way { format, is_strict } = way;
+    let printer = NotedFormat {
+        file,
+        format,
+        is_strict,
+    };
+    match write_noted(rt.alloc(), &printer, is_strict, bytes, &mut rt.stdout()) {
         Ok(verdict) => Ok(verdict),
         Err(CheckError::Json) => Err(no_json(rt.alloc(), bytes)),
         Err(error) => Err(Failure::from(error)),

@@ -7,7 +7,7 @@ use Rattle.document_notes.proofs.run.write_noted.Goals as goal
 
 pub returns-in_err-noted : goal.returns-in_err-noted
 returns-in_err-noted g c =
-    nothing_written (AnswersNoted (g.P.NotedPrinter.text_of c.args.printer.now) c.args.is_strict (document_of_bytes c.args.bytes.now))
+    nothing_written (AnswersNoted (g.P.NotedPrinter.text_of c.args.printer.now) c.args.is_strict c.args.bytes.now (document_of_bytes c.args.bytes.now))
     (g.W.Write.contents c.args.writer.now) c.in_err-noted.field-0.0 c.from_residual.result
     (passed_on _ _ (err_from_is_err_and c.from_residual.result c.from_residual.ensures.1)) c.in_err-noted.ensures
 

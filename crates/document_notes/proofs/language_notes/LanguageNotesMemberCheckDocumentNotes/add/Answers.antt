@@ -3,7 +3,7 @@ use Rattle.std.proofs.lemmas.Result.{on_ok_weaker}
 use Rattle.plural_checker.specs.LanguageTexts.{SixTexts}
 use Rattle.rule_notes.specs.RuleNotes.{AreNotesOf}
 use Rattle.document_report.specs.DocumentPlaces.{LocalePlace}
-use Rattle.document_notes.specs.DocumentNotes.{note_at}
+use Rattle.document_notes.specs.DocumentNotes.{on_rule}
 use Rattle.document_notes.proofs.language_notes.LanguageNotesMemberCheckDocumentNotes.add.Goals as goal
 
 pub returns : goal.returns
@@ -12,7 +12,7 @@ returns c =
     let notes = c.in_ok-notes.notes in
     on_ok_weaker c.add_at.result
     (λ is. (
-      map (note_at place) notes,
+      map (on_rule place) notes,
       (notes, subst (λ (texts : SixTexts). AreNotesOf texts.five notes) c.texts_of.ensures c.in_ok-notes.ensures, refl),
       is,
     ))
