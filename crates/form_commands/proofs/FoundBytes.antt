@@ -25,8 +25,8 @@ pub told : (text : List ℕ) (kind : ParseError) (found : Option RuleFault) (fau
     → IsFaultOfText text found → IsByteIn text kind (Some fault.byte)
 told text kind found fault is same all byte = (
   λ equal.
-    let at : fault.byte ≡ byte = cc in
-    subst (λ b. TextFaultyAt text kind b) at (subst (λ k. TextFaultyAt text k fault.byte) same ((all fault).0 is)),
+      let at : fault.byte ≡ byte = cc in
+      subst (λ b. TextFaultyAt text kind b) at (subst (λ k. TextFaultyAt text k fault.byte) same ((all fault).0 is)),
   λ faulty. ap (option_map (λ (f : RuleFault). f.byte)) (sym is ∙ (all (fault_at kind byte)).1 faulty),
 )
 
@@ -35,18 +35,18 @@ pub other : (text : List ℕ) (kind : ParseError) (found : Option RuleFault) (fa
 other text kind found fault is differs all byte = (
   λ equal. let no : ⊥ = cc in absurd no,
   λ faulty.
-    let same = sym is ∙ (all (fault_at kind byte)).1 faulty in
-    let alike : fault.kind ≡ kind = cc in
-    absurd (differs alike),
+      let same = sym is ∙ (all (fault_at kind byte)).1 faulty in
+      let alike : fault.kind ≡ kind = cc in
+      absurd (differs alike),
 )
 
 pub without : (text : List ℕ) (kind : ParseError) (found : Option RuleFault) → found ≡ None → IsFaultOfText text found → IsByteIn text kind None
 without text kind found is all byte = (
   λ equal. let no : ⊥ = cc in absurd no,
   λ faulty.
-    let there = sym is ∙ (all (fault_at kind byte)).1 faulty in
-    let no : ⊥ = cc in
-    absurd no,
+      let there = sym is ∙ (all (fault_at kind byte)).1 faulty in
+      let no : ⊥ = cc in
+      absurd no,
 )
 
 -- that of the text of a category
@@ -55,9 +55,9 @@ under : (value : Data) (category : PluralCategory) (kind : ParseError) (text : L
 under value category kind text found there all byte = (
   λ equal. (text, sym there, (all byte).0 equal),
   λ has.
-    let is = there ∙ has.1 in
-    let same : has.0 ≡ text = cc in
-    (all byte).1 (subst (λ t. TextFaultyAt t kind byte) same has.2),
+      let is = there ∙ has.1 in
+      let same : has.0 ≡ text = cc in
+      (all byte).1 (subst (λ t. TextFaultyAt t kind byte) same has.2),
 )
 
 pub under_if_ok : (value : Data) (category : PluralCategory) (kind : ParseError) (text : List ℕ) (r : Result (Option ℕ) AllocError)
