@@ -1,7 +1,9 @@
-use Rattle.std.proofs.Common.{Ok, Err, refl, rules}
+use Rattle.std.proofs.Common.{◌≡◌, Ok, Err, refl, rules, subst}
 use Rattle.std.specs.Prelude.{map}
 use Rattle.std.proofs.lemmas.List.{length-map}
 use Rattle.icu_plurals.specs.CategoryTables.{integer_entry}
+use Rattle.icu_plurals.specs.FiveRules.{FiveRules}
+use Rattle.plural_exports.specs.Results.{filled}
 use Rattle.plural_exports.proofs.integers.categories_of_integers.Goals as goal
 
 pub returns-in-Ok : goal.returns-in-Ok
@@ -10,7 +12,11 @@ returns-in-Ok c =
     let numbers = c.args.numbers.now in (
       Ok (map entry numbers),
       (Ok c.in-Ok.rules, c.in-Ok.ensures, refl),
-      (rw (length-map numbers entry) (search rules), c.put_categories.ensures.written),
+      (
+        rw (length-map numbers entry) (search rules),
+        subst (λ (five : FiveRules). c.put_categories.new.out ≡ filled (map (integer_entry five) numbers) c.args.out.now)
+            c.of.ensures c.put_categories.ensures.written,
+      ),
     )
 
 pub returns-in-Err : goal.returns-in-Err
