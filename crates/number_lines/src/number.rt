@@ -26,7 +26,9 @@ pub fn numbers_text(
 {
     let mut asked = AskedRules::of(rules.as_borrowed());
     asked.prepare(numbers.len() as u64);
-    numbers_by(alloc, &asked, numbers)
+    let printed = numbers_by(alloc, &asked, numbers);
+    drop(asked);
+    printed
 }
 
 // The lines of numbers by these rules.

@@ -40,7 +40,9 @@ pub fn answer_input<N: Read, W: Write>(
     ensures { AnswersInput rules.now (N.remaining numbers.old) (N.remaining numbers.new) (W.contents writer.old) (W.contents writer.new) result }
 {
     let mut asked = AskedRules::of(rules.as_borrowed());
-    answer_reads(alloc, &mut asked, numbers, writer)
+    let answered = answer_reads(alloc, &mut asked, numbers, writer);
+    drop(asked);
+    answered
 }
 
 // The same by rules that are prepared for so many numbers as are read.

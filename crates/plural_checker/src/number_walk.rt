@@ -28,6 +28,7 @@ pub(crate) fn find(rules: &PluralRules<'_>, sought: Sought) -> LeastNumbers
     }
     let mut asked = AskedRules::of(rules.as_borrowed());
     see_all(&mut asked, sought, &mut seen);
+    drop(asked);
     seen
 }
 

@@ -47,7 +47,9 @@ fn check_under(
     ensures { OnOk result (AddsFindings (IsFoundInSamples (Some rules.now) category (Some lists.now)) report.old report.new) }
 {
     let mut asked = AskedRules::of(rules.as_borrowed());
-    check_asked(alloc, &mut asked, category, lists, report)
+    let checked = check_asked(alloc, &mut asked, category, lists, report);
+    drop(asked);
+    checked
 }
 
 // The same under rules that can be put in order.
