@@ -45,7 +45,11 @@ pub fn check_texts(alloc: Global, texts: &LanguageTexts<'_>) -> Result<Report, A
     ensures { IfOk result (λ report. AreFindingsOf (six_texts texts.now) report) }
 {
     match read_five(alloc, texts) {
-        Ok(five) => check_five(alloc, &five, texts.other),
+        Ok(five) => {
+            let report = check_five(alloc, &five, texts.other);
+            drop(five);
+            report
+        }
         Err(error) => Err(error),
     }
 }
@@ -59,7 +63,11 @@ fn check_five(
     ensures { IfOk result (λ report. AreFindingsOf (six five.now (option_copied other.entry)) report) }
 {
     match read_if_there(alloc, other) {
-        Ok(other) => check_six(alloc, five, &other),
+        Ok(other) => {
+            let report = check_six(alloc, five, &other);
+            drop(other);
+            report
+        }
         Err(error) => Err(error),
     }
 }
@@ -73,7 +81,11 @@ fn check_six(
     ensures { IfOk result (λ report. AreFindingsOf (six five.now other.now) report) }
 {
     match rules_of(alloc, five) {
-        Ok(rules) => check_all(alloc, rules.as_ref(), five, other),
+        Ok(rules) => {
+            let report = check_all(alloc, rules.as_ref(), five, other);
+            drop(rules);
+            report
+        }
         Err(error) => Err(error),
     }
 }
@@ -86,10 +98,7 @@ fn read_five<'a>(
     ensures { IfOk result (λ five. five ≡ (six_texts texts.now).five) }
 {
     let mut five = Five::none();
-    match put_read(alloc, texts, &mut five) {
-        Ok(()) => Ok(five),
-        Err(error) => Err(error),
-    }
+    put_read(alloc, texts, &mut five).and(Ok(five))
 }
 
 // Puts what the five texts are read as in their places.

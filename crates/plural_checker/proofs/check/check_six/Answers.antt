@@ -10,10 +10,10 @@ pub returns-in-Ok : goal.returns-in-Ok
 returns-in-Ok c =
     let texts = six c.args.five.now c.args.other.now in
     let rules = option_copied c.as_ref.result in
-    IfOk-weaker c.check_all.result (λ report. AreFindingsUnder rules texts report) (λ report. AreFindingsOf texts report)
+    IfOk-weaker c.check_all-report.result (λ report. AreFindingsUnder rules texts report) (λ report. AreFindingsOf texts report)
     (λ report found. (
       rules,
       subst (λ (these : Option FiveRules). AreRulesIfRead texts.five these) (sym c.as_ref.ensures.value) c.in-Ok.ensures,
       found,
     ))
-    c.check_all.ensures
+    c.check_all-report.ensures
