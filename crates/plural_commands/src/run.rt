@@ -62,6 +62,7 @@ pub fn run<R: Read, W: Write>(
 {
     let query = query_of(alloc, words)?;
     let text = answer(alloc, &query, reader)?;
+    drop(query);
     match write_output(writer, text.as_str().as_bytes()) {
         Ok(()) => Ok(()),
         Err(_) => Err(RunError::Write),
