@@ -63,8 +63,25 @@ fn say_in(
         let key = printed_name(key);
         return Err(told(format!(in alloc; "{file}: {key}: no message has the key")));
     };
-    let spoken = spoken_rules(rt, said, Taken::by(&pattern))?;
-    let text = text_of(alloc, said, &pattern, given, &spoken)?;
+    match spoken_rules(rt, said, Taken::by(&pattern)) {
+        Ok(spoken) => {
+            let verdict = say_by(rt, said, &pattern, given, &spoken);
+            drop(spoken);
+            verdict
+        }
+        Err(failure) => Err(failure),
+    }
+}
+
+// Writes what a pattern says by these rules, and their notes.
+fn say_by(
+    rt: &HostRuntime,
+    said: &SayWords<'_>,
+    pattern: &PackedPattern<'_>,
+    given: &[Word<'_>],
+    spoken: &Spoken,
+) -> Result<Verdict, Failure> {
+    let text = text_of(rt.alloc(), said, pattern, given, spoken)?;
     let verdict = print_bytes(&mut rt.stdout(), text.as_slice())?;
     match write_output(&mut rt.stderr(), spoken.notes.as_slice()) {
         Ok(()) => Ok(verdict),

@@ -14,6 +14,7 @@ use plural_fallback::{Part, find_first};
 use serde_json::Value;
 use std::alloc::Global;
 use std::io::Read;
+use std::mem;
 
 // Which rules a pattern takes.
 #[derive(Clone, Copy)]
@@ -121,13 +122,27 @@ fn rules_by<R: Read>(
 // The rules that are taken of those in bytes.
 fn rules_in(alloc: Global, taken: Taken, locale: &str, bytes: &[u8]) -> Result<Spoken, FormsError> {
     let mut spoken = Spoken::new(alloc);
+    put_rules(alloc, taken, locale, bytes, &mut spoken).and(Ok(spoken))
+}
+
+// Puts the rules that are taken in their places.
+fn put_rules(
+    alloc: Global,
+    taken: Taken,
+    locale: &str,
+    bytes: &[u8],
+    spoken: &mut Spoken,
+) -> Result<(), FormsError> {
+    let notes = &mut spoken.notes;
     if taken.cardinal {
-        spoken.cardinal = rules_of(alloc, Part::Cardinal, locale, bytes, &mut spoken.notes)?;
+        let rules = rules_of(alloc, Part::Cardinal, locale, bytes, notes)?;
+        drop(mem::replace(&mut spoken.cardinal, rules));
     }
     if taken.ordinal {
-        spoken.ordinal = rules_of(alloc, Part::Ordinal, locale, bytes, &mut spoken.notes)?;
+        let rules = rules_of(alloc, Part::Ordinal, locale, bytes, notes)?;
+        drop(mem::replace(&mut spoken.ordinal, rules));
     }
-    Ok(spoken)
+    Ok(())
 }
 
 // The rules of a part for a locale. Why there are none, and the note of their key, is that of an
