@@ -32,6 +32,7 @@ fn asked_categories(call: &mut Call) {
         call.print(" ");
         call.print(RawPluralCategory::from(category).as_str());
     }
+    drop(rules);
 }
 
 // The category of an integer or of a text.

@@ -121,9 +121,11 @@ fn cloned_elements(call: &mut Call) {
         Ok(clone) => {
             let is_same = clone.as_packed().as_bytes() == packed.as_packed().as_bytes();
             call.print_truth(is_same && clone == packed);
+            drop(clone);
         }
         Err(_) => call.out_of_memory(),
     }
+    drop(packed);
 }
 
 // Whether two packed elements are equal.

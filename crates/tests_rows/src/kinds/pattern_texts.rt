@@ -35,6 +35,8 @@ fn pattern_text(call: &mut Call) {
         Ok(pattern) => print_said(call, &pattern, &arguments, &rules),
         Err(fault) => call.print_error(&fault),
     }
+    drop(cardinal);
+    drop(ordinal);
 }
 
 // Adds numbers under the names before them.

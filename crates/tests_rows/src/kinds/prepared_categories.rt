@@ -30,6 +30,7 @@ fn prepared_categories(call: &mut Call) {
 fn table_categories(call: &mut Call) {
     let rules = PreparedRules::from_rules(PluralRules::from_data(call.rules()));
     let bytes = rules.to_table();
+    drop(rules);
     let Some(table) = CategoryTable::from_bytes(&bytes) else {
         return;
     };
