@@ -10,19 +10,27 @@ use Rattle.fixed_decimal.specs.PlainNumbers.{IsPlain, IsPlainInteger}
 use Rattle.fixed_decimal.specs.Shown.{fraction_text}
 use Rattle.fixed_decimal.specs.Written.{CompactNumber, WritesCompact}
 use Rattle.fixed_decimal.specs.Inner.TextParts.{IsDigitByte, AllDigitBytes, digits_in}
-use Rattle.fixed_decimal.specs.Inner.PlainSides.{IsShortest, EndsDigits, plain_number}
-use Rattle.fixed_decimal.proofs.Points.{length-text_of, length-digits_in, digits_back}
+use Rattle.fixed_decimal.specs.Inner.PlainSides.{IsShortest, IsFraction, EndsDigits, plain_number}
+use Rattle.fixed_decimal.proofs.Points.{length-text_of, digit_byte_at, length-digits_in, digits_back}
 use Rattle.fixed_decimal.proofs.ShownTexts.{compact_again}
 
 -- ---- a text and its front
 
-nothing : (s : List ℕ) → length s < 1 → s ≡ []
+pub nothing : (s : List ℕ) → length s < 1 → s ≡ []
 nothing [] h = refl
 nothing (b ∷ s) h = absurd (omega arith)
 
 headed : (s : List ℕ) → 1 ≤ length s → s ≡ get_or s 0 0 ∷ take (length s - 1) (drop 1 s)
 headed [] h = absurd (omega arith)
 headed (b ∷ s) h = ap (λ (l : List ℕ). b ∷ l) (sym (take_all (length (b ∷ s) - 1) s (omega arith)))
+
+-- a point, digits, and nothing more are a fraction
+pub fraction_is : (text fraction behind : List ℕ) → 1 ≤ length text → get_or text 0 0 ≡ 46 → take (length text - 1) (drop 1 text) ≡ fraction ++ behind
+    → 0 < length fraction → length behind < 1 → IsFraction text fraction
+fraction_is text fraction behind some point k more short =
+    let digits : take (length text - 1) (drop 1 text) ≡ fraction
+    = k ∙ ap (λ t. fraction ++ t) (nothing behind short) ∙ append-nil fraction in
+    inr (more, headed text some ∙ ap (λ c. c ∷ take (length text - 1) (drop 1 text)) point ∙ ap (λ t. 46 ∷ t) digits)
 
 -- ---- digits that are split off
 
@@ -70,19 +78,27 @@ plain_shortest text whole x p e =
           omega arith;
     }
 
--- behind them, a point and digits
-behind_digits : (ds : List ℕ) (point : ℕ) (after fraction behind : List ℕ) → AreDigits ds → point ∷ after ≡ fraction_text ds
-    → AllDigitBytes fraction → EndsDigits behind → after ≡ fraction ++ behind → (point ≡ 46) × (0 < length fraction) × (behind ≡ [])
-behind_digits [] point after fraction behind h e d y k = absurd cc
-behind_digits (n ∷ ds) point after fraction behind h e d y k =
-    let f : point ∷ after ≡ 46 ∷ text_of (n ∷ ds) = e in
-    let dot : point ≡ 46 = cc in
-    let digits : after ≡ text_of (n ∷ ds) = cc in
+-- A fraction is written behind them.
+pub fraction_form : (ds : List ℕ) → AreDigits ds → AllDigitBytes (text_of ds) × IsFraction (fraction_text ds) (text_of ds)
+fraction_form [] h = (λ k l. absurd (omega arith), inl (refl, refl))
+fraction_form (d ∷ ds) h =
+    let l : length (text_of (d ∷ ds)) ≡ length (d ∷ ds) = length-text_of (d ∷ ds) in
+    (λ k b. digit_byte_at (d ∷ ds) h k (omega arith), inr (omega arith, refl))
+
+-- So its text is divided into the point, all digits behind it, and nothing more.
+pub fraction_parts : (text f fraction behind : List ℕ) → AllDigitBytes f → IsFraction text f → 1 ≤ length text → AllDigitBytes fraction
+    → EndsDigits behind → take (length text - 1) (drop 1 text) ≡ fraction ++ behind
+    → (get_or text 0 0 ≡ 46) × (0 < length fraction) × (length behind ≡ 0)
+fraction_parts text f fraction behind d (inl (none, e)) some g z k = absurd (omega (arith, ap length e))
+fraction_parts text f fraction behind d (inr (more, e)) some g z k =
+    let a : AreDigits (digits_in f) × (text_of (digits_in f) ≡ f) = digits_back f d in
+    let rest : f ≡ fraction ++ behind
+    = sym (ap (λ t. take (length t - 1) (drop 1 t)) e ∙ take_all (length (46 ∷ f) - 1) f (omega arith)) ∙ k in
     let none : EndsDigits [] = λ l. absurd (omega arith) in
-    let r : (fraction ≡ text_of (n ∷ ds)) × (behind ≡ [])
-    = one_split (n ∷ ds) [] fraction behind h none d y (append-nil (text_of (n ∷ ds)) ∙ sym digits ∙ k) in
-    let l : length fraction ≡ suc (length (text_of ds)) = ap length r.0 in
-    (dot, omega arith, r.1)
+    let r : (fraction ≡ text_of (digits_in f)) × (behind ≡ [])
+    = one_split (digits_in f) [] fraction behind a.0 none g z (append-nil (text_of (digits_in f)) ∙ a.1 ∙ rest) in
+    let l : length fraction ≡ length f = ap length (r.0 ∙ a.1) in
+    (ap (λ t. get_or t 0 0) e, omega arith, ap length r.1)
 
 -- ---- the number that they write
 
@@ -126,21 +142,23 @@ writes_plain text w f p =
     subst (λ (t : List ℕ). WritesCompact t (plain_number w f)) (append-nil (text_of (digits_in w) ++ fraction_text (digits_in f)) ∙ sym p.form)
     (compact_again (plain_number w f) p.digits (omega arith))
 
--- Digits alone are such a text.
-pub digits_alone : (text w rest : List ℕ) → AllDigitBytes w → IsShortest w → text ≡ w ++ rest → length rest < 1 → IsPlain text (plain_number w rest)
-digits_alone text w rest d s e short =
-    let none : rest ≡ [] = nothing rest short in
-    plain_of_sides text w rest d (λ k l. absurd (omega arith)) s (inl (none, e ∙ ap (λ t. w ++ t) none ∙ append-nil w))
-
--- So are digits, a point and digits.
-pub digits_on_both_sides : (text w rest f behind : List ℕ) → AllDigitBytes w → IsShortest w → text ≡ w ++ rest → 1 ≤ length rest
-    → get_or rest 0 0 ≡ 46 → take (length rest - 1) (drop 1 rest) ≡ f ++ behind → AllDigitBytes f → 0 < length f → length behind < 1
+-- So do digits and a fraction behind them.
+pub plain_of_parts : (text w rest f : List ℕ) → AllDigitBytes w → AllDigitBytes f → IsShortest w → text ≡ w ++ rest → IsFraction rest f
     → IsPlain text (plain_number w f)
-digits_on_both_sides text w rest f behind d s e some point k g more short =
-    let none : behind ≡ [] = nothing behind short in
-    let digits : take (length rest - 1) (drop 1 rest) ≡ f = k ∙ ap (λ t. f ++ t) none ∙ append-nil f in
-    let r : rest ≡ 46 ∷ f = headed rest some ∙ ap (λ c. c ∷ take (length rest - 1) (drop 1 rest)) point ∙ ap (λ t. 46 ∷ t) digits in
-    plain_of_sides text w f d g s (inr (more, e ∙ ap (λ t. w ++ t) r))
+plain_of_parts text w rest f d g s e (inl (none, nothing_more)) =
+    plain_of_sides text w f d g s (inl (none, e ∙ ap (λ t. w ++ t) nothing_more ∙ append-nil w))
+plain_of_parts text w rest f d g s e (inr (more, behind)) =
+    plain_of_sides text w f d g s (inr (more, e ∙ ap (λ t. w ++ t) behind))
+
+-- Neither part is longer than the text.
+pub parts_fit : (text w rest f : List ℕ) → text ≡ w ++ rest → IsFraction rest f → length text ≤ 32767
+    → (length w ≤ 32767) × (length f ≤ 32767)
+parts_fit text w rest f e form short =
+    let l : length text ≡ length w + length rest = ap length e ∙ length-append w rest in
+    elim form [
+      | inl p ↦ (let n : length f ≡ 0 = ap length p.0 in (omega arith, omega arith))
+      | inr p ↦ (let n : length rest ≡ suc (length f) = ap length p.1 in (omega arith, omega arith))
+    ]
 
 -- Digits alone write a number without a fraction.
 pub integer : (text w rest : List ℕ) → AllDigitBytes w → IsShortest w → text ≡ w ++ rest → length rest < 1 → IsPlain text (plain_number w [])
@@ -174,18 +192,6 @@ integer_split text whole rest i d y e =
     let r : (whole ≡ text_of i.0.significand.absolute.whole) × (rest ≡ fraction_text i.0.significand.absolute.fraction)
     = split_plain text whole rest i.0 i.1 d y e in
     (ap length (r.1 ∙ ap fraction_text i.2), plain_shortest text whole i.0 i.1 r.0)
-
--- Otherwise a point and digits do, if anything does.
-pub fraction_split : (text whole rest fraction behind : List ℕ) (x : CompactNumber) → IsPlain text x → AllDigitBytes whole → EndsDigits rest
-    → text ≡ whole ++ rest → 1 ≤ length rest → AllDigitBytes fraction → EndsDigits behind → take (length rest - 1) (drop 1 rest) ≡ fraction ++ behind
-    → (get_or rest 0 0 ≡ 46) × (0 < length fraction) × (length behind ≡ 0)
-fraction_split text whole rest fraction behind x p d y e some g z k =
-    let r : (whole ≡ text_of x.significand.absolute.whole) × (rest ≡ fraction_text x.significand.absolute.fraction)
-    = split_plain text whole rest x p d y e in
-    let b : (get_or rest 0 0 ≡ 46) × (0 < length fraction) × (behind ≡ [])
-    = behind_digits x.significand.absolute.fraction (get_or rest 0 0) (take (length rest - 1) (drop 1 rest)) fraction behind p.digits.fraction
-    (sym (headed rest some) ∙ r.1) g z k in
-    (b.0, b.1, ap length b.2)
 
 -- what a test for no bytes tells
 pub is_none : (n : ℕ) (b : Bool) → b ≡ (n == 0) → b ≡ true → n < 1

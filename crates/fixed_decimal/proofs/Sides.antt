@@ -1,11 +1,11 @@
 -- The written digits by the bytes on the two sides of the point.
 use Rattle.std.proofs.Common.{◌≡◌, ◌≢◌, ℕ, zero, suc, ◌+◌, ◌-◌, ◌<◌, ◌≤◌, ◌⊎◌, inl, inr, max, min, List, [], ◌∷◌, ◌++◌, refl, sym, ◌∙◌}
-use Rattle.std.proofs.Common.{ap, length, take, drop, arith, get_or, length-append, length-drop}
+use Rattle.std.proofs.Common.{ap, subst, length, take, drop, arith, get_or, length-append, length-drop}
 use Rattle.std.proofs.lemmas.Bool.{cases_lt}
-use Rattle.std.proofs.lemmas.List.{get_or-append_right, get_or-take, get_or-drop, length-take-le, ext_get_or}
+use Rattle.std.proofs.lemmas.List.{get_or-append_right, get_or-take, get_or-drop, length-take, length-take-le, ext_get_or}
 use Rattle.std.proofs.Math.ListN.{get_or-append}
 use Rattle.fixed_decimal.specs.Places.{or_zero}
-use Rattle.fixed_decimal.specs.Inner.TextParts.{AllDigitBytes, digits_in, written_digits}
+use Rattle.fixed_decimal.specs.Inner.TextParts.{IsDigitByte, AllDigitBytes, digits_in, written_digits}
 use Rattle.fixed_decimal.proofs.Points.{length-digits_in}
 use Rattle.fixed_decimal.proofs.Making.{length-whole_digits, length-written}
 
@@ -15,6 +15,15 @@ digit_of_byte [] zero = refl
 digit_of_byte [] (suc k) = refl
 digit_of_byte (c ∷ cs) zero = refl
 digit_of_byte (c ∷ cs) (suc k) = digit_of_byte cs k
+
+-- A part of digits is digits.
+pub part_is_digits : (text : List ℕ) (a n : ℕ) → AllDigitBytes text → AllDigitBytes (take n (drop a text))
+part_is_digits text a n h k b =
+    let l : length (take n (drop a text)) ≡ min n (length (drop a text)) = length-take n (drop a text) in
+    let m : length (drop a text) ≡ length text - a = length-drop a text in
+    let e : get_or (take n (drop a text)) k 0 ≡ get_or text (a + k) 0
+    = get_or-take n (drop a text) k 0 (omega arith) ∙ get_or-drop a text k 0 in
+    subst IsDigitByte (sym e) (h (a + k) (omega arith))
 
 -- Before the point stand the digits of the first text.
 pub whole_digit : (whole fraction : List ℕ) (k : ℕ) → k < length whole

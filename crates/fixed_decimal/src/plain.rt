@@ -1,13 +1,13 @@
 //! Numbers that are written plainly.
 
-ghost use Rattle.std.specs.Prelude.{◌≡◌, ◌<◌, ◌≤◌, ◌↔◌, ◌++◌, length, IsSome, IsTrue, IfSome, IfNone};
+ghost use Rattle.std.specs.Prelude.{◌≡◌, ◌<◌, ◌≤◌, ◌↔◌, ℕ, List, ◌++◌, length, IsSome, IsTrue, IfSome, IfNone};
 ghost use Rattle.std.specs.List.{list_all};
 ghost use Rattle.fixed_decimal.specs.Places.{IsWithinLimit, most_places};
 ghost use Rattle.fixed_decimal.specs.Written.{CompactNumber, WritesCompact};
 ghost use Rattle.fixed_decimal.specs.PlainNumbers.{IsPlain, IsPlainInteger};
 ghost use Rattle.fixed_decimal.specs.SameValue.{EqualsWritten};
 ghost use Rattle.fixed_decimal.specs.Inner.TextParts.{AllDigitBytes};
-ghost use Rattle.fixed_decimal.specs.Inner.PlainSides.{is_zero, IsShortest, EndsDigits};
+ghost use Rattle.fixed_decimal.specs.Inner.PlainSides.{is_zero, IsShortest, IsFraction, EndsDigits};
 
 use crate::digits::{MOST_PLACES, run_end};
 use std::marker::Model;
@@ -49,16 +49,7 @@ impl<'s> PlainNumber<'s> {
         if !is_shortest(whole) {
             return None;
         }
-        let [point, after @ ..] = rest else {
-            return Some(PlainNumber {
-                whole,
-                fraction: rest,
-            });
-        };
-        let (fraction, behind) = split_digits(after);
-        if *point != b'.' || fraction.is_empty() || !behind.is_empty() {
-            return None;
-        }
+        let fraction = fraction_of(rest)?;
         Some(PlainNumber { whole, fraction })
     }
 
@@ -75,6 +66,23 @@ impl<'s> PlainNumber<'s> {
         }
         Some(self.whole == number && are_zeros(self.fraction))
     }
+}
+
+// The digits of a fraction, behind its point, and none if nothing is written.
+#[inline(always)]
+fn fraction_of(text: &[u8]) -> Option<&[u8]>
+    ensures digits { IfSome result (λ f. AllDigitBytes f.now) }
+    ensures form { IfSome result (λ f. IsFraction text.now f.now) }
+    ensures none { IfNone result ((f : List ℕ) → AllDigitBytes f → ¬ (IsFraction text.now f)) }
+{
+    let [point, after @ ..] = text else {
+        return Some(text);
+    };
+    let (fraction, behind) = split_digits(after);
+    if *point != b'.' || fraction.is_empty() || !behind.is_empty() {
+        return None;
+    }
+    Some(fraction)
 }
 
 // The digits at the front, as many as there are, and the rest.

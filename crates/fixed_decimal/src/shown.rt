@@ -4,7 +4,8 @@ ghost use Rattle.std.specs.Prelude.{◌≡◌, ◌≢◌, ◌+◌, ◌≤◌, �
 ghost use Rattle.std.specs.Fmt.{DisplaysOnOk};
 ghost use Rattle.fixed_decimal.specs.Digits.{text_of};
 ghost use Rattle.fixed_decimal.specs.Places.{IsWritten};
-ghost use Rattle.fixed_decimal.specs.Shown.{exponent_text};
+ghost use Rattle.fixed_decimal.specs.Shown.{fraction_text, exponent_text};
+ghost use Rattle.fixed_decimal.specs.Written.{sign_text};
 
 use crate::{CompactDecimal, Decimal, Sign, UnsignedDecimal};
 use std::fmt;
@@ -18,13 +19,9 @@ impl fmt::Display for UnsignedDecimal {
     ghost output = { λ number. Some (unsigned_text number) };
 
     fn fmt<W: fmt::Write>(&self, f: &mut fmt::Formatter<W>) -> fmt::Result {
-        let (whole, fraction) = self.written_places();
+        let (whole, _) = self.written_places();
         write_digits(self, 0, whole, f)?;
-        if fraction > 0 {
-            f.write_str(".")?;
-            write_digits(self, whole, fraction, f)?;
-        }
-        Ok(())
+        write_fraction(self, f)
     }
 }
 
@@ -37,11 +34,7 @@ impl fmt::Display for Decimal {
     ghost output = { λ number. Some (decimal_text number) };
 
     fn fmt<W: fmt::Write>(&self, f: &mut fmt::Formatter<W>) -> fmt::Result {
-        f.write_str(match self.sign {
-            Sign::None => "",
-            Sign::Negative => "-",
-            Sign::Positive => "+",
-        })?;
+        write_sign(self.sign, f)?;
         write!(f, "{}", self.absolute)
     }
 }
@@ -58,6 +51,30 @@ impl fmt::Display for CompactDecimal {
         write!(f, "{}", self.significand())?;
         write_exponent(self.exponent(), f)
     }
+}
+
+// Prints the sign that is written.
+fn write_sign<W: fmt::Write>(sign: Sign, f: &mut fmt::Formatter<W>) -> fmt::Result
+    ensures { DisplaysOnOk W.write_str_gives f.old result (Some (sign_text sign)) f.new }
+{
+    f.write_str(match sign {
+        Sign::None => "",
+        Sign::Negative => "-",
+        Sign::Positive => "+",
+    })
+}
+
+// Prints the point and the fraction digits, if there are any.
+fn write_fraction<W: fmt::Write>(number: &UnsignedDecimal, f: &mut fmt::Formatter<W>) -> fmt::Result
+    ensures { DisplaysOnOk W.write_str_gives f.old result
+        (Some (fraction_text number.now.fraction)) f.new }
+{
+    let (whole, fraction) = number.written_places();
+    if fraction == 0 {
+        return Ok(());
+    }
+    f.write_str(".")?;
+    write_digits(number, whole, fraction, f)
 }
 
 // Prints the digits of so many places from an index on.

@@ -15,7 +15,7 @@ use crate::rounding::{RoundingMode, leave_rounded, rounded_end, rounded_places};
 use crate::span::{INLINE_DIGITS, digits_between, end_before_zeros, zeros_before};
 use itoa::Buffer;
 use smallvec::SmallVec;
-use std::alloc::{AllocError, Global};
+use std::alloc::Global;
 use std::marker::Model;
 
 /// A written number without a sign: its integer digits, at least one, and its fraction digits. All
@@ -73,7 +73,7 @@ impl UnsignedDecimal {
     {
         let digits = text.as_bytes();
         let point = point_within(digits)?;
-        Ok(UnsignedDecimal::from_point(alloc, digits, point)?)
+        UnsignedDecimal::from_point(alloc, digits, point)
     }
 
     /// Returns the number without leading zeros, and 0 as one digit; it has no fraction. `Memory`
@@ -84,7 +84,7 @@ impl UnsignedDecimal {
     {
         let mut buffer = Buffer::new();
         let digits = buffer.format(number).as_bytes();
-        Ok(UnsignedDecimal::from_digits(alloc, digits, &[])?)
+        UnsignedDecimal::from_digits(alloc, digits, &[])
     }
 
     /// Returns the number as [`UnsignedDecimal::from_u128`] does.
@@ -102,13 +102,14 @@ impl UnsignedDecimal {
         alloc: Global,
         whole: &[u8],
         fraction: &[u8],
-    ) -> Result<UnsignedDecimal, AllocError>
+    ) -> Result<UnsignedDecimal, DecimalError>
         requires whole { AllDigitBytes whole.now }
         requires fraction { AllDigitBytes fraction.now }
         requires whole_within { length whole.now ≤ MOST_PLACES }
         requires fraction_within { length fraction.now ≤ MOST_PLACES }
         ensures places { IfOk result (λ x. x ≡ places_of_sides whole.now fraction.now) }
         ensures inline { length whole.now + length fraction.now ≤ INLINE_DIGITS → IsOk result }
+        ensures only_memory { IfErr result (λ e. e ≡ DecimalError.Memory) }
     {
         let whole_places = whole.len().max(1);
         let from = zeros_before(whole, fraction);
@@ -127,10 +128,11 @@ impl UnsignedDecimal {
         alloc: Global,
         text: &[u8],
         point: usize,
-    ) -> Result<UnsignedDecimal, AllocError>
+    ) -> Result<UnsignedDecimal, DecimalError>
         requires { HasPointWithin text.now point }
         ensures places { IfOk result (λ x. x ≡ places_around text.now point) }
         ensures inline { length text.now ≤ INLINE_DIGITS → IsOk result }
+        ensures only_memory { IfErr result (λ e. e ≡ DecimalError.Memory) }
     {
         let (whole, rest) = text.split_at(point);
         let fraction = &rest[rest.len().min(1)..];

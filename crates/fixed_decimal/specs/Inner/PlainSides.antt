@@ -1,5 +1,5 @@
 -- Not a definition of the subject: the digits of a plain number as they stand in its text.
-use Rattle.std.specs.Prelude.{◌≡◌, ◌<◌, ◌≤◌, ℕ, Bool, List, nat_eq, length, slice_index}
+use Rattle.std.specs.Prelude.{◌≡◌, ◌<◌, ◌≤◌, ◌⊎◌, ℕ, Bool, List, [], ◌∷◌, nat_eq, length, slice_index}
 use Rattle.fixed_decimal.specs.Places.{most_places}
 use Rattle.fixed_decimal.specs.Written.{CompactNumber}
 use Rattle.fixed_decimal.specs.Inner.TextParts.{IsDigitByte, AllDigitBytes, digits_in}
@@ -13,6 +13,10 @@ is_zero b = nat_eq b 48
 pub record IsShortest (text : List ℕ) : Type 0 where
   pub nonempty : 0 < length text
   pub shortest : slice_index text 0 ≡ 48 → length text ≡ 1
+
+-- nothing, or a point, which is 46, and digits
+abbrev pub IsFraction : List ℕ → List ℕ → Type 0
+IsFraction text digits = ((digits ≡ []) × (text ≡ [])) ⊎ ((0 < length digits) × (text ≡ 46 ∷ digits))
 
 -- no digit is at the front
 abbrev pub EndsDigits : List ℕ → Type 0

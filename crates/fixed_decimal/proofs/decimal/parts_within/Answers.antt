@@ -2,7 +2,7 @@ use Rattle.std.proofs.Common.{◌≡◌, Err, ◌∙◌, ap}
 use Rattle.std.proofs.lemmas.Result.{err_from_is_err_and}
 use Rattle.fixed_decimal.specs.declared.error.DecimalError.TheVariants.{Syntax, Limit}
 use Rattle.fixed_decimal.proofs.Signs.{none_signed, none_unsigned, over_signed, over_unsigned}
-use Rattle.fixed_decimal.proofs.Refusals.{carried, no_cause}
+use Rattle.fixed_decimal.proofs.Refusals.{carried, no_cause, accepted}
 use Rattle.fixed_decimal.proofs.decimal.parts_within.Goals as goal
 use Rattle.fixed_decimal.proofs.decimal.parts_within.Goals.{After-from_residual}
 
@@ -31,19 +31,15 @@ returns-in_err-point-clause-limit c =
 pub returns-clause-syntax : goal.returns-clause-syntax
 returns-clause-syntax c =
     let text = c.args.text.now in
-    let s = c.split_sign-sign in (
-      λ e. absurd (cc e),
-      λ none.
-          absurd (no_cause c.point_within.result c.in_ok-point.point Syntax c.in_ok-point.was c.point_within.ensures.syntax
-          (none_unsigned text s.result.0 s.result.1.now s.ensures.form s.ensures.only none)),
-    )
+    let s = c.split_sign-sign in
+    accepted _ Syntax (λ none.
+    no_cause c.point_within.result c.in_ok-point.point Syntax c.in_ok-point.was c.point_within.ensures.syntax
+    (none_unsigned text s.result.0 s.result.1.now s.ensures.form s.ensures.only none))
 
 pub returns-clause-limit : goal.returns-clause-limit
 returns-clause-limit c =
     let text = c.args.text.now in
-    let s = c.split_sign-sign in (
-      λ e. absurd (cc e),
-      λ over.
-          absurd (no_cause c.point_within.result c.in_ok-point.point Limit c.in_ok-point.was c.point_within.ensures.limit
-          (over_unsigned text s.result.0 s.result.1.now s.ensures.form s.ensures.only over)),
-    )
+    let s = c.split_sign-sign in
+    accepted _ Limit (λ over.
+    no_cause c.point_within.result c.in_ok-point.point Limit c.in_ok-point.was c.point_within.ensures.limit
+    (over_unsigned text s.result.0 s.result.1.now s.ensures.form s.ensures.only over))

@@ -1,13 +1,14 @@
-use Rattle.std.proofs.Common.{◌≡◌, ◌∙◌, Err, sym, ap, subst, refl, arith}
+use Rattle.std.proofs.Common.{◌≡◌, ◌≢◌, true, false, ◌+◌, ◌≤◌, ◌∙◌, ℕ, List, ◌++◌, length, length-append, Err, sym, ap, subst, refl, arith}
 use Rattle.std.proofs.lemmas.Result.{err_from_is_err_and}
-use Rattle.fixed_decimal.specs.Written.{WritesUnsigned, WritesDecimal, HasExponent, WritesCompact, IsCompactOverLimit, CompactNumber}
+use Rattle.fixed_decimal.specs.Written.{sign_text, WritesUnsigned, WritesDecimal, HasExponent, WritesCompact, IsCompactOverLimit, CompactNumber}
 use Rattle.fixed_decimal.specs.Places.{IsWithinLimit}
 use Rattle.fixed_decimal.specs.Inner.TextParts.{places_around}
 use Rattle.fixed_decimal.specs.declared.decimal.Decimal.{Decimal}
-use Rattle.fixed_decimal.specs.declared.error.DecimalError.TheVariants.{Syntax, Limit}
+use Rattle.fixed_decimal.specs.declared.error.DecimalError.TheVariants.{Syntax, Limit, Memory}
 use Rattle.fixed_decimal.proofs.Points.{reads_at}
 use Rattle.fixed_decimal.proofs.Exponents.{none_compact, none_decimal, over_compact, known_decimal, long_exponent, within_compact}
-use Rattle.fixed_decimal.proofs.Refusals.{carried, no_cause, memory_alone, limit_alone}
+use Rattle.fixed_decimal.proofs.Refusals.{carried, no_cause, accepted, refused_otherwise, limit_alone, no_memory}
+use Rattle.fixed_decimal.proofs.Refusals.{syntax_is_not_limit, limit_is_not_syntax, memory_is_not_syntax, memory_is_not_limit}
 use Rattle.fixed_decimal.proofs.compact.CompactDecimal.from_str.Goals as goal
 use Rattle.fixed_decimal.proofs.compact.CompactDecimal.from_str.Goals.{In_default, In_ok-sign, In-Ok}
 
@@ -19,8 +20,9 @@ pub returns-in_default-clause-syntax : goal.returns-in_default-clause-syntax
 returns-in_default-clause-syntax c = (λ e. no_number (goal.at.returns-in_default-clause-syntax c).In_default, λ none. refl)
 
 pub returns-in_default-clause-limit : goal.returns-in_default-clause-limit
-returns-in_default-clause-limit c
-    = (λ e. absurd (cc e), λ p. absurd (no_number (goal.at.returns-in_default-clause-limit c).In_default p.0 p.1))
+returns-in_default-clause-limit c =
+    refused_otherwise _ Syntax Limit refl syntax_is_not_limit
+    (λ p. no_number (goal.at.returns-in_default-clause-limit c).In_default p.0 p.1)
 
 pub returns-in_err-sign-clause-syntax : goal.returns-in_err-sign-clause-syntax
 returns-in_err-sign-clause-syntax c =
@@ -70,8 +72,9 @@ within c =
     (c.in_ok-sign.sign, c.in_ok-sign.digits, c.in_ok-sign.point) Limit c.in_ok-sign.was c.parts_within.ensures.limit) (omega arith)
 
 pub returns-in_default-try_from-clause-syntax : goal.returns-in_default-try_from-clause-syntax
-returns-in_default-try_from-clause-syntax c
-    = (λ e. absurd (cc e), λ none. absurd (formed (goal.at.returns-in_default-try_from-clause-syntax c).In_ok-sign none))
+returns-in_default-try_from-clause-syntax c =
+    refused_otherwise _ Limit Syntax refl limit_is_not_syntax
+    (formed (goal.at.returns-in_default-try_from-clause-syntax c).In_ok-sign)
 
 pub returns-in_default-try_from-clause-limit : goal.returns-in_default-try_from-clause-limit
 returns-in_default-try_from-clause-limit c =
@@ -85,14 +88,14 @@ returns-in_default-try_from-clause-limit c =
 pub returns-in_err-absolute-clause-syntax : goal.returns-in_err-absolute-clause-syntax
 returns-in_err-absolute-clause-syntax c =
     let p = err_from_is_err_and c.from_residual-in_err-absolute.result c.from_residual-in_err-absolute.ensures.1 in
-    memory_alone c.from_residual-in_err-absolute.result Syntax (p.1
-    ∙ ap Err p.2) (λ e. absurd cc) (formed (goal.at.returns-in_err-absolute-clause-syntax c).In_ok-sign)
+    refused_otherwise c.from_residual-in_err-absolute.result Memory Syntax (p.1
+    ∙ ap Err (p.2 ∙ c.in_err-absolute.ensures.only_memory)) memory_is_not_syntax (formed (goal.at.returns-in_err-absolute-clause-syntax c).In_ok-sign)
 
 pub returns-in_err-absolute-clause-limit : goal.returns-in_err-absolute-clause-limit
 returns-in_err-absolute-clause-limit c =
     let p = err_from_is_err_and c.from_residual-in_err-absolute.result c.from_residual-in_err-absolute.ensures.1 in
-    memory_alone c.from_residual-in_err-absolute.result Limit (p.1
-    ∙ ap Err p.2) (λ e. absurd cc) (within (goal.at.returns-in_err-absolute-clause-limit c).In-Ok)
+    refused_otherwise c.from_residual-in_err-absolute.result Memory Limit (p.1
+    ∙ ap Err (p.2 ∙ c.in_err-absolute.ensures.only_memory)) memory_is_not_limit (within (goal.at.returns-in_err-absolute-clause-limit c).In-Ok)
 
 pub returns-clause-number : goal.returns-clause-number
 returns-clause-number c =
@@ -115,7 +118,31 @@ returns-clause-number c =
     )
 
 pub returns-clause-syntax : goal.returns-clause-syntax
-returns-clause-syntax c = (λ e. absurd (cc e), λ none. absurd (formed (goal.at.returns-clause-syntax c).In_ok-sign none))
+returns-clause-syntax c = accepted _ Syntax (formed (goal.at.returns-clause-syntax c).In_ok-sign)
 
 pub returns-clause-limit : goal.returns-clause-limit
-returns-clause-limit c = (λ e. absurd (cc e), λ p. absurd (within (goal.at.returns-clause-limit c).In-Ok p))
+returns-clause-limit c = accepted _ Limit (within (goal.at.returns-clause-limit c).In-Ok)
+
+-- the digits are no longer than the text
+no_longer : (text bytes front rest sign digits : List ℕ) → bytes ≡ text → bytes ≡ front ++ rest → front ≡ sign ++ digits
+    → length text ≤ 16 → length digits ≤ 16
+no_longer text bytes front rest sign digits same parts signed short =
+    let t : length text ≡ length front + length rest = ap length (sym same ∙ parts) ∙ length-append front rest in
+    let f : length front ≡ length sign + length digits = ap length signed ∙ length-append sign digits in
+    omega arith
+
+untrue : false ≢ true
+untrue e = cc
+
+pub returns-in_err-absolute-clause-inline : goal.returns-in_err-absolute-clause-inline
+returns-in_err-absolute-clause-inline c short e =
+    let f = c.in-Some.ensures.found in
+    untrue (c.in_err-absolute.ensures.inline
+    (no_longer c.args.text.now c.as_bytes.result.now c.in-Some.front.now f.0 (sign_text c.in_ok-sign.sign) c.in_ok-sign.digits.now
+    c.as_bytes.ensures.value f.2 c.in_ok-sign.ensures.parts.0 short))
+
+pub returns-in_err-sign-clause-inline : goal.returns-in_err-sign-clause-inline
+returns-in_err-sign-clause-inline c short e =
+    let p = err_from_is_err_and c.from_residual.result c.from_residual.ensures.1 in
+    no_memory c.parts_within.result c.from_residual.result c.in_err-sign.field-0.0 c.in_err-sign.was (p.1
+    ∙ ap Err p.2) c.parts_within.ensures.no_memory e

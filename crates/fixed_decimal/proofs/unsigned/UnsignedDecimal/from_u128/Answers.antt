@@ -1,4 +1,5 @@
 use Rattle.std.proofs.Common.{◌≡◌, ◌<◌, ◌^◌, ◌∙◌, ℕ, List, [], refl, sym, ap, subst, arith}
+use Rattle.std.proofs.lemmas.Result.{IfOk-weaker}
 use Rattle.std.specs.Fmt.{decimal}
 use Rattle.fixed_decimal.specs.Digits.{IsNumeral}
 use Rattle.fixed_decimal.specs.Places.{Places}
@@ -20,10 +21,9 @@ from_digits-requires-clause-whole c =
 pub returns-clause-digits : goal.returns-clause-digits
 returns-clause-digits c =
     let small : c.args.number < 10 ^ 64 = omega arith in
-    let x = c.in_ok-from_digits.field-0 in
-    let made : x ≡ places_of_sides (decimal c.args.number) []
-    =
-    c.in_ok-from_digits.ensures.places
-    ∙ ap (λ (t : List ℕ). places_of_sides t []) (bytes (goal.at.returns-clause-digits c).After-as_bytes-digits)
-    in
-    subst (λ (y : Places). IsNumeral y.whole c.args.number × (y.fraction ≡ [])) (sym made) (decimal_numeral c.args.number small, refl)
+    let text = bytes (goal.at.returns-clause-digits c).After-as_bytes-digits in
+    IfOk-weaker c.from_digits.result (λ x. x ≡ places_of_sides c.as_bytes-digits.result.now [])
+    (λ x. IsNumeral x.whole c.args.number × (x.fraction ≡ []))
+    (λ x made. subst (λ (y : Places). IsNumeral y.whole c.args.number × (y.fraction ≡ []))
+    (sym (made ∙ ap (λ (t : List ℕ). places_of_sides t []) text))
+    (decimal_numeral c.args.number small, refl)) c.from_digits.ensures.places

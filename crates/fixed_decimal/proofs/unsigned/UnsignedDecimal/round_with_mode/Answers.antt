@@ -1,10 +1,12 @@
-use Rattle.std.proofs.Common.{◌≡◌, ◌-◌, ◌+◌, ◌<◌, refl, sym, ap, subst, max, arith}
+use Rattle.std.proofs.Common.{◌≡◌, ◌-◌, ◌+◌, ◌<◌, refl, sym, subst, max, arith}
 use Rattle.std.proofs.lemmas.Int.{to_z-of_z}
 use Rattle.fixed_decimal.specs.Places.{Places, IsOverLimit}
 use Rattle.fixed_decimal.specs.FractionEnds.{places_down_to}
 use Rattle.fixed_decimal.specs.Rounding.{IsRounded, zeros_below}
 use Rattle.fixed_decimal.specs.Inner.UnsignedInside.{places_of}
 use Rattle.fixed_decimal.specs.declared.unsigned.UnsignedDecimal.TheInside.{Inside}
+use Rattle.fixed_decimal.specs.declared.error.DecimalError.TheVariants.{Limit}
+use Rattle.fixed_decimal.proofs.Refusals.{accepted}
 use Rattle.fixed_decimal.proofs.RoundedInside.{IsPlan, plan_of, whole_of, rounded_over, raises_digit, rounded_stored, rounded_view, rounded_within}
 use Rattle.fixed_decimal.proofs.unsigned.UnsignedDecimal.round_with_mode.Goals as goal
 use Rattle.fixed_decimal.proofs.unsigned.UnsignedDecimal.round_with_mode.Goals.{After-max}
@@ -75,9 +77,8 @@ returns-clause-limit c =
       fraction_places = c.places_down_to-fraction.result;
       leading_zeros = c.max-whole.result + c.places_down_to-fraction.result - c.rounded_places-places.result;
       span = c.leave_rounded.new.digits;
-    } in (
-      λ never. absurd (cc never),
-      λ some. absurd (rounded_within c.self.inside c.args.position c.args.mode _ _ _ _ _ c.self.invariant (plan b) after
-          (omega arith) e (omega arith) c.leave_rounded.ensures (omega arith) some.0
-          (subst (λ (y : Places). IsRounded c.args.mode c.args.position y some.0) (sym c.self.view_is) some.1) some.2),
-    )
+    } in
+    accepted _ Limit (λ some.
+    rounded_within c.self.inside c.args.position c.args.mode _ _ _ _ _ c.self.invariant (plan b) after
+    (omega arith) e (omega arith) c.leave_rounded.ensures (omega arith) some.0
+    (subst (λ (y : Places). IsRounded c.args.mode c.args.position y some.0) (sym c.self.view_is) some.1) some.2)
