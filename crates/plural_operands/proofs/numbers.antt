@@ -8,3 +8,4 @@ pub mod OperandTexts
 pub mod ShortReading
 pub mod Shifts
 pub mod NamedOnce
+pub mod Refusals

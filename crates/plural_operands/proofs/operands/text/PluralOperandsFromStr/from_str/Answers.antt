@@ -3,8 +3,16 @@ use Rattle.std.proofs.lemmas.Bool.{eqb-false}
 use Rattle.plural_operands.specs.Operands.{Operands}
 use Rattle.plural_operands.specs.OperandText.{WritesUnsignedOperands}
 use Rattle.plural_operands.specs.Inner.OperandReader.{without_sign}
-use Rattle.plural_operands.proofs.numbers.OperandTexts.{not_named}
+use Rattle.plural_operands.proofs.numbers.OperandTexts.{not_named, unsigned_named}
 use Rattle.plural_operands.proofs.operands.text.PluralOperandsFromStr.from_str.Goals as goal
+
+pub returns-in-Some : goal.returns-in-Some
+returns-in-Some c =
+    let text = c.args.text.now in
+    let o = c.in-Some.operands in
+    let unsigned : c.behind_sign.result.now ≡ without_sign 45 text
+    = c.behind_sign.ensures ∙ ap (without_sign 45) c.as_bytes-text.ensures.value in
+    unsigned_named text o (subst (λ (l : List ℕ). WritesUnsignedOperands l o) unsigned c.in-Some.ensures)
 
 pub returns-in-None : goal.returns-in-None
 returns-in-None c =
