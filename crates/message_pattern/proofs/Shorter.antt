@@ -9,13 +9,20 @@ use Rattle.message_pattern.specs.declared.part.ArgumentKind.{ArgumentKind}
 use Rattle.message_pattern.specs.declared.part.ArgumentKind.TheVariants.{Plural, Ordinal, Select}
 use Rattle.message_pattern.specs.declared.text.Context.{Context}
 use Rattle.message_pattern.specs.PatternBytes.{apostrophe, hash, opening, closing, behind_run, skip, white_width, after_white, after_word}
-use Rattle.message_pattern.specs.PatternText.{Front, Closes, Opens, Takes, takes_text, front, is_nested, is_counted, is_quotable, apostrophe_front, quoted_apostrophe}
+use Rattle.message_pattern.specs.PatternText.{Front, End, Closes, Opens, Takes, takes_text, front, is_nested, is_counted, is_quotable, apostrophe_front, quoted_apostrophe}
 use Rattle.message_pattern.specs.PatternParts.{Selector, Exactly, Keyword, Hash}
 use Rattle.message_pattern.specs.PatternHeads.{Head, Plain, Choice, BranchFront}
 use Rattle.message_pattern.specs.PatternHeads as branch
 use Rattle.message_pattern.specs.PatternGrammar.{IsLongest, IsArgumentType, IsOffsetValue, IsOffset, IsSelector}
 use Rattle.message_pattern.specs.Inner.PatternViews.{IsShorter}
 use Rattle.message_pattern.proofs.GrammarHeads.{HeadIs, BranchIs}
+
+-- what is shorter than a text is shorter than a longer one
+pub shorter_too : (f : Front) (s t : List ℕ) → IsShorter f s → length s ≤ length t → IsShorter f t
+shorter_too End s t h le = tt
+shorter_too (Closes rest) s t h le = omega (arith, h)
+shorter_too (Opens rest) s t h le = omega (arith, h)
+shorter_too (Takes p quoted rest) s t h le = omega (arith, h)
 
 le_step : (v : Bool) (r s : List ℕ) (b : ℕ) → length r ≤ length s → length (if v then r else b ∷ s) ≤ length (b ∷ s)
 le_step true r s b h = omega (arith, h)

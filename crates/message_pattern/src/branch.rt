@@ -1,7 +1,8 @@
 //! What stands before a branch: its selector, or the end of the argument.
 
 ghost use Rattle.std.specs.Prelude.{◌≡◌, ◌∷◌, ◌≤◌, ◌<◌, IfOk, length};
-ghost use Rattle.message_pattern.specs.PatternHeads.{is_counting, is_fraction, is_unsigned, is_number, exact_front, keyword_front, selector_front, branch_opens, next_branch, branch_front, is_other};
+ghost use Rattle.message_pattern.specs.PatternBytes.{after_white};
+ghost use Rattle.message_pattern.specs.PatternHeads.{and_then, is_counting, is_fraction, is_unsigned, is_number, exact_front, keyword_front, selector_front, branch_opens, next_branch, branch_front, is_other};
 ghost use Rattle.message_pattern.specs.PatternParts.{selector_view};
 ghost use Rattle.message_pattern.specs.Inner.PatternViews.{seen, branch_view, IsBranchBehind};
 
@@ -106,13 +107,25 @@ fn branch_opens<'p>(selector: Selector<'p>, text: &'p [u8]) -> Result<BranchFron
     ensures branch { seen branch_view result ≡ branch_opens (selector_view selector.entry) text.now }
     ensures shorter { IfOk result (λ x. IsBranchBehind (branch_view x) text.now) }
 {
-    let [first, rest @ ..] = text else {
-        return Err(unclosed());
-    };
-    if *first != b'{' {
-        return Err(fault_at(FaultKind::ExpectedBranch, text));
+    match text {
+        [first, rest @ ..] if *first == b'{' => Ok(BranchFront::Opens(selector, rest)),
+        _ => Err(missing(FaultKind::ExpectedBranch, text)),
     }
-    Ok(BranchFront::Opens(selector, rest))
+}
+
+// The selector in front of the text, and the brace of its branch.
+fn selected_branch<'p>(
+    kind: ArgumentKind,
+    text: &'p [u8],
+    first: u8,
+    rest: &'p [u8],
+) -> Result<BranchFront<'p>, Fault>
+    requires { text.now ≡ first ∷ rest.now }
+    ensures branch { seen branch_view result ≡ and_then (selector_front kind first rest.now) (λ x. branch_opens x.0 (after_white x.1)) }
+    ensures shorter { IfOk result (λ x. IsBranchBehind (branch_view x) text.now) }
+{
+    let (selector, after) = selector_front(kind, text, first, rest)?;
+    branch_opens(selector, after_white(after))
 }
 
 // The next branch in front of the text, or the end: a branch `other` has to stand before it.
@@ -124,13 +137,12 @@ fn next_branch(kind: ArgumentKind, has_other: bool, text: &[u8]) -> Result<Branc
         return Err(unclosed());
     };
     if *first != b'}' {
-        let (selector, after) = selector_front(kind, text, *first, rest)?;
-        return branch_opens(selector, after_white(after));
+        selected_branch(kind, text, *first, rest)
+    } else if has_other {
+        Ok(BranchFront::Closes(rest))
+    } else {
+        Err(fault_at(FaultKind::MissingOther, text))
     }
-    if !has_other {
-        return Err(fault_at(FaultKind::MissingOther, text));
-    }
-    Ok(BranchFront::Closes(rest))
 }
 
 // The next branch, or the end, in front of the text.

@@ -87,14 +87,14 @@ impl fmt::Display for PatternError {
 impl Error for PatternError {}
 
 // A fault, and how many bytes of the text are left where it is.
-#[derive(Clone, Copy, Debug)]
+#[derive(Clone, Copy)]
 pub(crate) struct Fault {
     pub(crate) kind: FaultKind,
     pub(crate) left: usize,
 }
 
 // Why a reading stops.
-#[derive(Clone, Copy, Debug)]
+#[derive(Clone, Copy)]
 pub(crate) enum ReadError {
     Fault(Fault),
     Memory,

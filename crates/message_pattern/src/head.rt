@@ -1,7 +1,8 @@
 //! The head of an argument: what stands between its brace and its end or its branches.
 
-ghost use Rattle.std.specs.Prelude.{◌≡◌, ◌∷◌, ◌≤◌, ◌<◌, IfOk, length};
-ghost use Rattle.message_pattern.specs.PatternHeads.{fault_at, unclosed, missing, is_bad_number, name_front, kind_named, style_front, kind_before, kind_front, digits_front, offset_front, choice_front, is_simple_type, text_before, simple_front, typed_front, behind_name, head_front};
+ghost use Rattle.std.specs.Prelude.{◌≡◌, ◌∷◌, ◌≤◌, ◌<◌, IfOk, false, length};
+ghost use Rattle.message_pattern.specs.PatternHeads.{fault_at, unclosed, missing, is_bad_number, name_front, kind_named, style_front, kind_before, kind_front, digits_front, offset_front, choice_front, is_simple_type, text_before, styled_front, simple_front, typed_front, behind_name, head_front};
+ghost use Rattle.message_pattern.specs.PatternStyles.{behind_style};
 ghost use Rattle.message_pattern.specs.Inner.PatternViews.{seen, head_view, digits_view};
 
 use crate::bytes::{Class, after_white, after_word, split_run};
@@ -101,13 +102,10 @@ fn style_front(kind: ArgumentKind, text: &[u8]) -> Result<(ArgumentKind, &[u8]),
     ensures style { seen (λ x. (x.0, x.1.now)) result ≡ style_front kind text.now }
     ensures shorter { IfOk result (λ x. length x.1.now ≤ length text.now) }
 {
-    let [first, rest @ ..] = text else {
-        return Err(unclosed());
-    };
-    if *first != b',' {
-        return Err(fault_at(FaultKind::ExpectedStyle, text));
+    match text {
+        [first, rest @ ..] if *first == b',' => Ok((kind, rest)),
+        _ => Err(missing(FaultKind::ExpectedStyle, text)),
     }
-    Ok((kind, rest))
 }
 
 // A type is in front of the text, which is followed by the rest.
@@ -189,25 +187,32 @@ fn text_before<'p>(text: &'p [u8], rest: &[u8]) -> &'p [u8]
     &text[..text.len() - rest.len() - 1]
 }
 
-// The end of an argument with a simple format, or its style, is in front of the text; the argument
-// is all from its name on.
-fn simple_front<'p>(argument: &'p [u8], text: &'p [u8]) -> Result<(Head<'p>, &'p [u8]), Fault>
+// The style in front of the text, with which the argument ends.
+fn styled_front<'p>(argument: &'p [u8], text: &'p [u8]) -> Result<(Head<'p>, &'p [u8]), Fault>
     requires { length text.now ≤ length argument.now }
-    ensures head { seen (λ x. (head_view x.0, x.1.now)) result ≡ simple_front argument.now text.now }
+    ensures head { seen (λ x. (head_view x.0, x.1.now)) result ≡ styled_front argument.now (behind_style 0 false text.now) }
     ensures shorter { IfOk result (λ x. length x.1.now ≤ length text.now) }
 {
-    let [first, after @ ..] = text else {
-        return Err(unclosed());
-    };
-    if *first == b'}' {
-        return Ok((Head::Plain(text_before(argument, after)), after));
-    }
-    if *first != b',' {
-        return Err(fault_at(FaultKind::ExpectedEnd, text));
-    }
-    match behind_style(after) {
+    match behind_style(text) {
         Some(rest) => Ok((Head::Plain(text_before(argument, rest)), rest)),
         None => Err(unclosed()),
+    }
+}
+
+// The end of an argument with a simple format, or its style, stands behind the type; the argument
+// is all from its name on.
+fn simple_front<'p>(argument: &'p [u8], behind: &'p [u8]) -> Result<(Head<'p>, &'p [u8]), Fault>
+    requires { length behind.now ≤ length argument.now }
+    ensures head { seen (λ x. (head_view x.0, x.1.now)) result ≡ simple_front argument.now behind.now }
+    ensures shorter { IfOk result (λ x. length x.1.now ≤ length behind.now) }
+{
+    let [first, after @ ..] = behind else {
+        return Err(unclosed());
+    };
+    match *first {
+        b'}' => Ok((Head::Plain(text_before(argument, after)), after)),
+        b',' => styled_front(argument, after),
+        _ => Err(fault_at(FaultKind::ExpectedEnd, behind)),
     }
 }
 
@@ -247,12 +252,10 @@ fn behind_name<'p>(
     let [first, rest @ ..] = text else {
         return Err(unclosed());
     };
-    if *first == b'}' {
-        Ok((Head::Plain(name), rest))
-    } else if *first == b',' {
-        typed_front(formats, argument, name, rest)
-    } else {
-        Err(fault_at(FaultKind::ExpectedEnd, text))
+    match *first {
+        b'}' => Ok((Head::Plain(name), rest)),
+        b',' => typed_front(formats, argument, name, rest),
+        _ => Err(fault_at(FaultKind::ExpectedEnd, text)),
     }
 }
 

@@ -3,8 +3,8 @@
 ghost use Rattle.std.specs.Prelude.{◌≡◌, ◌∷◌, [], ◌++◌, false, reverse, IfOk, OnOk};
 ghost use Rattle.message_pattern.specs.PatternBytes.{comma, opening, closing};
 ghost use Rattle.message_pattern.specs.PatternParts.{piece_view, offset_view, selector_view, parts_view};
-ghost use Rattle.message_pattern.specs.PatternPrinting.{end_of_quote, byte_text, text_text, quoted_behind, kind_text, offset_text, selector_text};
-ghost use Rattle.message_pattern.specs.Inner.PatternFold.{is_quoted, end_of_text, end_of_branch, piece_text, spot_behind, context_behind, outer_behind, fold};
+ghost use Rattle.message_pattern.specs.PatternPrinting.{byte_text, text_text, quoted_behind, kind_text, offset_text, selector_text};
+ghost use Rattle.message_pattern.specs.Inner.PatternFold.{is_quoted, end_of_text, end_of_branch, end_before, piece_text, spot_behind, context_behind, outer_behind, fold};
 
 use crate::part::{ArgumentKind, Part, Piece, Selector};
 use crate::text::Context;
@@ -29,6 +29,38 @@ impl Spot {
             Spot::Branches => false,
         }
     }
+
+    // What ends the text of a message.
+    fn end_of_text(self) -> &'static [u8]
+        ensures { result.now ≡ end_of_text self }
+    {
+        match self {
+            Spot::Message(true) => b"'",
+            Spot::Message(false) | Spot::Branches => b"",
+        }
+    }
+
+    // What ends a branch, if one stands there.
+    fn end_of_branch(self) -> &'static [u8]
+        ensures { result.now ≡ end_of_branch self }
+    {
+        match self {
+            Spot::Message(true) => b"'}",
+            Spot::Message(false) => b"}",
+            Spot::Branches => b"",
+        }
+    }
+
+    // What ends there before a piece: its text, or its branch.
+    fn end_before(self, piece: Piece<'_>) -> &'static [u8]
+        ensures { result.now ≡ end_before self (piece_view piece.entry) }
+    {
+        match piece {
+            Piece::Text(_) => b"",
+            Piece::Hash | Piece::Argument(_) | Piece::Begin(..) => self.end_of_text(),
+            Piece::Branch(_) | Piece::End => self.end_of_branch(),
+        }
+    }
 }
 
 // Adds bytes.
@@ -38,34 +70,21 @@ fn add(bytes: &[u8], text: &mut Vec<u8>) -> Result<(), AllocError>
     text.extend_from_slice(bytes)
 }
 
-// Ends quoted text.
-fn end_quote(quoted: bool, text: &mut Vec<u8>) -> Result<(), AllocError>
-    ensures { OnOk result (text.new.items ≡ text.old.items ++ end_of_quote quoted) }
+// Adds bytes, and others behind them.
+fn add_both(first: &[u8], second: &[u8], text: &mut Vec<u8>) -> Result<(), AllocError>
+    ensures { OnOk result (text.new.items ≡ text.old.items ++ (first.now ++ second.now)) }
 {
-    add(if quoted { b"'" } else { b"" }, text)
+    add(first, text)?;
+    add(second, text)
 }
 
-// Ends the text of a message.
-fn end_text(spot: Spot, text: &mut Vec<u8>) -> Result<(), AllocError>
-    ensures { OnOk result (text.new.items ≡ text.old.items ++ end_of_text spot) }
+// Adds a sign, behind which a message goes on.
+fn print_sign(sign: &[u8], text: &mut Vec<u8>) -> Result<Spot, AllocError>
+    ensures spot { IfOk result (λ behind. behind ≡ Spot.Message false) }
+    ensures text { OnOk result (text.new.items ≡ text.old.items ++ sign.now) }
 {
-    match spot {
-        Spot::Message(quoted) => end_quote(quoted, text),
-        Spot::Branches => add(b"", text),
-    }
-}
-
-// Ends a branch, if one stands there.
-fn end_branch(spot: Spot, text: &mut Vec<u8>) -> Result<(), AllocError>
-    ensures { OnOk result (text.new.items ≡ text.old.items ++ end_of_branch spot) }
-{
-    match spot {
-        Spot::Message(quoted) => {
-            end_quote(quoted, text)?;
-            add(b"}", text)
-        }
-        Spot::Branches => add(b"", text),
-    }
+    add(sign, text)?;
+    Ok(Spot::Message(false))
 }
 
 // Prints a byte of a text, and the apostrophe before it.
@@ -86,33 +105,33 @@ fn print_byte(
     }
 }
 
-// Prints a text. Returns whether what follows is quoted.
+// Prints a text.
 fn print_text(
     context: Context,
-    quoted: bool,
+    spot: Spot,
     bytes: &[u8],
     text: &mut Vec<u8>,
-) -> Result<bool, AllocError>
-    ensures quoted { IfOk result (λ behind. behind ≡ quoted_behind context quoted bytes.now) }
-    ensures text { OnOk result (text.new.items ≡ text.old.items ++ text_text context quoted bytes.now) }
+) -> Result<Spot, AllocError>
+    ensures spot { IfOk result (λ behind. behind ≡ Spot.Message (quoted_behind context (is_quoted spot) bytes.now)) }
+    ensures text { OnOk result (text.new.items ≡ text.old.items ++ text_text context (is_quoted spot) bytes.now) }
 {
-    let mut behind = quoted;
+    let mut quoted = spot.is_quoted();
     let mut rest = bytes;
     while let [byte, after @ ..] = rest {
-        print_byte(context, behind, *byte, text)?;
-        behind = behind || context.is_quotable(*byte);
+        print_byte(context, quoted, *byte, text)?;
+        quoted = quoted || context.is_quotable(*byte);
         rest = after;
     }
-    Ok(behind)
+    Ok(Spot::Message(quoted))
 }
 
 // Prints an argument that is shown as it is.
-fn print_argument(name: &[u8], text: &mut Vec<u8>) -> Result<(), AllocError>
-    ensures { OnOk result (text.new.items ≡ text.old.items ++ opening ∷ (name.now ++ closing ∷ [])) }
+fn print_argument(name: &[u8], text: &mut Vec<u8>) -> Result<Spot, AllocError>
+    ensures spot { IfOk result (λ behind. behind ≡ Spot.Message false) }
+    ensures text { OnOk result (text.new.items ≡ text.old.items ++ opening ∷ (name.now ++ closing ∷ [])) }
 {
-    add(b"{", text)?;
-    add(name, text)?;
-    add(b"}", text)
+    add_both(b"{", name, text)?;
+    print_sign(b"}", text)
 }
 
 impl ArgumentKind {
@@ -128,17 +147,15 @@ impl ArgumentKind {
     }
 }
 
-// Prints an offset, if there is one.
-fn print_offset(offset: Option<&[u8]>, text: &mut Vec<u8>) -> Result<(), AllocError>
-    ensures { OnOk result (text.new.items ≡ text.old.items ++ offset_text (offset_view offset.entry)) }
+// Prints an offset, if there is one, behind which the branches stand.
+fn print_offset(offset: Option<&[u8]>, text: &mut Vec<u8>) -> Result<Spot, AllocError>
+    ensures spot { IfOk result (λ behind. behind ≡ Spot.Branches) }
+    ensures text { OnOk result (text.new.items ≡ text.old.items ++ offset_text (offset_view offset.entry)) }
 {
-    match offset {
-        Some(digits) => {
-            add(b" offset:", text)?;
-            add(digits, text)
-        }
-        None => add(b"", text),
+    if let Some(digits) = offset {
+        add_both(b" offset:", digits, text)?;
     }
+    Ok(Spot::Branches)
 }
 
 // Prints the head of an argument that chooses.
@@ -147,36 +164,33 @@ fn print_head(
     name: &[u8],
     offset: Option<&[u8]>,
     text: &mut Vec<u8>,
-) -> Result<(), AllocError>
-    ensures { OnOk result (text.new.items ≡ text.old.items ++ opening ∷ (name.now ++ comma ∷ (kind_text kind ++ offset_text (offset_view offset.entry)))) }
+) -> Result<Spot, AllocError>
+    ensures spot { IfOk result (λ behind. behind ≡ Spot.Branches) }
+    ensures text { OnOk result (text.new.items ≡ text.old.items ++ opening ∷ (name.now ++ comma ∷ (kind_text kind ++ offset_text (offset_view offset.entry)))) }
 {
-    add(b"{", text)?;
-    add(name, text)?;
-    add(b",", text)?;
-    add(kind.text(), text)?;
+    add_both(b"{", name, text)?;
+    add_both(b",", kind.text(), text)?;
     print_offset(offset, text)
 }
 
-// Prints a selector.
-fn print_selector(selector: Selector<'_>, text: &mut Vec<u8>) -> Result<(), AllocError>
-    ensures { OnOk result (text.new.items ≡ text.old.items ++ selector_text (selector_view selector.entry)) }
+// Prints a selector behind its front, and the brace that begins its branch.
+fn print_opening(front: &[u8], selector: &[u8], text: &mut Vec<u8>) -> Result<Spot, AllocError>
+    ensures spot { IfOk result (λ behind. behind ≡ Spot.Message false) }
+    ensures text { OnOk result (text.new.items ≡ text.old.items ++ (front.now ++ (selector.now ++ 32 ∷ opening ∷ []))) }
 {
-    match selector {
-        Selector::Exactly(number) => {
-            add(b"=", text)?;
-            add(number, text)
-        }
-        Selector::Keyword(word) => add(word, text),
-    }
+    add_both(front, selector, text)?;
+    print_sign(b" {", text)
 }
 
 // Prints what stands before a branch.
-fn print_front(selector: Selector<'_>, text: &mut Vec<u8>) -> Result<(), AllocError>
-    ensures { OnOk result (text.new.items ≡ text.old.items ++ 32 ∷ (selector_text (selector_view selector.entry) ++ 32 ∷ opening ∷ [])) }
+fn print_front(selector: Selector<'_>, text: &mut Vec<u8>) -> Result<Spot, AllocError>
+    ensures spot { IfOk result (λ behind. behind ≡ Spot.Message false) }
+    ensures text { OnOk result (text.new.items ≡ text.old.items ++ 32 ∷ (selector_text (selector_view selector.entry) ++ 32 ∷ opening ∷ [])) }
 {
-    add(b" ", text)?;
-    print_selector(selector, text)?;
-    add(b" {", text)
+    match selector {
+        Selector::Exactly(number) => print_opening(b" =", number, text),
+        Selector::Keyword(word) => print_opening(b" ", word, text),
+    }
 }
 
 // Prints a piece.
@@ -189,36 +203,14 @@ fn print_piece(
     ensures spot { IfOk result (λ behind. behind ≡ spot_behind context spot (piece_view piece.entry)) }
     ensures text { OnOk result (text.new.items ≡ text.old.items ++ piece_text context spot (piece_view piece.entry)) }
 {
+    add(spot.end_before(piece), text)?;
     match piece {
-        Piece::Text(bytes) => {
-            let quoted = print_text(context, spot.is_quoted(), bytes, text)?;
-            Ok(Spot::Message(quoted))
-        }
-        Piece::Hash => {
-            end_text(spot, text)?;
-            add(b"#", text)?;
-            Ok(Spot::Message(false))
-        }
-        Piece::Argument(name) => {
-            end_text(spot, text)?;
-            print_argument(name, text)?;
-            Ok(Spot::Message(false))
-        }
-        Piece::Begin(kind, name, offset) => {
-            end_text(spot, text)?;
-            print_head(kind, name, offset, text)?;
-            Ok(Spot::Branches)
-        }
-        Piece::Branch(selector) => {
-            end_branch(spot, text)?;
-            print_front(selector, text)?;
-            Ok(Spot::Message(false))
-        }
-        Piece::End => {
-            end_branch(spot, text)?;
-            add(b"}", text)?;
-            Ok(Spot::Message(false))
-        }
+        Piece::Text(bytes) => print_text(context, spot, bytes, text),
+        Piece::Hash => print_sign(b"#", text),
+        Piece::Argument(name) => print_argument(name, text),
+        Piece::Begin(kind, name, offset) => print_head(kind, name, offset, text),
+        Piece::Branch(selector) => print_front(selector, text),
+        Piece::End => print_sign(b"}", text),
     }
 }
 
@@ -242,20 +234,27 @@ fn context_behind(
     }
 }
 
-// The text of parts.
-pub(crate) fn print(alloc: Global, parts: &[Part<'_>]) -> Result<Vec<u8>, AllocError>
-    ensures { IfOk result (λ text. text.items ≡ fold Context.Whole [] (Spot.Message false) (parts_view parts.now)) }
+// Prints parts, one after the other.
+fn print_parts(alloc: Global, parts: &[Part<'_>], text: &mut Vec<u8>) -> Result<(), AllocError>
+    ensures { OnOk result (text.new.items ≡ text.old.items ++ fold Context.Whole [] (Spot.Message false) (parts_view parts.now)) }
 {
-    let mut text = Vec::new(alloc);
     let mut outer = Vec::new(alloc);
     let mut context = Context::Whole;
     let mut spot = Spot::Message(false);
     let mut rest = parts;
     while let [part, after @ ..] = rest {
-        spot = print_piece(context, spot, part.piece, &mut text)?;
+        spot = print_piece(context, spot, part.piece, text)?;
         context = context_behind(context, part.piece, &mut outer)?;
         rest = after;
     }
-    end_text(spot, &mut text)?;
+    add(spot.end_of_text(), text)
+}
+
+// The text of parts.
+pub(crate) fn print(alloc: Global, parts: &[Part<'_>]) -> Result<Vec<u8>, AllocError>
+    ensures { IfOk result (λ text. text.items ≡ fold Context.Whole [] (Spot.Message false) (parts_view parts.now)) }
+{
+    let mut text = Vec::new(alloc);
+    print_parts(alloc, parts, &mut text)?;
     Ok(text)
 }

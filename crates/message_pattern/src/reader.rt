@@ -12,7 +12,7 @@ use crate::branch::{BranchFront, branch_front};
 use crate::error::{FaultKind, ReadError};
 use crate::head::{Formats, Head, fault_at, head_front, unclosed};
 use crate::part::{ArgumentKind, Part, Piece};
-use crate::text::{Context, Front, front_of};
+use crate::text::{Context, Front, Stop, front_of};
 
 /// How many branches a part is in at most.
 pub const DEPTH_LIMIT: usize = 32;
@@ -27,13 +27,6 @@ impl ArgumentKind {
             ArgumentKind::Select => Context::Selected,
         }
     }
-}
-
-// What ends a run of pieces in a message.
-enum Stop<'p> {
-    End,
-    Closes(&'p [u8]),
-    Opens(&'p [u8]),
 }
 
 // Adds a part.
@@ -78,9 +71,7 @@ fn pieces<'p>(
     let mut rest = text;
     'pieces: loop {
         match front_of(context, quoted, rest) {
-            Front::End => return Ok(Stop::End),
-            Front::Closes(after) => return Ok(Stop::Closes(after)),
-            Front::Opens(after) => return Ok(Stop::Opens(after)),
+            Front::Stops(stop) => return Ok(stop),
             Front::Takes(piece, remains, after) => {
                 push_any(parts, depth, piece)?;
                 quoted = remains;

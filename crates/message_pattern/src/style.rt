@@ -10,17 +10,14 @@ fn style_step(braces: usize, quoted: bool, byte: u8) -> Option<(usize, bool)>
     ensures { result ≡ style_step braces quoted byte }
 {
     if quoted {
-        Some((braces, byte != b'\''))
-    } else if byte == b'\'' {
-        Some((braces, true))
-    } else if byte == b'{' {
-        Some((braces + 1, false))
-    } else if byte != b'}' {
-        Some((braces, false))
-    } else if braces == 0 {
-        None
-    } else {
-        Some((braces - 1, false))
+        return Some((braces, byte != b'\''));
+    }
+    match byte {
+        b'\'' => Some((braces, true)),
+        b'{' => Some((braces + 1, false)),
+        b'}' if braces == 0 => None,
+        b'}' => Some((braces - 1, false)),
+        _ => Some((braces, false)),
     }
 }
 

@@ -19,11 +19,16 @@ pub(crate) enum Context {
     Selected,
 }
 
-// What stands at the front of a message's text, and what follows it.
-pub(crate) enum Front<'p> {
+// What ends a run of pieces in a message, and what follows it.
+pub(crate) enum Stop<'p> {
     End,
     Closes(&'p [u8]),
     Opens(&'p [u8]),
+}
+
+// What stands at the front of a message's text, and what follows it.
+pub(crate) enum Front<'p> {
+    Stops(Stop<'p>),
     // A piece, or none for an apostrophe that begins or ends quoted text; whether what follows is
     // quoted.
     Takes(Option<Piece<'p>>, bool, &'p [u8]),
@@ -63,7 +68,11 @@ impl Context {
     pub(crate) fn is_quotable(self, byte: u8) -> bool
         ensures { result ≡ is_quotable self byte }
     {
-        byte == b'{' || byte == b'}' || byte == b'#' && self.is_counted()
+        match byte {
+            b'{' | b'}' => true,
+            b'#' => self.is_counted(),
+            _ => false,
+        }
     }
 }
 
@@ -73,7 +82,7 @@ pub(crate) fn front_of(context: Context, quoted: bool, text: &[u8]) -> Front<'_>
     ensures shorter { IsShorter (front_view result) text.now }
 {
     let [first, rest @ ..] = text else {
-        return Front::End;
+        return Front::Stops(Stop::End);
     };
     if quoted {
         quoted_front(text, *first, rest)
@@ -104,19 +113,16 @@ fn plain_front<'p>(context: Context, text: &'p [u8], first: u8, rest: &'p [u8]) 
     ensures front { front_view result ≡ plain_front context text.now }
     ensures shorter { IsShorter (front_view result) text.now }
 {
-    if first == b'\'' {
-        apostrophe_front(context, text, rest)
-    } else if first == b'{' {
-        Front::Opens(rest)
-    } else if first == b'}' && context.is_nested() {
-        Front::Closes(rest)
-    } else if first == b'#' && context.is_counted() {
-        Front::Takes(Some(Piece::Hash), false, rest)
-    } else if first == b'}' || first == b'#' {
-        Front::text(one(text), false, rest)
-    } else {
-        let (run, after) = split_run(Class::Plain, text);
-        Front::text(run, false, after)
+    match first {
+        b'\'' => apostrophe_front(context, text, rest),
+        b'{' => Front::Stops(Stop::Opens(rest)),
+        b'}' if context.is_nested() => Front::Stops(Stop::Closes(rest)),
+        b'#' if context.is_counted() => Front::Takes(Some(Piece::Hash), false, rest),
+        b'}' | b'#' => Front::text(one(text), false, rest),
+        _ => {
+            let (run, after) = split_run(Class::Plain, text);
+            Front::text(run, false, after)
+        }
     }
 }
 

@@ -23,6 +23,13 @@ abbrev pub end_of_branch : Spot → List ℕ
 end_of_branch (Message quoted) = end_of_quote quoted ++ closing ∷ []
 end_of_branch Branches = []
 
+-- what ends there before a piece
+abbrev pub end_before : Spot → PatternPiece → List ℕ
+end_before at (Text s) = []
+end_before at (Branch sel) = end_of_branch at
+end_before at End = end_of_branch at
+end_before at p = end_of_text at
+
 abbrev pub piece_text : Context → Spot → PatternPiece → List ℕ
 piece_text c at (Text s) = text_text c (is_quoted at) s
 piece_text c at Hash = end_of_text at ++ hash ∷ []

@@ -9,8 +9,8 @@ use Rattle.message_pattern.specs.declared.error.PatternError as error
 use Rattle.message_pattern.specs.declared.error.PatternError.TheVariants as errors
 use Rattle.message_pattern.specs.declared.part.Part as parts
 use Rattle.message_pattern.specs.declared.part.Piece as pieces
-use Rattle.message_pattern.specs.declared.reader.Stop as stops
-use Rattle.message_pattern.specs.declared.reader.Stop.TheVariants as stop
+use Rattle.message_pattern.specs.declared.text.Stop as stops
+use Rattle.message_pattern.specs.declared.text.Stop.TheVariants as stop
 use Rattle.message_pattern.specs.declared.text.Front as fronts
 use Rattle.message_pattern.specs.declared.text.Front.TheVariants as front
 use Rattle.message_pattern.specs.declared.head.Formats.{Formats}
@@ -28,16 +28,14 @@ abbrev pub any_view : Option pieces.Piece → Option PatternPiece
 any_view None = None
 any_view (Some piece) = Some (piece_view piece)
 
-abbrev pub front_view : fronts.Front → Front
-front_view front.End = End
-front_view (front.Closes rest) = Closes rest.now
-front_view (front.Opens rest) = Opens rest.now
-front_view (front.Takes piece quoted rest) = Takes (any_view piece) quoted rest.now
-
 abbrev pub stop_view : stops.Stop → Front
 stop_view stop.End = End
 stop_view (stop.Closes rest) = Closes rest.now
 stop_view (stop.Opens rest) = Opens rest.now
+
+abbrev pub front_view : fronts.Front → Front
+front_view (front.Stops at) = stop_view at
+front_view (front.Takes piece quoted rest) = Takes (any_view piece) quoted rest.now
 
 abbrev pub head_view : heads.Head → Head
 head_view (head.Plain name) = Plain name.now

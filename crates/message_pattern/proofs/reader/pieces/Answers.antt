@@ -1,26 +1,19 @@
 use Rattle.std.proofs.Common.{sym, arith}
-use Rattle.message_pattern.specs.PatternText.{End, Closes, Opens}
 use Rattle.message_pattern.specs.PatternParts.{parts_view}
+use Rattle.message_pattern.specs.Inner.PatternViews.{stop_view}
 use Rattle.message_pattern.proofs.Steps.{front_decides, piece_read}
+use Rattle.message_pattern.proofs.Shorter.{shorter_too}
 use Rattle.message_pattern.proofs.reader.pieces.Goals as goal
 
-pub returns-in-End-clause-read : goal.returns-in-End-clause-read
-returns-in-End-clause-read c = λ formats o h.
+pub returns-in-Stops-clause-read : goal.returns-in-Stops-clause-read
+returns-in-Stops-clause-read c = λ formats o h.
     c.pieces.invariant.read formats o
-    (front_decides c.args.context c.args.depth c.pieces.quoted c.pieces.rest.now End (parts_view c.pieces.parts.items) o
-    (sym c.in-End.ensures.front) h)
+    (front_decides c.args.context c.args.depth c.pieces.quoted c.pieces.rest.now (stop_view c.in-Stops.stop)
+    (parts_view c.pieces.parts.items) o (sym c.in-Stops.ensures.front) h)
 
-pub returns-in-Closes-clause-read : goal.returns-in-Closes-clause-read
-returns-in-Closes-clause-read c = λ formats o h.
-    c.pieces.invariant.read formats o
-    (front_decides c.args.context c.args.depth c.pieces.quoted c.pieces.rest.now (Closes c.in-Closes.after.now)
-    (parts_view c.pieces.parts.items) o (sym c.in-Closes.ensures.front) h)
-
-pub returns-in-Opens-clause-read : goal.returns-in-Opens-clause-read
-returns-in-Opens-clause-read c = λ formats o h.
-    c.pieces.invariant.read formats o
-    (front_decides c.args.context c.args.depth c.pieces.quoted c.pieces.rest.now (Opens c.in-Opens.after.now)
-    (parts_view c.pieces.parts.items) o (sym c.in-Opens.ensures.front) h)
+pub returns-in-Stops-clause-shorter : goal.returns-in-Stops-clause-shorter
+returns-in-Stops-clause-shorter c =
+    shorter_too (stop_view c.in-Stops.stop) c.pieces.rest.now c.args.text.now c.in-Stops.ensures.shorter c.pieces.invariant.shorter
 
 pub pieces-preserved : goal.pieces-preserved
 pieces-preserved c = record {
