@@ -1,6 +1,6 @@
 //! Packs a pattern.
 
-ghost use Rattle.std.specs.Prelude.{◌≡◌, ◌↔◌, ◌≤◌, ◌<◌, ◌+◌, ◌^◌, ◌++◌, ℕ, true, Err, Some, None, IfOk, IsTrue, OnOk, length};
+ghost use Rattle.std.specs.Prelude.{◌≡◌, ◌↔◌, ◌≤◌, ◌<◌, ◌+◌, ◌^◌, ◌++◌, ◌∷◌, ℕ, true, Err, Some, None, IfOk, IsTrue, OnOk, length};
 ghost use Rattle.std.specs.Result.{OnErr};
 ghost use Rattle.std.specs.List.{list_all};
 ghost use Rattle.message_pattern.specs.PatternParts.{part_view, parts_view, piece_view};
@@ -59,6 +59,17 @@ fn own_count(piece: Piece<'_>) -> usize
     }
 }
 
+// Writes a name behind its length, and the digits of an offset.
+fn write_begin(name: &[u8], digits: &[u8], bytes: &mut Vec<u8>) -> Result<(), AllocError>
+    requires { length name.now ≤ 255 }
+    ensures written { OnOk result (bytes.new.items ≡ bytes.old.items ++ length name.now ∷ (name.now ++ digits.now)) }
+    ensures kept { OnErr result (StaysInFront bytes.old.items bytes.new.items) }
+{
+    bytes.push(name.len() as u8)?;
+    bytes.extend_from_slice(name)?;
+    bytes.extend_from_slice(digits)
+}
+
 // Writes what a piece has of its own.
 fn write_own(piece: Piece<'_>, bytes: &mut Vec<u8>) -> Result<(), AllocError>
     requires { is_packable_piece (piece_view piece) ≡ true }
@@ -69,11 +80,7 @@ fn write_own(piece: Piece<'_>, bytes: &mut Vec<u8>) -> Result<(), AllocError>
         Piece::Text(text) => bytes.extend_from_slice(text),
         Piece::Hash | Piece::End => Ok(()),
         Piece::Argument(name) => bytes.extend_from_slice(name),
-        Piece::Begin(_, name, offset) => {
-            bytes.push(name.len() as u8)?;
-            bytes.extend_from_slice(name)?;
-            bytes.extend_from_slice(offset_digits(offset))
-        }
+        Piece::Begin(_, name, offset) => write_begin(name, offset_digits(offset), bytes),
         Piece::Branch(selector) => bytes.extend_from_slice(selector_bytes(selector)),
     }
 }

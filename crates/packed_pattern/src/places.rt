@@ -89,15 +89,19 @@ fn branch_place<'p, P: PartSource<'p>>(sought: Sought<'_>, depth: usize, parts: 
     0
 }
 
-// The place of the branch of a keyword, or of `other` if there is none.
-fn place_or_other<'p, P: PartSource<'p>>(word: &[u8], depth: usize, parts: P, other: usize) -> usize
+// The place of the branch of a keyword, or of `other` if there is none, as two bytes.
+fn category_bytes<'p, P: PartSource<'p>>(
+    word: &[u8],
+    depth: usize,
+    parts: P,
+    other: usize,
+) -> [u8; 2]
     requires few { length (P.parts parts) ≤ 65535 }
     requires other { other ≤ 65535 }
-    ensures place { result ≡ or_place (branch_place (Word word.now) depth (P.parts parts)) other }
-    ensures few { result ≤ 65535 }
+    ensures { result ≡ two_bytes (or_place (branch_place (Word word.now) depth (P.parts parts)) other) }
 {
     let place = branch_place(Sought::Word(word), depth, parts);
-    if place == 0 { other } else { place }
+    two_bytes(if place == 0 { other } else { place })
 }
 
 // The places of a plural or an ordinal: its end, the first branch by a number, and each category's.
@@ -108,11 +112,11 @@ fn plural_places<'p, P: PartSource<'p>>(depth: usize, parts: P) -> PlaceBytes
     let other = branch_place(Sought::Word(b"other"), depth, parts);
     let end = two_bytes(argument_length(depth, parts));
     let number = two_bytes(branch_place(Sought::AnyNumber, depth, parts));
-    let zero = two_bytes(place_or_other(b"zero", depth, parts, other));
-    let one = two_bytes(place_or_other(b"one", depth, parts, other));
-    let two = two_bytes(place_or_other(b"two", depth, parts, other));
-    let few = two_bytes(place_or_other(b"few", depth, parts, other));
-    let many = two_bytes(place_or_other(b"many", depth, parts, other));
+    let zero = category_bytes(b"zero", depth, parts, other);
+    let one = category_bytes(b"one", depth, parts, other);
+    let two = category_bytes(b"two", depth, parts, other);
+    let few = category_bytes(b"few", depth, parts, other);
+    let many = category_bytes(b"many", depth, parts, other);
     let last = two_bytes(other);
     PlaceBytes::of([
         end[0], end[1], number[0], number[1], zero[0], zero[1], one[0], one[1], two[0], two[1],
