@@ -5,5 +5,7 @@ mod OneBlock
 mod FirstFaults
 mod KeysFound
 mod EntriesOrder
+mod EntriesWritten
 mod SharedFronts
+mod PackErrors
 mod WorkedCatalogs

@@ -1,5 +1,8 @@
 //! Why bytes aren't a catalogue, and why entries can't be packed.
 
+ghost use Rattle.std.specs.Prelude.{◌++◌, Some, codes};
+ghost use Rattle.std.specs.Fmt.{DisplaysOnOk, decimal};
+
 use std::error::Error;
 use std::fmt;
 
@@ -27,7 +30,7 @@ impl fmt::Display for CatalogError {
             CatalogError::Header => f.write_str("catalogue header too short"),
             CatalogError::Length => f.write_str("catalogue of another length"),
             CatalogError::End(place) => write!(f, "bad end in entry {place}"),
-            CatalogError::Order(place) => write!(f, "entry {place} out of order"),
+            CatalogError::Order(place) => write_order(f, *place),
         }
     }
 }
@@ -56,7 +59,7 @@ impl fmt::Display for PackCatalogError {
     fn fmt<W: fmt::Write>(&self, f: &mut fmt::Formatter<W>) -> fmt::Result {
         match self {
             PackCatalogError::TooMany => f.write_str("too many entries"),
-            PackCatalogError::Order(place) => write!(f, "entry {place} out of order"),
+            PackCatalogError::Order(place) => write_order(f, *place),
             PackCatalogError::TooLong => f.write_str("catalogue too long"),
             PackCatalogError::Memory => f.write_str("out of memory"),
         }
@@ -64,3 +67,10 @@ impl fmt::Display for PackCatalogError {
 }
 
 impl Error for PackCatalogError {}
+
+// Writes that an entry is out of order.
+fn write_order<W: fmt::Write>(f: &mut fmt::Formatter<W>, place: usize) -> fmt::Result
+    ensures { DisplaysOnOk W.write_str_gives f.old result (Some (codes "entry " ++ decimal place ++ codes " out of order")) f.new }
+{
+    write!(f, "entry {place} out of order")
+}

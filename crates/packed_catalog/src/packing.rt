@@ -113,12 +113,26 @@ fn push_ends(bytes: &mut Vec<u8>, entries: &[CatalogEntry<'_>]) -> Result<(), Al
 {
     let mut end = 0;
     for entry in entries {
-        end += entry.key.len();
-        push_number(bytes, end)?;
-        end += entry.value.len();
-        push_number(bytes, end)?;
+        end = push_both_ends(bytes, end, entry)?;
     }
     Ok(())
+}
+
+// Writes where the key that begins there and its value end. Returns where the value ends.
+fn push_both_ends(
+    bytes: &mut Vec<u8>,
+    start: usize,
+    entry: &CatalogEntry<'_>,
+) -> Result<usize, AllocError>
+    requires { start + (length entry.now.key.now + length entry.now.value.now) < 2 ^ 32 }
+    ensures written { IfOk result (λ end. bytes.new.items ≡ bytes.old.items ++ (four_bytes (start + length entry.now.key.now) ++ four_bytes end)) }
+    ensures end { IfOk result (λ end. end ≡ start + length entry.now.key.now + length entry.now.value.now) }
+{
+    let mut end = start + entry.key.len();
+    push_number(bytes, end)?;
+    end += entry.value.len();
+    push_number(bytes, end)?;
+    Ok(end)
 }
 
 // Writes the keys and values without gaps.
