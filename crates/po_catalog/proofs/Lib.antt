@@ -1,6 +1,7 @@
 pub mod Cuts
 pub mod Runs
 pub mod Codes
+pub mod FrontLengths
 pub mod FlagWords
 pub mod HeaderLines
 pub mod Sayings

@@ -1,17 +1,20 @@
 -- Reading the keywords and texts of a line, one after the other.
-use Rattle.std.proofs.Common.{◌≡◌, ◌∙◌, ℕ, List, Bool, true, Option, Some, None, Result, Ok, Err, sym, ap, subst, inl, inr}
+use Rattle.std.proofs.Common.{◌≡◌, ◌∙◌, ℕ, List, Bool, true, Option, Some, None, IfOk, Result, Ok, Err, sym, ap, subst, inl, inr}
 use Rattle.std.specs.Borrow.{Bor}
+use Rattle.std.specs.declared.alloc.AllocError.{AllocError}
 use Rattle.po_catalog.specs.declared.draft.Place.{Place}
 use Rattle.po_catalog.specs.declared.fault.Cause.{Cause}
 use Rattle.po_catalog.specs.declared.fault.Cause.TheVariants.{StrayText}
 use Rattle.po_catalog.specs.declared.fault.ReadError.{ReadError}
 use Rattle.po_catalog.specs.declared.fault.ReadError.TheVariants.{Fault, Memory}
 use Rattle.po_catalog.specs.declared.front.Keyword.{Keyword}
+use Rattle.po_catalog.specs.declared.reader.Progress.{Progress}
+use Rattle.po_catalog.specs.declared.reader.Progress.TheVariants.{Left, Done}
 use Rattle.po_catalog.specs.Drafts.{PoDraft, PoField, behind_empty, behind_line, comment_checked, ended_at_comment, flags_read, keyword_read, passed_over, unknown_read, with_field}
 use Rattle.po_catalog.specs.Fronts.{Nothing, Word, Mark, Unknown, front_of}
 use Rattle.po_catalog.specs.LineKinds.{Empty, Comment, Fields, line_of}
 use Rattle.po_catalog.specs.ReadCatalogs.{ReadsFields, ReadsLine, longer, ends, unknown, fits, stray_keyword, goes_on, breaks, stray_text, empty, comment, fields}
-use Rattle.po_catalog.specs.Inner.DraftViews.{GoesOnIn, ReadsTold, TextGoesOn}
+use Rattle.po_catalog.specs.Inner.DraftViews.{GoesOnIn, ReadsTold, TakesFront, TakesText, TextGoesOn}
 use Rattle.po_catalog.specs.Inner.QuotedViews.{GoesOn}
 
 -- a field of these parts
@@ -74,15 +77,24 @@ text_breaks n o start now next line rest text cause h e (inl (field, said, at, i
 text_breaks n o start now next line rest text cause h e (inr (none, is, stray)) =
     rw (is, stray) (h (with_field passed_over now, Some StrayText) (stray_text now rest text (sym e) none))
 
-pub text_fails : (n : ℕ) (o : Bool) (start now next : PoDraft) (line rest text : List ℕ) (cause : Cause)
-    (result : Result (Bor (List ℕ)) ReadError) (error : ReadError)
-    → IsBefore n o start line now rest → Mark text ≡ front_of rest → TextGoesOn text now next result → result ≡ Err error
-    → error ≡ Fault cause
-    → ReadsFields n o start line (next, Some cause)
-text_fails n o start now next line rest text cause result error h e goes is fault =
+-- a text with a fault is one that breaks
+pub text_taken : (line : List ℕ) (old new : PoDraft) (cause : Cause) (result : Result (Bor (List ℕ)) ReadError) (error : ReadError)
+    → TextGoesOn line old new result → result ≡ Err error → error ≡ Fault cause → TakesText old line new (Done (Some cause))
+text_taken line old new cause result error goes is fault =
     let told : ReadError → Result (Bor (List ℕ)) ReadError = λ x. Err x in
-    text_breaks n o start now next line rest text cause h e
-    (subst (λ (r : Result (Bor (List ℕ)) ReadError). TextGoesOn text now next r) (is ∙ ap told fault) goes)
+    subst (λ (r : Result (Bor (List ℕ)) ReadError). TextGoesOn line old new r) (is ∙ ap told fault) goes
+
+-- what is read behind a text is read behind the line that begins with it
+quoted_here : (n : ℕ) (o : Bool) (old new : PoDraft) (line text : List ℕ) (it : Progress) → Mark text ≡ front_of line
+    → TakesText old text new it → TakesFront n o old line new it
+quoted_here n o old new line text (Left after) e h = text_read n o old old new line line text after (λ end k. k) e h
+quoted_here n o old new line text (Done None) e h = absurd h
+quoted_here n o old new line text (Done (Some cause)) e h = text_breaks n o old old new line line text cause (λ end k. k) e h
+
+pub quoted_read : (n : ℕ) (o : Bool) (old new : PoDraft) (line text : List ℕ) (r : Result Progress AllocError) → Mark text ≡ front_of line
+    → IfOk r (λ it. TakesText old text new it) → IfOk r (λ it. TakesFront n o old line new it)
+quoted_read n o old new line text (Ok it) e h = quoted_here n o old new line text it e h
+quoted_read n o old new line text (Err error) e h = tt
 
 -- ---- lines
 

@@ -1,10 +1,11 @@
 //! A catalog, read from the bytes of a file.
 
-ghost use Rattle.std.specs.Prelude.{◌≡◌, option_copied, option_map};
+ghost use Rattle.std.specs.Prelude.{◌≡◌, IfOk, option_copied, option_map};
 ghost use Rattle.std.specs.List.{find};
 ghost use Rattle.po_catalog.specs.Catalogs.{message_view, messages_view};
 ghost use Rattle.po_catalog.specs.Headers.{charset_of, field_of, is_header};
-ghost use Rattle.po_catalog.specs.ReadCatalogs.{ReadsCatalog, behind_mark};
+ghost use Rattle.po_catalog.specs.ReadCatalogs.{ReadsCatalog, behind_mark, catalog_view};
+ghost use Rattle.po_catalog.specs.Inner.DraftViews.{AddsLines, draft_view};
 
 use crate::entry::{Entry, Text};
 use crate::fault::Fault;
@@ -25,16 +26,13 @@ pub struct Catalog {
 impl Catalog {
     /// Reads a catalog. Any bytes are read: what is wrong is a fault with its line, and everything
     /// else is read. Memory is taken for the texts; the error is that it ran out.
-    #[tactic(auto, using(crate::proofs::WholeCatalogs::nothing_read))]
     pub fn read(alloc: Global, bytes: &[u8]) -> Result<Catalog, AllocError>
         ensures { ReadsCatalog bytes.now result }
     {
         let mut reader = Reader::new(alloc);
-        let mut lines = Lines::of(without_mark(bytes));
-        'lines: while let Some(line) = lines.next_line() {
-            reader.read_line(line.number, line.bytes)?;
-        }
-        reader.catalog()
+        let catalog = read_lines(&mut reader, without_mark(bytes));
+        drop(reader);
+        catalog
     }
 
     /// The header: the first message with an empty id, no context, and a text.
@@ -65,6 +63,17 @@ impl Catalog {
     {
         charset_in(self.header_field(b"Content-Type")?)
     }
+}
+
+// The catalog of what was read, and of further lines.
+fn read_lines(reader: &mut Reader, bytes: &[u8]) -> Result<Catalog, AllocError>
+    ensures { IfOk result (λ catalog. AddsLines (draft_view reader.old) bytes.now (catalog_view catalog)) }
+{
+    let mut lines = Lines::of(bytes);
+    'lines: while let Some(line) = lines.next_line() {
+        reader.read_line(line.number, line.bytes)?;
+    }
+    reader.catalog()
 }
 
 // The bytes behind the mark of UTF-8 at their front, if it is there.

@@ -1,8 +1,8 @@
 //! What stands at the front of a line.
 
-ghost use Rattle.std.specs.Prelude.{◌≡◌, ◌≤◌, ◌<◌, length, IfSome};
-ghost use Rattle.po_catalog.specs.Fronts.{digit_of, form_front, front_of, index_front, word_front};
-ghost use Rattle.po_catalog.specs.Inner.FrontViews.{IsBehind, IsNotLonger, front_view, index_view};
+ghost use Rattle.std.specs.Prelude.{◌≡◌, ◌≤◌, ◌<◌, ◌+◌, length, IfSome};
+ghost use Rattle.po_catalog.specs.Fronts.{behind_digit, digit_of, form_front, front_of, index_front, word_front};
+ghost use Rattle.po_catalog.specs.Inner.FrontViews.{IsBehind, IsBelow, IsNotLonger, front_view, index_view, other_front};
 
 use crate::bytes::{Class, after_white, split_run};
 use crate::fault::Cause;
@@ -42,7 +42,7 @@ pub(crate) fn front_of(line: &[u8]) -> Front<'_>
 }
 
 // The keyword at the front.
-#[tactic(auto, unfolding(crate::specs::Fronts::word_front))]
+#[tactic(auto, unfolding(crate::specs::Fronts::word_front), using(crate::proofs::FrontLengths::behind_word))]
 fn word_front(text: &[u8]) -> Front<'_>
     ensures front { front_view result ≡ word_front text.now }
     ensures shorter { IsBehind result text.now }
@@ -52,7 +52,17 @@ fn word_front(text: &[u8]) -> Front<'_>
         Front::Keyword(Keyword::Id, rest)
     } else if word == b"msgstr".as_slice() {
         form_front(rest)
-    } else if word == b"msgid_plural".as_slice() {
+    } else {
+        other_front(word, rest)
+    }
+}
+
+// A keyword that is rarer, with what follows it.
+fn other_front<'l>(word: &[u8], rest: &'l [u8]) -> Front<'l>
+    ensures front { front_view result ≡ other_front word.now rest.now }
+    ensures shorter { IsBelow result (length word.now + length rest.now) }
+{
+    if word == b"msgid_plural".as_slice() {
         Front::Keyword(Keyword::PluralId, rest)
     } else if word == b"msgctxt".as_slice() {
         Front::Keyword(Keyword::Context, rest)
@@ -88,13 +98,25 @@ fn index_front(text: &[u8]) -> Option<(usize, &[u8])>
     let [first, after @ ..] = text else {
         return None;
     };
-    let first = digit_of(*first)?;
-    let [second, rest @ ..] = after else {
-        return Some((first, after));
+    match digit_of(*first) {
+        Some(first) => Some(behind_digit(first, after)),
+        None => None,
+    }
+}
+
+// The number of a digit and the next one, if it is one, and what follows.
+fn behind_digit(first: usize, text: &[u8]) -> (usize, &[u8])
+    requires { first < 10 }
+    ensures number { result.0 ≡ (behind_digit first text.now).0 }
+    ensures rest { result.1.now ≡ (behind_digit first text.now).1 }
+    ensures shorter { length result.1.now ≤ length text.now }
+{
+    let [second, rest @ ..] = text else {
+        return (first, text);
     };
     match digit_of(*second) {
-        Some(second) => Some((first * 10 + second, rest)),
-        None => Some((first, after)),
+        Some(second) => (first * 10 + second, rest),
+        None => (first, text),
     }
 }
 

@@ -58,7 +58,7 @@ fn hexadecimal_front(first: u8, text: &[u8]) -> Option<(u8, &[u8])>
 }
 
 // The code of one to three octal digits, if it is one of ASCII, and what follows them.
-#[tactic(auto, using(crate::proofs::Codes::octal_digit, crate::proofs::Codes::octal_end, crate::proofs::Codes::of_ascii_code, crate::proofs::Codes::of_ascii_none))]
+#[tactic(auto, using(crate::proofs::Codes::octal_digit, crate::proofs::Codes::octal_end, crate::proofs::Codes::of_ascii_code))]
 fn octal_front(first: u8, text: &[u8]) -> Option<(u8, &[u8])>
     requires { first < 8 }
     ensures code { code_view result ≡ of_ascii (octal 2 first text.now) }
@@ -71,13 +71,23 @@ fn octal_front(first: u8, text: &[u8]) -> Option<(u8, &[u8])>
     if 8 <= second {
         return Some((first, text));
     }
-    let code = first * 8 + second;
-    let [third, rest @ ..] = after else {
-        return Some((code, after));
+    third_octal(first * 8 + second, after)
+}
+
+// The code of octal digits of which a third one may follow, if it is one of ASCII, and what follows
+// them.
+#[tactic(auto, using(crate::proofs::Codes::octal_digit, crate::proofs::Codes::octal_end, crate::proofs::Codes::of_ascii_code, crate::proofs::Codes::of_ascii_none))]
+fn third_octal(code: u8, text: &[u8]) -> Option<(u8, &[u8])>
+    requires { code < 64 }
+    ensures code { code_view result ≡ of_ascii (octal 1 code text.now) }
+    ensures shorter { IfSome result (λ code. length code.1.now ≤ length text.now) }
+{
+    let [third, rest @ ..] = text else {
+        return Some((code, text));
     };
     let third = digit_value(*third);
     if 8 <= third {
-        return Some((code, after));
+        return Some((code, text));
     }
     if code < 16 {
         Some((code * 8 + third, rest))

@@ -4,7 +4,7 @@ ghost use Rattle.std.specs.Prelude.{◌≡◌, ◌<◌, length, IfOk, OnOk};
 ghost use Rattle.po_catalog.specs.Drafts.{all_ended, behind_empty, behind_line, comment_checked, empty_draft, ended_at_comment, ended_before, ended_if_whole, flags_read};
 ghost use Rattle.po_catalog.specs.Drafts.{field_taken, form_checked, keyword_of_message, keyword_read, line_checked, message_begun, message_ended, message_kept};
 ghost use Rattle.po_catalog.specs.Drafts.{noted, placed, text_checked, text_ended, told, unknown_read};
-ghost use Rattle.po_catalog.specs.Inner.DraftViews.{ReadsTold, TextGoesOn, draft_view, field_view};
+ghost use Rattle.po_catalog.specs.Inner.DraftViews.{IsFurther, ReadsTold, TakesFront, TakesText, TextGoesOn, draft_view, field_view};
 ghost use Rattle.po_catalog.specs.ReadCatalogs.{ReadsFields, ReadsLine, catalog_at, catalog_view};
 
 use crate::bytes::{add_flags, is_utf8};
@@ -16,6 +16,14 @@ use crate::front::{Front, Keyword, front_of};
 use crate::line_kind::{LineKind, kind_of};
 use std::alloc::{AllocError, Global};
 use std::mem;
+
+// How far a line is read.
+enum Progress<'l> {
+    // What is left of it.
+    Left(&'l [u8]),
+    // Its end, or its first fault.
+    Done(Option<Cause>),
+}
 
 // What is read so far.
 #[derive(Drop)]
@@ -280,6 +288,45 @@ impl Reader {
         }
     }
 
+    // Reads a text from behind its first quotation mark on.
+    #[tactic(auto, using(crate::proofs::Readings::text_taken))]
+    fn read_quoted<'l>(&mut self, line: &'l [u8]) -> Result<Progress<'l>, AllocError>
+        ensures read { IfOk result (λ it. TakesText (draft_view self.old) line.now (draft_view self.new) it) }
+        ensures shorter { IfOk result (λ it. IsFurther it line.now) }
+    {
+        match self.read_text(line) {
+            Ok(after) => Ok(Progress::Left(after)),
+            Err(ReadError::Fault(cause)) => Ok(Progress::Done(Some(cause))),
+            Err(ReadError::Memory) => Err(AllocError),
+        }
+    }
+
+    // Reads what stands at the front of a line.
+    fn read_front<'l>(
+        &mut self,
+        number: usize,
+        is_obsolete: bool,
+        line: &'l [u8],
+    ) -> Result<Progress<'l>, AllocError>
+        ensures read { IfOk result (λ it. TakesFront number is_obsolete (draft_view self.old) line.now (draft_view self.new) it) }
+        ensures shorter { IfOk result (λ it. IsFurther it line.now) }
+    {
+        match front_of(line) {
+            Front::End => Ok(Progress::Done(None)),
+            Front::Keyword(keyword, after) => {
+                match self.read_keyword(number, is_obsolete, keyword)? {
+                    None => Ok(Progress::Left(after)),
+                    Some(cause) => Ok(Progress::Done(Some(cause))),
+                }
+            }
+            Front::Quote(text) => self.read_quoted(text),
+            Front::Bad(cause) => {
+                self.leave_field()?;
+                Ok(Progress::Done(Some(cause)))
+            }
+        }
+    }
+
     // Reads keywords and texts up to the end of the line, or its first fault, which is returned.
     fn read_fields(
         &mut self,
@@ -291,23 +338,9 @@ impl Reader {
     {
         let mut rest = line;
         'fronts: loop {
-            match front_of(rest) {
-                Front::End => return Ok(None),
-                Front::Keyword(keyword, after) => {
-                    if let Some(cause) = self.read_keyword(number, is_obsolete, keyword)? {
-                        return Ok(Some(cause));
-                    }
-                    rest = after;
-                }
-                Front::Quote(text) => match self.read_text(text) {
-                    Ok(after) => rest = after,
-                    Err(ReadError::Fault(cause)) => return Ok(Some(cause)),
-                    Err(ReadError::Memory) => return Err(AllocError),
-                },
-                Front::Bad(cause) => {
-                    self.leave_field()?;
-                    return Ok(Some(cause));
-                }
+            match self.read_front(number, is_obsolete, rest)? {
+                Progress::Left(after) => rest = after,
+                Progress::Done(fault) => return Ok(fault),
             }
         }
     }
@@ -400,13 +433,13 @@ impl Reader {
     }
 
     // What was read, behind the last line.
-    pub(crate) fn catalog(mut self) -> Result<Catalog, AllocError>
-        ensures { IfOk result (λ catalog. catalog_view catalog ≡ catalog_at (all_ended (draft_view self))) }
+    pub(crate) fn catalog(&mut self) -> Result<Catalog, AllocError>
+        ensures { IfOk result (λ catalog. catalog_view catalog ≡ catalog_at (all_ended (draft_view self.old))) }
     {
         self.end_all()?;
         Ok(Catalog {
-            entries: self.entries,
-            faults: self.faults,
+            entries: mem::replace(&mut self.entries, Vec::new(self.alloc)),
+            faults: mem::replace(&mut self.faults, Vec::new(self.alloc)),
         })
     }
 }

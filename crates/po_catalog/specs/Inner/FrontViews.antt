@@ -1,8 +1,11 @@
 -- What stands at the front of a line, without where it lies in memory, and how much of the line follows.
-use Rattle.std.specs.Prelude.{ℕ, ◌<◌, ◌≤◌, List, length, Option, Some, None}
+use Rattle.std.specs.Prelude.{ℕ, ◌<◌, ◌≤◌, List, codes, length, Option, Some, None, if◌then◌else◌}
 use Rattle.std.specs.Borrow.{Bor}
+use Rattle.std.specs.Str.{bytes_eq}
+use Rattle.po_catalog.specs.declared.fault.Cause.TheVariants.{UnknownWord}
 use Rattle.po_catalog.specs.declared.front.Front.{Front}
 use Rattle.po_catalog.specs.declared.front.Front.TheVariants.{End, Keyword, Quote, Bad}
+use Rattle.po_catalog.specs.declared.front.Keyword.TheVariants.{Domain, Context, PluralId}
 use Rattle.po_catalog.specs.Fronts.{PoFront, Nothing, Word, Mark, Unknown}
 
 abbrev pub front_view : Front → PoFront
@@ -15,12 +18,24 @@ abbrev pub index_view : Option (ℕ × Bor (List ℕ)) → Option (ℕ × List �
 index_view None = None
 index_view (Some index) = Some (index.0, index.1.now)
 
+-- one of the rarer words, and what follows it
+abbrev pub other_front : List ℕ → List ℕ → PoFront
+other_front word rest =
+    if bytes_eq word (codes "msgid_plural") then Word PluralId rest
+    else (if bytes_eq word (codes "msgctxt") then Word Context rest
+    else (if bytes_eq word (codes "domain") then Word Domain rest
+    else Unknown UnknownWord))
+
+-- less than so many bytes
+abbrev pub IsBelow : Front → ℕ → Type 0
+IsBelow End n = Unit {0}
+IsBelow (Keyword keyword rest) n = length rest.now < n
+IsBelow (Quote rest) n = length rest.now < n
+IsBelow (Bad cause) n = Unit {0}
+
 -- less than the line
 abbrev pub IsBehind : Front → List ℕ → Type 0
-IsBehind End line = Unit {0}
-IsBehind (Keyword keyword rest) line = length rest.now < length line
-IsBehind (Quote rest) line = length rest.now < length line
-IsBehind (Bad cause) line = Unit {0}
+IsBehind front line = IsBelow front (length line)
 
 -- no more than the text
 abbrev pub IsNotLonger : Front → List ℕ → Type 0

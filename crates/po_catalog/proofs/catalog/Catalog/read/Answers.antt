@@ -1,15 +1,8 @@
 use Rattle.po_catalog.specs.Inner.DraftViews.{draft_view}
-use Rattle.po_catalog.proofs.WholeCatalogs.{lines_begin, lines_go_on, lines_end}
+use Rattle.po_catalog.proofs.WholeCatalogs.{file_read}
 use Rattle.po_catalog.proofs.catalog.Catalog.read.Goals as goal
 
-pub lines-init : goal.lines-init
-lines-init c = lines_begin c.args.bytes.now c.without_mark.result.now _ _ c.new-reader.ensures c.of-lines.ensures c.without_mark.ensures
-
-pub lines-preserved : goal.lines-preserved
-lines-preserved c =
-    lines_go_on c.args.bytes.now (draft_view c.lines.reader)
-    (draft_view c.read_line.new.self) c.in-Some.line.number c.in-Some.line.bytes.now c.lines.lines _
-    c.lines.invariant c.in-Some.ensures c.in_ok-read_line.ensures
-
 pub returns : goal.returns
-returns c = lines_end c.args.bytes.now (draft_view c.lines.reader) c.lines.lines _ c.lines.invariant c.in_default.ensures c.catalog.ensures
+returns c =
+    file_read c.args.bytes.now c.without_mark.result.now (draft_view c.new-reader.result) _ c.new-reader.ensures c.without_mark.ensures
+    c.read_lines-catalog.ensures
