@@ -1,16 +1,19 @@
 -- What waits, when something is put to it or taken from it.
-use Rattle.std.proofs.Common.{◌≡◌, ℕ, List, [], ◌∷◌, ◌++◌, length, Bool, true, false, cond, Option, Some, None, Result, Ok, Err, refl, sym, ap, ◌∙◌, arith}
+use Rattle.std.proofs.Common.{◌≡◌, ℕ, List, [], ◌∷◌, ◌++◌, ◌==◌, length, Bool, true, false, cond, Option, Some, None, Result, Ok, Err, refl, sym, ap, subst, ◌∙◌, arith}
+use Rattle.std.proofs.lemmas.Bool.{eqb-false, eqb-true}
 use Rattle.std.proofs.lemmas.List.{append-nil}
 use Rattle.gettext_plural.specs.declared.error.FaultKind.{FaultKind}
-use Rattle.gettext_plural.specs.declared.error.FaultKind.TheVariants.{ExpectedOperator, Unfinished}
+use Rattle.gettext_plural.specs.declared.error.FaultKind.TheVariants.{Unfinished}
+use Rattle.gettext_plural.specs.declared.error.ReadError.{ReadError}
+use Rattle.gettext_plural.specs.declared.error.ReadError.TheVariants as read
 use Rattle.gettext_plural.specs.declared.expression.Expression.{Expression}
 use Rattle.gettext_plural.specs.declared.pending.Pending.{Pending}
 use Rattle.gettext_plural.specs.declared.pending.Pending.TheVariants as pending
 use Rattle.gettext_plural.specs.declared.token.Operator.{Operator}
 use Rattle.gettext_plural.specs.PluralExpressions.{Formula, binding}
 use Rattle.gettext_plural.specs.PluralViews.{formula_view}
-use Rattle.gettext_plural.specs.Inner.PluralMachine.{Waiting, Stage, expects, has, unwind, closes, filled, condition_in, is_bracket, jointed, questioned, coloned, colon_stage, colon_with, closed, close_stage, finished, whole}
-use Rattle.gettext_plural.specs.Inner.FormulaViews.{IsPopped, pending_view, pendings_onto, pendings_view}
+use Rattle.gettext_plural.specs.Inner.PluralMachine.{Waiting, colon, Stage, expects, unwind, closes, filled, condition_in, is_bracket, jointed, questioned, coloned, colon_stage, colon_with, close_stage, close_with, whole}
+use Rattle.gettext_plural.specs.Inner.FormulaViews.{IsFaultOr, IsPopped, pending_view, pendings_onto, pendings_view}
 
 abbrev pub stage_ok : Stage → Result Stage FaultKind
 stage_ok s = Ok s
@@ -38,68 +41,45 @@ pub question_step : (ws : List Waiting) (e : Formula) (mid new : List Pending) (
 question_step ws e mid new a u is =
     ap (λ it. stage_ok (questioned it)) u ∙ sym (ap (λ vs. stage_ok (expects vs)) (pushed mid new (pending.Question a) is))
 
--- what `:` does: where nothing waits, where no `?` is innermost, and where one is
-pub colon_alone : (ws : List Waiting) (e : Formula) (mid : List Pending) (b : Expression)
-    → unwind 0 ws e ≡ (pendings_view mid, formula_view b) → mid ≡ []
-    → coloned (unwind 0 ws e) ≡ Err ExpectedOperator
-colon_alone ws e mid b u is = ap coloned u ∙ ap (λ ps. colon_stage (pendings_view ps) (formula_view b)) is
+-- a fault is returned where the answer is one
+pub faults : {A : Type 0} (answer : Result A FaultKind) (kind : FaultKind) (left : ℕ) (e : ReadError)
+    → e ≡ read.Fault (record { kind = kind; left = left }) → answer ≡ Err kind → IsFaultOr answer left e
+faults answer kind left e is stops = subst (λ (x : ReadError). IsFaultOr answer left x) (sym is) (refl, stops)
 
-colon_taken : (ws : List Waiting) (e : Formula) (mid rest : List Pending) (last : Pending) (b : Expression) (o : Option Formula)
-    → unwind 0 ws e ≡ (pendings_view mid, formula_view b)
-    → mid ≡ rest ++ last ∷ [] → condition_in (pending_view last) ≡ o
-    → coloned (unwind 0 ws e) ≡ colon_with o (pendings_view rest) (formula_view b)
-colon_taken ws e mid rest last b o u is found =
-    ap coloned u ∙ ap (λ vs. colon_stage vs (formula_view b)) (pushed rest mid last is)
-    ∙ ap (λ it. colon_with it (pendings_view rest) (formula_view b)) found
+-- what `:` does, and the innermost when it is taken
+pub condition_popped : (old new : List Pending) (last : Pending) (o : Option Formula) (e : Formula) → old ≡ new ++ last ∷ []
+    → o ≡ condition_in (pending_view last) → colon_stage (pendings_view old) e ≡ colon_with o (pendings_view new) e
+condition_popped old new last o e is found =
+    ap (λ vs. colon_stage vs e) (pushed new old last is) ∙ ap (λ it. colon_with it (pendings_view new) e) (sym found)
 
-pub colon_stops : (ws : List Waiting) (e : Formula) (mid rest : List Pending) (last : Pending) (b : Expression)
+pub colon_step : (ws : List Waiting) (e : Formula) (mid rest new : List Pending) (a b : Expression)
     → unwind 0 ws e ≡ (pendings_view mid, formula_view b)
-    → mid ≡ rest ++ last ∷ [] → condition_in (pending_view last) ≡ None → coloned (unwind 0 ws e) ≡ Err ExpectedOperator
-colon_stops ws e mid rest last b u is found = colon_taken ws e mid rest last b None u is found
-
-pub colon_step : (ws : List Waiting) (e : Formula) (mid rest new : List Pending) (last : Pending) (a b : Expression)
-    → unwind 0 ws e ≡ (pendings_view mid, formula_view b)
-    → mid ≡ rest ++ last ∷ [] → condition_in (pending_view last) ≡ Some (formula_view a) → new ≡ rest ++ pending.Colon a b ∷ []
+    → colon_stage (pendings_view mid) (formula_view b) ≡ stage_ok (expects (colon (formula_view a) (formula_view b) ∷ pendings_view rest))
+    → new ≡ rest ++ pending.Colon a b ∷ []
     → coloned (unwind 0 ws e) ≡ Ok (expects (pendings_view new))
-colon_step ws e mid rest new last a b u is found put =
-    colon_taken ws e mid rest last b (Some (formula_view a)) u is found
-    ∙ sym (ap (λ vs. stage_ok (expects vs)) (pushed rest new (pending.Colon a b) put))
+colon_step ws e mid rest new a b u taken put =
+    ap coloned u ∙ taken ∙ sym (ap (λ vs. stage_ok (expects vs)) (pushed rest new (pending.Colon a b) put))
 
 -- what `)` does, likewise
-pub close_alone : (ws : List Waiting) (e : Formula) (mid : List Pending) (a : Expression)
-    → unwind 0 ws e ≡ (pendings_view mid, formula_view a) → mid ≡ []
-    → closed (unwind 0 ws e) ≡ Err ExpectedOperator
-close_alone ws e mid a u is = ap closed u ∙ ap (λ ps. close_stage (pendings_view ps) (formula_view a)) is
-
-close_taken : (ws : List Waiting) (e : Formula) (mid rest : List Pending) (last : Pending) (a : Expression) (b : Bool)
-    → unwind 0 ws e ≡ (pendings_view mid, formula_view a)
-    → mid ≡ rest ++ last ∷ [] → is_bracket (pending_view last) ≡ b
-    → closed (unwind 0 ws e) ≡ cond b (Ok (has (pendings_view rest) (formula_view a))) (Err ExpectedOperator)
-close_taken ws e mid rest last a b u is found =
-    ap closed u ∙ ap (λ vs. close_stage vs (formula_view a)) (pushed rest mid last is)
-    ∙ ap (λ t. cond t (Ok (has (pendings_view rest) (formula_view a))) (Err ExpectedOperator)) found
-
-pub close_stops : (ws : List Waiting) (e : Formula) (mid rest : List Pending) (last : Pending) (a : Expression)
-    → unwind 0 ws e ≡ (pendings_view mid, formula_view a)
-    → mid ≡ rest ++ last ∷ [] → is_bracket (pending_view last) ≡ false → closed (unwind 0 ws e) ≡ Err ExpectedOperator
-close_stops ws e mid rest last a u is found = close_taken ws e mid rest last a false u is found
-
-pub close_step : (ws : List Waiting) (e : Formula) (mid rest : List Pending) (last : Pending) (a : Expression)
-    → unwind 0 ws e ≡ (pendings_view mid, formula_view a)
-    → mid ≡ rest ++ last ∷ [] → is_bracket (pending_view last) ≡ true
-    → closed (unwind 0 ws e) ≡ Ok (has (pendings_view rest) (formula_view a))
-close_step ws e mid rest last a u is found = close_taken ws e mid rest last a true u is found
+pub bracket_popped : (old new : List Pending) (last : Pending) (b : Bool) (inner : Formula) → old ≡ new ++ last ∷ []
+    → b ≡ is_bracket (pending_view last) → close_stage (pendings_view old) inner ≡ close_with b (pendings_view new) inner
+bracket_popped old new last b inner is found =
+    ap (λ vs. close_stage vs inner) (pushed new old last is) ∙ ap (λ t. close_with t (pendings_view new) inner) (sym found)
 
 -- what the end does: where nothing waits, and where something does
-pub ends_whole : (ws : List Waiting) (e : Formula) (mid : List Pending) (a : Expression)
-    → unwind 0 ws e ≡ (pendings_view mid, formula_view a) → mid ≡ []
-    → finished (unwind 0 ws e) ≡ Ok (formula_view a)
-ends_whole ws e mid a u is = ap finished u ∙ ap (λ ps. whole (pendings_view ps) (formula_view a)) is
+pub none_waits : (n : ℕ) (ps : List Pending) (e : Formula) → n ≡ length ps → (n == 0) ≡ true → whole (pendings_view ps) e ≡ Ok e
+none_waits n [] e size is = refl
+none_waits n (p ∷ ps) e size is =
+    let none : n ≡ 0 = eqb-true _ _ is in
+    absurd (omega arith)
 
-pub ends_unfinished : (ws : List Waiting) (e : Formula) (mid rest : List Pending) (last : Pending) (a : Expression)
-    → unwind 0 ws e ≡ (pendings_view mid, formula_view a)
-    → mid ≡ rest ++ last ∷ [] → finished (unwind 0 ws e) ≡ Err Unfinished
-ends_unfinished ws e mid rest last a u is = ap finished u ∙ ap (λ vs. whole vs (formula_view a)) (pushed rest mid last is)
+some_waits_onto : (ps : List Pending) (w : Waiting) (ws : List Waiting) (e : Formula) → whole (pendings_onto ps (w ∷ ws)) e ≡ Err Unfinished
+some_waits_onto [] w ws e = refl
+some_waits_onto (p ∷ ps) w ws e = some_waits_onto ps (pending_view p) (w ∷ ws) e
+
+pub some_waits : (n : ℕ) (ps : List Pending) (e : Formula) → n ≡ length ps → (n == 0) ≡ false → whole (pendings_view ps) e ≡ Err Unfinished
+some_waits n [] e size is = absurd (eqb-false _ _ is size)
+some_waits n (p ∷ ps) e size is = some_waits_onto ps (pending_view p) [] e
 
 -- nothing waits
 pub none_ends : (m : ℕ) (ps : List Pending) (e : Formula) → ps ≡ [] → unwind m (pendings_view ps) e ≡ (pendings_view ps, e)

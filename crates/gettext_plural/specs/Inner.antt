@@ -1,4 +1,5 @@
 -- No definitions of the subject: a reader of expressions, and views of private types, for private
 -- contracts.
+pub mod LeftOperands
 pub mod PluralMachine
 pub mod FormulaViews

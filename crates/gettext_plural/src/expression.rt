@@ -1,9 +1,10 @@
 //! An expression, and its value.
 
-ghost use Rattle.std.specs.Prelude.{◌≡◌, Option, IfOk};
+ghost use Rattle.std.specs.Prelude.{◌≡◌, Option, Some, IfOk, nat_eq};
 ghost use Rattle.gettext_plural.specs.PluralExpressions.{joined, negated, chosen};
-ghost use Rattle.gettext_plural.specs.PluralValues.{applied, formula_value, remainder_of, quotient_of, truth};
+ghost use Rattle.gettext_plural.specs.PluralValues.{applied, formula_value, if_value, remainder_of, quotient_of, truth};
 ghost use Rattle.gettext_plural.specs.PluralViews.{formula_view};
+ghost use Rattle.gettext_plural.specs.Inner.LeftOperands.{decided, decided_by};
 
 use crate::token::Operator;
 use std::alloc::{AllocError, Global};
@@ -63,31 +64,16 @@ impl Expression {
         match self {
             Expression::Number(number) => Some(*number),
             Expression::N => Some(n),
-            Expression::Negated(operand) => Some(truth(operand.value(n)? == 0)),
-            Expression::Joined(Operator::Or, left, right) => {
-                if left.value(n)? != 0 {
-                    return Some(1);
-                }
-                Some(truth(right.value(n)? != 0))
-            }
-            Expression::Joined(Operator::And, left, right) => {
-                if left.value(n)? == 0 {
-                    return Some(0);
-                }
-                Some(truth(right.value(n)? != 0))
-            }
-            Expression::Joined(operator, left, right) => {
-                let left = left.value(n)?;
-                let right = right.value(n)?;
-                applied(*operator, left, right)
-            }
-            Expression::Chosen(condition, yes, no) => {
-                if condition.value(n)? != 0 {
-                    yes.value(n)
-                } else {
-                    no.value(n)
-                }
-            }
+            Expression::Negated(operand) => negation(operand.value(n)),
+            Expression::Joined(operator, left, right) => match decided(*operator, left.value(n)) {
+                Ok(left) => completed(*operator, left, right.value(n)),
+                Err(value) => value,
+            },
+            Expression::Chosen(condition, yes, no) => match condition.value(n) {
+                None => None,
+                Some(0) => no.value(n),
+                Some(_) => yes.value(n),
+            },
         }
     }
 }
@@ -97,6 +83,50 @@ fn truth(is_true: bool) -> u64
     ensures { result ≡ truth is_true }
 {
     if is_true { 1 } else { 0 }
+}
+
+// The value of a negation of such a value.
+fn negation(operand: Option<u64>) -> Option<u64>
+    ensures { result ≡ if_value operand (λ x. Some (truth (nat_eq x 0))) }
+{
+    match operand {
+        Some(value) => Some(truth(value == 0)),
+        None => None,
+    }
+}
+
+// The value of the left operand of an operator; else that of both, which it decides.
+fn decided(operator: Operator, left: Option<u64>) -> Result<u64, Option<u64>>
+    ensures { result ≡ decided operator left }
+{
+    match left {
+        Some(left) => decided_by(operator, left),
+        None => Err(None),
+    }
+}
+
+// The same where the left operand has a value.
+fn decided_by(operator: Operator, left: u64) -> Result<u64, Option<u64>>
+    ensures { result ≡ decided_by operator left }
+{
+    match operator {
+        Operator::Or => if left == 0 { Ok(left) } else { Err(Some(1)) },
+        Operator::And => if left == 0 { Err(Some(0)) } else { Ok(left) },
+        Operator::Equal | Operator::Unequal => Ok(left),
+        Operator::Below | Operator::Above | Operator::AtMost | Operator::AtLeast => Ok(left),
+        Operator::Plus | Operator::Minus => Ok(left),
+        Operator::Times | Operator::Over | Operator::Remainder => Ok(left),
+    }
+}
+
+// The value of an operator whose left operand decides nothing.
+fn completed(operator: Operator, left: u64, right: Option<u64>) -> Option<u64>
+    ensures { result ≡ if_value right (λ y. applied operator left y) }
+{
+    match right {
+        Some(right) => applied(operator, left, right),
+        None => None,
+    }
 }
 
 // The value of an operator between the values of both operands.

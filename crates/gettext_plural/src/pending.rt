@@ -1,6 +1,6 @@
 //! What waits for an operand.
 
-ghost use Rattle.std.specs.Prelude.{◌≡◌, None, Some, IfOk, MatchOption};
+ghost use Rattle.std.specs.Prelude.{◌≡◌, option_map, IfOk};
 ghost use Rattle.gettext_plural.specs.PluralViews.{formula_view};
 ghost use Rattle.gettext_plural.specs.Inner.FormulaViews.{pending_view};
 ghost use Rattle.gettext_plural.specs.Inner.PluralMachine.{closes, condition_in, filled, is_bracket};
@@ -61,7 +61,7 @@ impl Pending {
 
     // The condition of a `?`.
     pub(crate) fn condition(self) -> Option<Expression>
-        ensures { MatchOption result (condition_in (pending_view self) ≡ None) (λ e. condition_in (pending_view self) ≡ Some (formula_view e)) }
+        ensures { option_map formula_view result ≡ condition_in (pending_view self) }
     {
         match self {
             Pending::Bracket => None,

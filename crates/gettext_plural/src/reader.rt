@@ -1,11 +1,12 @@
 //! Reading an expression: each token does what it does to what was read before it, and what waits
 //! for an operand stands in a list, the innermost last.
 
-ghost use Rattle.std.specs.Prelude.{◌≡◌, ◌≤◌, ℕ, List, ◌∷◌, true, false, IfOk, IfErr, MatchOption, length};
+ghost use Rattle.std.specs.Prelude.{◌≡◌, ◌≤◌, ◌+◌, ◌++◌, ℕ, List, [], ◌∷◌, true, false, IfOk, IfErr, OnOk, MatchOption, length, option_map};
+ghost use Rattle.gettext_plural.specs.PluralExpressions.{Formula};
 ghost use Rattle.gettext_plural.specs.PluralTokens.{is_end};
 ghost use Rattle.gettext_plural.specs.PluralViews.{formula_view};
 ghost use Rattle.gettext_plural.specs.Inner.FormulaViews.{pendings_view, stage_view, HasTaken, IsPopped, IsStep, IsFinish, IsReading, IsStopped};
-ghost use Rattle.gettext_plural.specs.Inner.PluralMachine.{unwind, expects, has};
+ghost use Rattle.gettext_plural.specs.Inner.PluralMachine.{close_stage, close_with, colon_stage, colon_with, unwind, expects, has};
 
 use crate::error::{Fault, FaultKind, ReadError};
 use crate::expression::Expression;
@@ -46,7 +47,6 @@ fn next_byte(text: &[u8]) -> Option<(u8, &[u8])>
 
 // Takes a blank, or a token that begins with a byte, and returns the operand that was read then, and
 // what follows.
-#[tactic(auto, using(crate::proofs::ReaderSteps::blank_taken, crate::proofs::ReaderSteps::token_taken, crate::proofs::ReaderSteps::error_stops))]
 fn advance<'a>(
     alloc: Global,
     pending: &mut Vec<Pending>,
@@ -63,10 +63,19 @@ fn advance<'a>(
     if is_blank(first) {
         return Ok((operand, behind));
     }
-    let left = behind.len().saturating_add(1);
+    let left = left_before(behind);
     let (token, after) = token_at(first, behind);
-    let operand = take(alloc, pending, operand, token, left)?;
-    Ok((operand, after))
+    match take(alloc, pending, operand, token, left) {
+        Ok(operand) => Ok((operand, after)),
+        Err(error) => Err(error),
+    }
+}
+
+// How many bytes are left from the byte before these on.
+fn left_before(behind: &[u8]) -> usize
+    ensures { result ≡ length behind.now + 1 }
+{
+    behind.len().saturating_add(1)
 }
 
 // Takes a token, where so many bytes are left, and returns the operand that was read then, unless
@@ -99,11 +108,11 @@ fn begin(
         Token::Number(number) => Ok(Some(Expression::Number(number))),
         Token::N => Ok(Some(Expression::N)),
         Token::Not => {
-            pending.push(Pending::Negation)?;
+            put(pending, Pending::Negation)?;
             Ok(None)
         }
         Token::Open => {
-            pending.push(Pending::Bracket)?;
+            put(pending, Pending::Bracket)?;
             Ok(None)
         }
         Token::Joint(_) => Err(fault(FaultKind::ExpectedOperand, left)),
@@ -129,11 +138,11 @@ fn follow(
         Token::Question => question(alloc, pending, operand, left),
         Token::Colon => colon(alloc, pending, operand, left),
         Token::Close => close(alloc, pending, operand, left),
-        Token::Number(_) => Err(fault(FaultKind::ExpectedOperator, left)),
-        Token::N => Err(fault(FaultKind::ExpectedOperator, left)),
-        Token::Not => Err(fault(FaultKind::ExpectedOperator, left)),
-        Token::Open => Err(fault(FaultKind::ExpectedOperator, left)),
-        Token::Junk => Err(fault(FaultKind::ExpectedOperator, left)),
+        Token::Number(_) => Err(misplaced(operand, left)),
+        Token::N => Err(misplaced(operand, left)),
+        Token::Not => Err(misplaced(operand, left)),
+        Token::Open => Err(misplaced(operand, left)),
+        Token::Junk => Err(misplaced(operand, left)),
     }
 }
 
@@ -148,7 +157,7 @@ fn joint(
     ensures { IsStep (has (pendings_view pending.old.items) (formula_view operand)) (Token.Joint operator) left pending.new.items result }
 {
     let joined = unwind(alloc, pending, operator.binding(), operand)?;
-    pending.push(Pending::Left(operator, joined))?;
+    put(pending, Pending::Left(operator, joined))?;
     Ok(None)
 }
 
@@ -162,7 +171,7 @@ fn question(
     ensures { IsStep (has (pendings_view pending.old.items) (formula_view operand)) Token.Question left pending.new.items result }
 {
     let condition = unwind(alloc, pending, 1, operand)?;
-    pending.push(Pending::Question(condition))?;
+    put(pending, Pending::Question(condition))?;
     Ok(None)
 }
 
@@ -176,14 +185,24 @@ fn colon(
     ensures { IsStep (has (pendings_view pending.old.items) (formula_view operand)) Token.Colon left pending.new.items result }
 {
     let yes = unwind(alloc, pending, 0, operand)?;
-    let Some(last) = pending.pop() else {
-        return Err(fault(FaultKind::ExpectedOperator, left));
-    };
-    let Some(condition) = last.condition() else {
-        return Err(fault(FaultKind::ExpectedOperator, left));
-    };
-    pending.push(Pending::Colon(condition, yes))?;
-    Ok(None)
+    match pop_condition(pending) {
+        Some(condition) => {
+            put(pending, Pending::Colon(condition, yes))?;
+            Ok(None)
+        }
+        None => Err(misplaced(yes, left)),
+    }
+}
+
+// Takes the innermost, and returns its condition, if it is a `?`.
+#[tactic(auto, using(crate::proofs::PendingViews::condition_popped))]
+fn pop_condition(pending: &mut Vec<Pending>) -> Option<Expression>
+    ensures { (yes : Formula) → colon_stage (pendings_view pending.old.items) yes ≡ colon_with (option_map formula_view result) (pendings_view pending.new.items) yes }
+{
+    match pending.pop() {
+        Some(last) => last.condition(),
+        None => None,
+    }
 }
 
 // Takes `)` behind an operand.
@@ -196,13 +215,25 @@ fn close(
     ensures { IsStep (has (pendings_view pending.old.items) (formula_view operand)) Token.Close left pending.new.items result }
 {
     let inner = unwind(alloc, pending, 0, operand)?;
-    let Some(last) = pending.pop() else {
-        return Err(fault(FaultKind::ExpectedOperator, left));
-    };
-    if last.is_bracket() {
+    if pop_bracket(pending) {
         Ok(Some(inner))
     } else {
-        Err(fault(FaultKind::ExpectedOperator, left))
+        Err(misplaced(inner, left))
+    }
+}
+
+// Takes the innermost, and returns whether it is a bracket.
+#[tactic(auto, using(crate::proofs::PendingViews::bracket_popped))]
+fn pop_bracket(pending: &mut Vec<Pending>) -> bool
+    ensures { (inner : Formula) → close_stage (pendings_view pending.old.items) inner ≡ close_with result (pendings_view pending.new.items) inner }
+{
+    match pending.pop() {
+        Some(last) => {
+            let is_bracket = last.is_bracket();
+            drop(last);
+            is_bracket
+        }
+        None => false,
     }
 }
 
@@ -231,10 +262,11 @@ fn end_at(
     ensures { IsFinish (has (pendings_view pending.old.items) (formula_view operand)) left result }
 {
     let whole = unwind(alloc, pending, 0, operand)?;
-    match pending.pop() {
-        None => Ok(whole),
-        Some(_) => Err(fault(FaultKind::Unfinished, left)),
+    if pending.is_empty() {
+        return Ok(whole);
     }
+    drop(whole);
+    Err(fault(FaultKind::Unfinished, left))
 }
 
 // Ends all that ends before an operator that binds so much, and returns the operand before it.
@@ -265,8 +297,24 @@ fn pop_closed(pending: &mut Vec<Pending>, binding: u8) -> Result<Option<Pending>
     if last.closes(binding) {
         return Ok(Some(last));
     }
-    pending.push(last)?;
+    put(pending, last)?;
     Ok(None)
+}
+
+// Adds what waits behind all else.
+fn put(pending: &mut Vec<Pending>, last: Pending) -> Result<(), AllocError>
+    ensures { OnOk result (pending.new.items ≡ pending.old.items ++ last ∷ []) }
+{
+    pending.push(last)?;
+    Ok(())
+}
+
+// The fault of a token behind an operand, which is dropped.
+fn misplaced(operand: Expression, left: usize) -> ReadError
+    ensures { result ≡ ReadError.Fault (record { kind = FaultKind.ExpectedOperator; left = left }) }
+{
+    drop(operand);
+    fault(FaultKind::ExpectedOperator, left)
 }
 
 // A fault where so many bytes are left.

@@ -74,9 +74,12 @@ is_bracket (left_of o a) = false
 is_bracket (question a) = false
 is_bracket (colon a b) = false
 
+abbrev pub close_with : Bool → List Waiting → Formula → Result Stage FaultKind
+close_with is_open ws a = cond is_open (Ok (has ws a)) (Err ExpectedOperator)
+
 abbrev pub close_stage : List Waiting → Formula → Result Stage FaultKind
 close_stage [] a = Err ExpectedOperator
-close_stage (w ∷ ws) a = cond (is_bracket w) (Ok (has ws a)) (Err ExpectedOperator)
+close_stage (w ∷ ws) a = close_with (is_bracket w) ws a
 
 abbrev pub closed : List Waiting × Formula → Result Stage FaultKind
 closed it = close_stage it.0 it.1

@@ -8,4 +8,4 @@ returns c =
     let before = pendings_view c.args.pending.now.items in
     let operand = formula_view c.args.operand in
     joint_step c.args.operator before operand _ _ c.in_ok-joined.joined
-    (rw c.binding.ensures at c.in_ok-joined.ensures) c.in_ok-push.ensures.items
+    (rw c.binding.ensures at c.in_ok-joined.ensures) c.in_ok-put.ensures

@@ -7,4 +7,4 @@ pub returns : goal.returns
 returns c =
     let before = pendings_view c.args.pending.now.items in
     let operand = formula_view c.args.operand in
-    question_step before operand _ _ c.in_ok-condition.condition c.in_ok-condition.ensures c.in_ok-push.ensures.items
+    question_step before operand _ _ c.in_ok-condition.condition c.in_ok-condition.ensures c.in_ok-put.ensures
