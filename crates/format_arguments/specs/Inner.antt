@@ -1,2 +1,3 @@
 -- No definitions of the subject: views of private types, for private contracts.
 pub mod DirectiveViews
+pub mod NumberWords

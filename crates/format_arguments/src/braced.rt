@@ -1,8 +1,8 @@
 //! Directives in braces.
 
-ghost use Rattle.std.specs.Prelude.{◌≡◌, ◌≤◌, ◌<◌, ◌+◌, ◌∷◌, length, false, IfSome};
+ghost use Rattle.std.specs.Prelude.{◌≡◌, ◌≤◌, ◌<◌, ◌+◌, ◌^◌, ◌∷◌, ℕ, List, length, false, IfSome};
 ghost use Rattle.format_arguments.specs.Directives.{begins_style, behind_closing, brace_front, field_end, field_front, field_which, fits_field, has_quotes, no_field, styled_field};
-ghost use Rattle.format_arguments.specs.Inner.DirectiveViews.{LeavesLess, front_view, rest_view, which_view};
+ghost use Rattle.format_arguments.specs.Inner.DirectiveViews.{LeavesLess, closed_behind, front_view, rest_view, which_view};
 
 use crate::bytes::{Class, after_byte, behind_run, is_digit, is_of_word, split_run};
 use crate::directive::{Front, Which, place_of};
@@ -28,21 +28,38 @@ fn behind_closing(quotes: bool, text: &[u8]) -> Option<&[u8]>
     let mut depth = 0usize;
     let mut rest = text;
     while let [first, after @ ..] = rest {
-        let byte = *first;
-        rest = after;
-        if byte == b'\'' && quotes {
-            quoted = !quoted;
-        } else if quoted {
-            continue;
-        } else if byte == b'{' {
-            depth += 1;
-        } else if byte == b'}' && depth == 0 {
-            return Some(rest);
-        } else if byte == b'}' {
-            depth -= 1;
+        match behind_byte(quotes, quoted, depth, *first) {
+            Some((is_quoted, open)) => {
+                quoted = is_quoted;
+                depth = open;
+                rest = after;
+            }
+            None => return Some(after),
         }
     }
     None
+}
+
+// Whether text is quoted behind a byte of a style, and how many braces are open there; none behind
+// the brace that closes the style.
+fn behind_byte(quotes: bool, quoted: bool, depth: usize, byte: u8) -> Option<(bool, usize)>
+    requires { depth + 1 < 2 ^ 64 }
+    ensures same { (s : List ℕ) → behind_closing quotes quoted depth (byte ∷ s) ≡ closed_behind quotes s result }
+    ensures within { IfSome result (λ state. state.1 ≤ depth + 1) }
+{
+    if byte == b'\'' && quotes {
+        Some((!quoted, depth))
+    } else if quoted {
+        Some((quoted, depth))
+    } else if byte == b'{' {
+        Some((quoted, depth + 1))
+    } else if byte == b'}' && depth == 0 {
+        None
+    } else if byte == b'}' {
+        Some((quoted, depth - 1))
+    } else {
+        Some((quoted, depth))
+    }
 }
 
 // Whether a name may stand between braces.

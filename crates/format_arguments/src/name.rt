@@ -1,7 +1,9 @@
 //! Names of numbers.
 
 ghost use Rattle.std.specs.Prelude.{◌≡◌};
+ghost use Rattle.std.specs.Str.{bytes_eq};
 ghost use Rattle.format_arguments.specs.CountedArguments.{is_number_name, is_number_word};
+ghost use Rattle.format_arguments.specs.Inner.NumberWords.{is_long_number_word};
 
 use crate::bytes::{Class, behind_first, split_run};
 
@@ -10,14 +12,26 @@ use crate::bytes::{Class, behind_first, split_run};
 fn is_number_word(word: &[u8]) -> bool
     ensures { result ≡ is_number_word word.now }
 {
-    word == b"n".as_slice()
-        || word == b"num".as_slice()
-        || word == b"nb".as_slice()
-        || word == b"number".as_slice()
-        || word == b"count".as_slice()
-        || word == b"cnt".as_slice()
-        || word == b"amount".as_slice()
-        || word == b"quantity".as_slice()
+    is(word, b"n") || is(word, b"num") || is(word, b"nb") || is_long_number_word(word)
+}
+
+// Whether a longer word names a number.
+fn is_long_number_word(word: &[u8]) -> bool
+    ensures { result ≡ is_long_number_word word.now }
+{
+    is(word, b"number")
+        || is(word, b"count")
+        || is(word, b"cnt")
+        || is(word, b"amount")
+        || is(word, b"quantity")
+}
+
+// Whether a word is another one.
+#[inline]
+fn is(word: &[u8], other: &[u8]) -> bool
+    ensures { result ≡ bytes_eq word.now other.now }
+{
+    word == other
 }
 
 // Whether a word of the name names a number.

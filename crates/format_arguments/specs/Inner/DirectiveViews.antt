@@ -1,12 +1,12 @@
 -- What private functions return, without where it lies in memory.
-use Rattle.std.specs.Prelude.{ℕ, ◌+◌, ◌≤◌, ◌<◌, List, length, Option, Some, None}
+use Rattle.std.specs.Prelude.{ℕ, ◌+◌, ◌≤◌, ◌<◌, Bool, List, length, Option, Some, None}
 use Rattle.std.specs.Borrow.{Bor}
 use Rattle.format_arguments.specs.declared.directive.Which as whiches
 use Rattle.format_arguments.specs.declared.directive.Which.TheVariants as which
 use Rattle.format_arguments.specs.declared.directive.Directive as directives
 use Rattle.format_arguments.specs.declared.directive.Front as fronts
 use Rattle.format_arguments.specs.declared.directive.Front.TheVariants as front
-use Rattle.format_arguments.specs.Directives.{Which, Next, At, Named, Directive, Front, End, Takes, Broken}
+use Rattle.format_arguments.specs.Directives.{Which, Next, At, Named, Directive, Front, End, Takes, Broken, behind_closing}
 
 abbrev pub which_view : whiches.Which → Which
 which_view which.Next = Next
@@ -20,6 +20,11 @@ which_rest_view (Some found) = Some (which_view found.0, found.1.now)
 abbrev pub rest_view : Option (Bor (List ℕ)) → Option (List ℕ)
 rest_view None = None
 rest_view (Some rest) = Some rest.now
+
+-- what follows the brace that closes, behind a byte of a style
+abbrev pub closed_behind : Bool → List ℕ → Option (Bool × ℕ) → Option (List ℕ)
+closed_behind quotes s None = Some s
+closed_behind quotes s (Some (quoted, depth)) = behind_closing quotes quoted depth s
 
 abbrev pub width_view : ℕ × Bor (List ℕ) → ℕ × List ℕ
 width_view width = (width.0, width.1.now)
