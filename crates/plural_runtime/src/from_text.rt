@@ -1,6 +1,8 @@
 //! Reads texts as rules.
 
-ghost use Rattle.std.specs.Prelude.{◌≡◌, ◌≢◌, ◌⊎◌, Err};
+ghost use Rattle.std.specs.Prelude.{◌≡◌, ◌≢◌, ◌⊎◌, [], Err};
+ghost use Rattle.plural_reference.specs.RelationSinks.{nothing};
+ghost use Rattle.plural_runtime.specs.Inner.TextItems.{HoldsPacked};
 ghost use Rattle.plural_runtime.specs.RuleOfText.{TextGives};
 
 use crate::error::RuleError;
@@ -29,10 +31,23 @@ impl Rule<'static> {
         // The values of a text fit: only trees made by hand have this fault.
         ensures fits { result ≢ Err (RuleError.Parse ParseError.ValueTooLarge) }
     {
+        let mut relations = TextRelations::new(alloc);
+        Rule::of_text(alloc, text, &mut relations)
+    }
+
+    // Reads a text as a rule: its relations are added to none.
+    fn of_text(
+        alloc: Global,
+        text: &str,
+        relations: &mut TextRelations,
+    ) -> Result<Rule<'static>, RuleError>
+        requires { HoldsPacked relations.now nothing [] }
+        ensures gives { TextGives text.now result ⊎ (result ≡ Err RuleError.Memory) }
+        ensures fits { result ≢ Err (RuleError.Parse ParseError.ValueTooLarge) }
+    {
         one_list_of_tokens();
         conditions_of_texts_are_spellable();
-        let mut relations = TextRelations::new(alloc);
-        match read_relations(alloc, text.as_bytes(), &mut relations) {
+        match read_relations(alloc, text.as_bytes(), relations) {
             Ok(()) => Rule::of_items(alloc, relations.items()),
             Err(ReadError::Parse(fault)) => Err(RuleError::Parse(fault)),
             Err(ReadError::Memory) => Err(RuleError::Memory),

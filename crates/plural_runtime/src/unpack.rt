@@ -1,7 +1,7 @@
 //! Makes the tree of packed relations.
 
-ghost use Rattle.std.specs.Prelude.{◌≡◌, map, IfOk, OnOk, None};
-ghost use Rattle.plural_runtime.specs.PackedTree.{unpacked_relation, unpacked_range, unpacked};
+ghost use Rattle.std.specs.Prelude.{◌≡◌, ◌<◌, ◌++◌, ◌∷◌, [], length, map, IfOk, OnOk, None};
+ghost use Rattle.plural_runtime.specs.PackedTree.{unpacked_relation, unpacked_range, unpacked_groups, unpacked};
 ghost use Rattle.plural_runtime.specs.Inner.RuleViews.{lent_relation, done_before, open_before};
 
 use crate::kinds::AndOr;
@@ -49,14 +49,43 @@ fn condition_of(alloc: Global, rule: &Rule<'_>) -> Result<ast::Condition, AllocE
         return Ok(ast::Condition(Sequence(Vec::new(alloc))));
     }
     let mut groups = Vec::with_capacity(alloc, ROOM)?;
+    add_groups(alloc, rule, &mut groups)?;
+    Ok(ast::Condition(Sequence(groups)))
+}
+
+// Adds the groups of a rule to none.
+fn add_groups(
+    alloc: Global,
+    rule: &Rule<'_>,
+    groups: &mut Vec<ast::AndCondition>,
+) -> Result<(), AllocError>
+    requires some { 0 < length rule.now }
+    requires none { groups.now.items ≡ [] }
+    ensures { OnOk result (map (λ group. group.0) groups.new.items ≡ unpacked_groups rule.now) }
+{
     let mut group = Vec::with_capacity(alloc, ROOM)?;
     for item in rule.iter() {
-        let relation = item.as_relation();
-        close_group(alloc, relation.and_or(), &mut groups, &mut group)?;
-        group.push(relation_of(alloc, &relation)?)?;
+        add_relation(alloc, &item.as_relation(), groups, &mut group)?;
     }
     groups.push(ast::AndCondition(Sequence(group)))?;
-    Ok(ast::Condition(Sequence(groups)))
+    Ok(())
+}
+
+// Adds a relation to the open group, or to a new one.
+fn add_relation(
+    alloc: Global,
+    relation: &Relation<'_>,
+    groups: &mut Vec<ast::AndCondition>,
+    group: &mut Vec<ast::Relation>,
+) -> Result<(), AllocError>
+    ensures groups { OnOk result (map (λ group. group.0) groups.new.items
+        ≡ done_before (lent_relation relation.now).and_or (map (λ group. group.0) groups.old.items) group.old.items) }
+    ensures group { OnOk result (group.new.items
+        ≡ open_before (lent_relation relation.now).and_or group.old.items ++ unpacked_relation (lent_relation relation.now) ∷ []) }
+{
+    close_group(alloc, relation.and_or(), groups, group)?;
+    group.push(relation_of(alloc, relation)?)?;
+    Ok(())
 }
 
 // At Or the open group is complete.

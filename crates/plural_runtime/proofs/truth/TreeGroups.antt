@@ -127,13 +127,10 @@ glued-all (relation ∷ relations) h =
     glued-groups [] [] (relation ∷ relations) ∙ ap (λ gs. with_open [] (map (map unpacked_relation) gs)) f.is
     ∙ ap (map (map unpacked_relation)) (sym f.is)
 
--- the groups that are done and the open one are the tree
-pub whole_tree : (conditions : List AndCondition) (group : List Relation) (relations : List PackedRelation)
-    → map (λ (c : AndCondition). c.0) conditions ++ group ∷ [] ≡ unpacked_groups relations
-    → record { 0 = conditions ++ record { 0 = group } ∷ [] } ≡ unpacked relations
+-- and-conditions whose groups are those of the tree are the tree
+pub grouped_tree : (conditions : List AndCondition) (relations : List PackedRelation)
+    → map (λ (c : AndCondition). c.0) conditions ≡ unpacked_groups relations → record { 0 = conditions } ≡ unpacked relations
 unfolding unpacked
-whole_tree conditions group relations h =
-    let last : List AndCondition = record { 0 = group } ∷ [] in
-    let e = map-append (λ (c : AndCondition). c.0) conditions last in
+grouped_tree conditions relations h =
     ap (λ (cs : List AndCondition). record { 0 = cs })
-    (sym (unwrapped (conditions ++ last)) ∙ ap (map (λ (g : List Relation). record { 0 = g })) (e ∙ h))
+    (sym (unwrapped conditions) ∙ ap (map (λ (g : List Relation). record { 0 = g })) h)

@@ -13,7 +13,7 @@ use Rattle.plural_runtime.proofs.texts.FaultKinds.{never_too_large}
 use Rattle.plural_runtime.proofs.texts.SpellableTrees.{spellable_is_small}
 use Rattle.plural_runtime.proofs.texts.TextAnswers.{gives_when_read}
 use Rattle.plural_runtime.proofs.texts.TextItems.{cut_is}
-use Rattle.plural_runtime.proofs.rule.Rule.from_str.Goals as goal
+use Rattle.plural_runtime.proofs.rule.Rule.of_text.Goals as goal
 
 -- the values of a condition that is read fit
 small : (text : List ℕ) (tokens : List Token) (condition : Condition) → ConditionsOfTextsAreSpellable → AreTokensOf text tokens
