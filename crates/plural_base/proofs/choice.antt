@@ -7,3 +7,5 @@ pub mod SureFaults
 -- ranges in order, and rules with these
 pub mod OrderedLists
 pub mod OrderedTruth
+-- what a text is answered
+pub mod TextAnswers

@@ -19,7 +19,7 @@ use Rattle.plural_base.specs.Inner.JsonSteps.{GivesRule, Passes, row_alone, row_
 use Rattle.plural_base.specs.Json.{IsRefusal, Stands, ◌>>=◌, all_five}
 use Rattle.plural_base.specs.RangesJson.{ranges_meant}
 use Rattle.plural_base.specs.RulesJson.{naming_category, rule_meant, rules_meant}
-use Rattle.plural_base.proofs.reading.DocumentRefusals.{refused_with, third_of_three}
+use Rattle.plural_base.proofs.reading.DocumentRefusals.{refused_with, first_of_three, second_of_three, third_of_three}
 use Rattle.plural_base.proofs.reading.RulesRead.{rows_read}
 use Rattle.serde_json.specs.Data.{Data, Members, member}
 use Rattle.serde_json.specs.Find.{as_object, as_str, get, get_member}
@@ -112,6 +112,40 @@ maps_alone locale (Err e) ordinal ranges = refl
 maps_alone locale (Ok c) (Err e) ranges = refl
 maps_alone locale (Ok c) (Ok o) (Err e) = refl
 maps_alone locale (Ok c) (Ok o) (Ok r) = refl
+
+-- a refusal of the cardinal rules is one of the document of a locale
+pub cardinal_of_locale_refused : (locale : List ℕ) (value : Data) (a : Option Data) (e : JsonError) → true ≡ is_some (as_object value)
+    → a ≡ get (codes "cardinal") value → IsRefusal e (row_alone locale (map_meant rules_meant a))
+    → IsRefusal e (with_locale locale (document_meant value))
+cardinal_of_locale_refused locale value a e is_object a_is first =
+    let cardinal = map_meant rules_meant (get (codes "cardinal") value) in
+    let ordinal = map_meant rules_meant (get (codes "ordinal") value) in
+    let ranges = map_meant ranges_meant (get (codes "ranges") value) in
+    refused_with e (row_alone locale (map_meant rules_meant a)) (with_locale locale (document_meant value))
+    (λ refused.
+    ap (λ is. with_locale locale (if is then all_maps cardinal ordinal ranges else Err Shape)) (sym is_object)
+    ∙ maps_alone locale cardinal ordinal ranges
+    ∙ first_of_three (row_alone locale cardinal) (row_alone locale ordinal) (row_alone locale ranges) e
+    (ap (λ d. row_alone locale (map_meant rules_meant d)) (sym a_is) ∙ refused))
+    first
+
+-- a refusal of the ordinal rules is one, if the cardinal ones are read
+pub ordinal_of_locale_refused : (locale : List ℕ) (value : Data) (a b : Option Data) (c : Rows FiveRules) (e : JsonError)
+    → true ≡ is_some (as_object value) → a ≡ get (codes "cardinal") value → b ≡ get (codes "ordinal") value
+    → row_alone locale (map_meant rules_meant a) ≡ Ok c → IsRefusal e (row_alone locale (map_meant rules_meant b))
+    → IsRefusal e (with_locale locale (document_meant value))
+ordinal_of_locale_refused locale value a b c e is_object a_is b_is first second =
+    let cardinal = map_meant rules_meant (get (codes "cardinal") value) in
+    let ordinal = map_meant rules_meant (get (codes "ordinal") value) in
+    let ranges = map_meant ranges_meant (get (codes "ranges") value) in
+    refused_with e (row_alone locale (map_meant rules_meant b)) (with_locale locale (document_meant value))
+    (λ refused.
+    ap (λ is. with_locale locale (if is then all_maps cardinal ordinal ranges else Err Shape)) (sym is_object)
+    ∙ maps_alone locale cardinal ordinal ranges
+    ∙ second_of_three (row_alone locale cardinal) (row_alone locale ordinal) (row_alone locale ranges) c e
+    (ap (λ d. row_alone locale (map_meant rules_meant d)) (sym a_is) ∙ first)
+    (ap (λ d. row_alone locale (map_meant rules_meant d)) (sym b_is) ∙ refused))
+    second
 
 -- a refusal of the ranges is one of the document of a locale, if both maps of rules are read
 pub locale_refused : (locale : List ℕ) (value : Data) (a b r : Option Data) (c o : Rows FiveRules) (e : JsonError)

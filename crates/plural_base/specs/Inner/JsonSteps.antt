@@ -1,5 +1,8 @@
 -- Not a definition of the subject: the error that the code makes from a rule's.
 use Rattle.std.specs.Prelude.{◌≡◌, ⊤, ℕ, Option, fold, Some, None, Result, Ok, Err, List, [], ◌∷◌, map, String, string_bytes}
+use Rattle.std.specs.BTreeMap.{insert_entry}
+use Rattle.std.specs.Cmp.Lexicographic.{slice_cmp}
+use Rattle.std.specs.Ordering.{nat_cmp}
 use Rattle.plural_runtime.specs.declared.error.RuleError.{RuleError}
 use Rattle.plural_runtime.specs.declared.error.RuleError.TheVariants as fault
 use Rattle.plural_base.specs.declared.category.PluralCategory.{PluralCategory}
@@ -78,6 +81,13 @@ range_rows_of = rows_by (λ ranges. ranges)
 abbrev pub Passes : {A : Type 0} → Result ⊤ JsonError → Stands A → Type 0
 Passes {A} (Ok _) stands = (x : A) × (stands ≡ Ok x)
 Passes (Err error) stands = IsRefusal error stands
+
+-- what the value means is put as the row of a locale; otherwise the call returns its refusal, or runs
+-- out of memory
+abbrev pub PutsRow : {A : Type 0} → List ℕ → Stands A → Rows A → Rows A → Result ⊤ JsonError → Type 0
+PutsRow {A} locale stands before after (Ok _) =
+    (x : A) × (stands ≡ Ok x) × (after ≡ insert_entry (slice_cmp nat_cmp) before locale x)
+PutsRow locale stands before after (Err error) = IsRefusal error stands
 
 -- the text gives a rule
 abbrev pub GivesRule : List ℕ → Type 0

@@ -6,9 +6,10 @@ ghost use Rattle.plural_base.specs.Ranges.{at, each, put_at};
 use crate::at_category;
 use crate::category::PluralCategory;
 use crate::category::raw::RawPluralCategory;
+use std::alloc::AllocError;
 
 // A value for each of the six categories.
-#[derive(Clone, Copy, Debug, PartialEq)]
+#[derive(Copy, Debug, PartialEq)]
 pub(crate) struct ByCategory<T> {
     pub(crate) other: T,
     pub(crate) zero: T,
@@ -16,6 +17,18 @@ pub(crate) struct ByCategory<T> {
     pub(crate) two: T,
     pub(crate) few: T,
     pub(crate) many: T,
+}
+
+impl<T: Copy> Clone for ByCategory<T> {
+    ghost use Rattle.std.specs.Prelude.{◌≡◌, ⊤};
+
+    ghost is_clone = { λ values clone. clone ≡ values };
+
+    ghost is_infallible = { λ _. ⊤ };
+
+    fn clone(&self) -> Result<ByCategory<T>, AllocError> {
+        Ok(*self)
+    }
 }
 
 impl<T: Copy> ByCategory<T> {

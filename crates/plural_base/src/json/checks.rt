@@ -85,7 +85,11 @@ fn check_rule<'v>(
     if known.has(text) {
         return Ok(());
     }
-    drop(read_rule(alloc, value, Some(category))?);
-    known.keep(text)?;
-    Ok(())
+    match read_rule(alloc, value, Some(category)) {
+        Ok(rule) => {
+            drop(rule);
+            Ok(known.keep(text)?)
+        }
+        Err(refusal) => Err(refusal),
+    }
 }

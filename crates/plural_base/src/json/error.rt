@@ -45,7 +45,7 @@ impl fmt::Display for JsonError {
             JsonError::Rule(None, fault) => write!(f, "rule: {fault}"),
             JsonError::RangeKey => f.write_str("range key"),
             JsonError::RangeValue => f.write_str("range value"),
-            JsonError::Pack(fault) => write!(f, "{fault}"),
+            JsonError::Pack(fault) => fault.fmt(f),
             JsonError::Memory => f.write_str("out of memory"),
         }
     }

@@ -13,7 +13,7 @@ use crate::json::error::JsonError;
 use crate::json::float::holds_float;
 use crate::json::known::KnownTexts;
 use crate::json::provider::JsonProvider;
-use crate::json::rows::{FromJson, put};
+use crate::json::rows::{FromJson, put_row};
 use plural_runtime::RuleError;
 use serde_json::{Map, Value};
 use std::alloc::Global;
@@ -142,8 +142,12 @@ fn row_with<T: FromJson>(
     ensures float { result ≢ Err JsonError.Float }
     ensures memory { (category : Option PluralCategory) → result ≢ Err (JsonError.Rule category RuleError.Memory) }
 {
-    let row = T::read(alloc, value)?;
     let mut rows = BTreeMap::new(alloc);
-    put(&mut rows, String::from_str(alloc, locale)?, row)?;
-    Ok(rows)
+    match put_row(alloc, locale, value, &mut rows) {
+        Ok(()) => Ok(rows),
+        Err(refusal) => {
+            drop(rows);
+            Err(refusal)
+        }
+    }
 }

@@ -12,6 +12,7 @@ use crate::json::error::JsonError;
 use crate::json::float::holds_float;
 use crate::json::known::KnownTexts;
 use crate::json::rows::FromJson;
+use crate::json::rules::put_value;
 use crate::ranges::PluralRanges;
 use crate::ranges::key::{UnvalidatedPluralRange, category_of_name, range_of_text};
 use serde_json::{Map, Value, json};
@@ -230,8 +231,9 @@ fn write_range(
     let Some(category) = category else {
         return Ok(());
     };
+    let text = text_of(alloc, start, end)?;
     let name = String::from_str(alloc, category.as_str())?;
-    drop(members.insert(text_of(alloc, start, end)?, Value::String(name))?);
+    put_value(text, Value::String(name), members)?;
     Ok(())
 }
 

@@ -6,7 +6,7 @@ ghost use Rattle.std.specs.Cmp.Lexicographic.{slice_cmp};
 ghost use Rattle.std.specs.Ordering.{nat_cmp};
 ghost use Rattle.plural_base.specs.declared.category.PluralCategory.{PluralCategory};
 ghost use Rattle.plural_base.specs.DocumentJson.{map_meant, rows_meant};
-ghost use Rattle.plural_base.specs.Inner.JsonSteps.{rows_by, Passes};
+ghost use Rattle.plural_base.specs.Inner.JsonSteps.{rows_by, Passes, PutsRow};
 ghost use Rattle.plural_base.specs.Json.{GivesMeaning, Stands};
 ghost use Rattle.serde_json.specs.Data.{Data};
 ghost use Rattle.serde_json.specs.View.{view, members_view};
@@ -77,14 +77,30 @@ fn read_rows<T: FromJson>(
 {
     let mut rows = BTreeMap::new(alloc);
     for (locale, value) in members.iter() {
-        let row = T::read(alloc, value)?;
-        put(&mut rows, locale.clone()?, row)?;
+        put_row(alloc, locale.as_str(), value, &mut rows)?;
     }
     Ok(rows)
 }
 
+// Puts what a value means as what a locale has.
+pub(crate) fn put_row<T: FromJson>(
+    alloc: Global,
+    locale: &str,
+    value: &Value,
+    rows: &mut BTreeMap<String, T>,
+) -> Result<(), JsonError>
+    ensures answers { PutsRow locale.now (T.meant (view value.now)) (rows_by T.seen rows.old.entries) (rows_by T.seen rows.new.entries) result }
+    ensures float { result ≢ Err JsonError.Float }
+    ensures memory { (category : Option PluralCategory) → result ≢ Err (JsonError.Rule category RuleError.Memory) }
+{
+    match T::read(alloc, value) {
+        Ok(row) => Ok(put(rows, String::from_str(alloc, locale)?, row)?),
+        Err(refusal) => Err(refusal),
+    }
+}
+
 // Puts what a locale has into a map.
-pub(crate) fn put<T: FromJson>(
+fn put<T: FromJson>(
     rows: &mut BTreeMap<String, T>,
     locale: String,
     row: T,

@@ -133,6 +133,7 @@ fn put_members(
     value: &Value,
     rules: &mut PluralRulesData<'static>,
 ) -> Result<(), JsonError>
+    requires { rules_of rules.old ≡ five None None None None None }
     ensures answers { GivesMeaning (λ _. rules_of rules.new) result (members_meant (view value.now)) }
     ensures read { OnOk result (AreRulesOf (texts_in (view value.now)) (rules_of rules.new)) }
     ensures float { result ≢ Err JsonError.Float }
@@ -153,54 +154,48 @@ fn put_member(
     category: PluralCategory,
     rule: &mut Option<Rule<'static>>,
 ) -> Result<(), JsonError>
+    requires { rule.old ≡ None }
     ensures answers { GivesMeaning (λ _. rule.new) result (member_meant category (view value.now)) }
     ensures read { OnOk result (IsRuleOf (text_under category (view value.now)) rule.new) }
     ensures float { result ≢ Err JsonError.Float }
     ensures memory { (c : Option Category) → result ≢ Err (JsonError.Rule c RuleError.Memory) }
     ensures no_text { text_under category (view value.now) ≡ None → result ≢ Err JsonError.Memory }
 {
-    *rule = read_member(alloc, value, category)?;
-    Ok(())
-}
-
-// The rule under the name of a category, if present.
-fn read_member(
-    alloc: Global,
-    value: &Value,
-    category: PluralCategory,
-) -> Result<Option<Rule<'static>>, JsonError>
-    ensures answers { GivesMeaning (λ rule. rule) result (member_meant category (view value.now)) }
-    ensures read { IfOk result (λ rule. IsRuleOf (text_under category (view value.now)) rule) }
-    ensures float { result ≢ Err JsonError.Float }
-    ensures memory { (c : Option Category) → result ≢ Err (JsonError.Rule c RuleError.Memory) }
-    ensures no_text { text_under category (view value.now) ≡ None → result ≢ Err JsonError.Memory }
-{
-    read_optional(
+    put_optional(
         alloc,
         value.get(RawPluralCategory::from(category).as_str()),
         category,
+        rule,
     )
 }
 
-// The rule of a value that may be absent or null.
-fn read_optional(
+// Puts the rule of a value that may be absent or null.
+fn put_optional(
     alloc: Global,
     value: Option<&Value>,
     category: PluralCategory,
-) -> Result<Option<Rule<'static>>, JsonError>
-    ensures answers { GivesMeaning (λ rule. rule) result (optional_meant category (option_map (λ v. view v.now) value.entry)) }
-    ensures read { IfOk result (λ rule. IsRuleOf (option_and_then as_str (option_map (λ v. view v.now) value.entry)) rule) }
+    rule: &mut Option<Rule<'static>>,
+) -> Result<(), JsonError>
+    requires { rule.old ≡ None }
+    ensures answers { GivesMeaning (λ _. rule.new) result (optional_meant category (option_map (λ v. view v.now) value.entry)) }
+    ensures read { OnOk result (IsRuleOf (option_and_then as_str (option_map (λ v. view v.now) value.entry)) rule.new) }
     ensures float { result ≢ Err JsonError.Float }
     ensures memory { (c : Option Category) → result ≢ Err (JsonError.Rule c RuleError.Memory) }
     ensures no_text { option_and_then as_str (option_map (λ v. view v.now) value.entry) ≡ None → result ≢ Err JsonError.Memory }
 {
     let Some(value) = value else {
-        return Ok(None);
+        return Ok(());
     };
     if value.is_null() {
-        return Ok(None);
+        return Ok(());
     }
-    Ok(Some(read_rule(alloc, value, Some(category))?))
+    match read_rule(alloc, value, Some(category)) {
+        Ok(found) => {
+            *rule = Some(found);
+            Ok(())
+        }
+        Err(refusal) => Err(refusal),
+    }
 }
 
 // The value of a rule, null if there is none.
@@ -246,7 +241,11 @@ fn put_text(
 }
 
 // Puts a value under a name.
-fn put_value(name: String, value: Value, members: &mut Map<String, Value>) -> Result<(), AllocError>
+pub(crate) fn put_value(
+    name: String,
+    value: Value,
+    members: &mut Map<String, Value>,
+) -> Result<(), AllocError>
     ensures { OnOk result (members_view members.new.entries ≡ put (string_bytes name) (view value) (members_view members.old.entries)) }
 {
     drop(members.insert(name, value)?);

@@ -1,6 +1,7 @@
 //! Rules as data.
 
-ghost use Rattle.std.specs.Prelude.{◌≡◌, IfOk, OnOk};
+ghost use Rattle.std.specs.Prelude.{◌≡◌, IfOk, None, OnOk};
+ghost use Rattle.plural_base.specs.FiveRules.{five, rules_of};
 
 use crate::five::put_five;
 use crate::make_five;
@@ -70,6 +71,7 @@ fn put_copies<'data>(
     rules: &PluralRulesData<'data>,
     copies: &mut PluralRulesData<'data>,
 ) -> Result<(), AllocError>
+    requires { rules_of copies.old ≡ five None None None None None }
     ensures { OnOk result (copies.new ≡ rules.now) }
 {
     put_five!(copies, rules, |copy, rule| put_copy(rule, copy)?);
@@ -81,18 +83,11 @@ fn put_copy<'data>(
     rule: &Option<Rule<'data>>,
     copy: &mut Option<Rule<'data>>,
 ) -> Result<(), AllocError>
+    requires { copy.old ≡ None }
     ensures { OnOk result (copy.new ≡ rule.now) }
 {
-    *copy = cloned(rule)?;
-    Ok(())
-}
-
-// A copy of the rule, if present.
-fn cloned<'data>(rule: &Option<Rule<'data>>) -> Result<Option<Rule<'data>>, AllocError>
-    ensures { IfOk result (λ copy. copy ≡ rule.now) }
-{
-    match rule {
-        Some(rule) => Ok(Some(rule.try_clone()?)),
-        None => Ok(None),
+    if let Some(rule) = rule {
+        *copy = Some(rule.try_clone()?);
     }
+    Ok(())
 }

@@ -1,8 +1,8 @@
 //! Rules of many ranges, with these in order.
 
-ghost use Rattle.std.specs.Prelude.{◌≡◌, Contains, IfErr, IfOk, OnOk};
+ghost use Rattle.std.specs.Prelude.{◌≡◌, Contains, IfErr, IfOk, None, OnOk};
 ghost use Rattle.plural_runtime.specs.PackedTruth.{packed_truth};
-ghost use Rattle.plural_base.specs.FiveRules.{ArePaired, Paired, categories_of, first_category, passes, rules_of};
+ghost use Rattle.plural_base.specs.FiveRules.{ArePaired, Paired, categories_of, first_category, five, passes, rules_of};
 ghost use Rattle.plural_base.specs.Inner.OrderedRules.{AreLike};
 
 pub(crate) mod ranges;
@@ -88,6 +88,7 @@ fn put_ordered_rules(
     rules: &PluralRulesData<'_>,
     ordered: &mut Five<Option<OrderedRule>>,
 ) -> Result<(), AllocError>
+    requires { ordered.old ≡ five None None None None None }
     ensures { OnOk result (ArePaired AreLike ordered.new (rules_of rules.now)) }
 {
     put_five!(
@@ -104,23 +105,13 @@ fn put_ordered(
     rule: &Option<Rule<'_>>,
     ordered: &mut Option<OrderedRule>,
 ) -> Result<(), AllocError>
+    requires { ordered.old ≡ None }
     ensures { OnOk result (Paired AreLike ordered.new rule.now) }
 {
-    *ordered = ordered_if_there(alloc, rule)?;
-    Ok(())
-}
-
-// The rule with its ranges in order, if it is present.
-fn ordered_if_there(
-    alloc: Global,
-    rule: &Option<Rule<'_>>,
-) -> Result<Option<OrderedRule>, AllocError>
-    ensures { IfOk result (λ ordered. Paired AreLike ordered rule.now) }
-{
-    match rule {
-        Some(rule) => Ok(Some(OrderedRule::of(alloc, rule)?)),
-        None => Ok(None),
+    if let Some(rule) = rule {
+        *ordered = Some(OrderedRule::of(alloc, rule)?);
     }
+    Ok(())
 }
 
 // The first category whose rule is present and true, else other.

@@ -1,11 +1,11 @@
 //! Rules from texts.
 
-ghost use Rattle.std.specs.Prelude.{◌≡◌, ◌≢◌, ◌++◌, ◌⊎◌, Some, Ok, Err, codes, IfOk, IfErr, OnOk};
+ghost use Rattle.std.specs.Prelude.{◌≡◌, ◌≢◌, ◌++◌, ◌⊎◌, Some, None, Ok, Err, codes, IfOk, IfErr, OnOk};
 ghost use Rattle.std.specs.Option.{option_copied};
 ghost use Rattle.plural_runtime.specs.RuleOfText.{rule_error_text};
 ghost use Rattle.plural_runtime.specs.RuleOfText.{IsPackedFrom, TextGives, rule_of_text};
 ghost use Rattle.plural_base.specs.Categories.{name_of};
-ghost use Rattle.plural_base.specs.FiveRules.{rules_of};
+ghost use Rattle.plural_base.specs.FiveRules.{five, rules_of};
 ghost use Rattle.plural_base.specs.RuleTexts.{AreRulesOf, IsRuleOf, IsRefused, IsFirstRefused, lent_texts};
 
 use crate::category::PluralCategory;
@@ -127,6 +127,7 @@ fn put_rules(
     texts: &Five<Option<&str>>,
     rules: &mut PluralRulesData<'static>,
 ) -> Result<(), RulesTextError>
+    requires { rules_of rules.old ≡ five None None None None None }
     ensures ok { OnOk result (AreRulesOf (lent_texts texts.now) (rules_of rules.new)) }
     ensures refused { IfErr result (λ e. IsFirstRefused (lent_texts texts.now) e.category e.error) }
     ensures fits { IfErr result (λ e. e.error ≢ RuleError.Parse ParseError.ValueTooLarge) }
@@ -146,31 +147,20 @@ fn put_rule(
     category: PluralCategory,
     rule: &mut Option<Rule<'static>>,
 ) -> Result<(), RulesTextError>
+    requires { rule.old ≡ None }
     ensures ok { OnOk result (IsRuleOf (option_copied text.entry) rule.new) }
     ensures refused { IfErr result (λ e.
         (e.category ≡ category) × IsRefused (option_copied text.entry) e.error) }
     ensures fits { IfErr result (λ e. e.error ≢ RuleError.Parse ParseError.ValueTooLarge) }
 {
-    *rule = rule_of(alloc, text, category)?;
-    Ok(())
-}
-
-// The rule of a category's text, if present.
-fn rule_of(
-    alloc: Global,
-    text: Option<&str>,
-    category: PluralCategory,
-) -> Result<Option<Rule<'static>>, RulesTextError>
-    ensures ok { IfOk result (λ rule. IsRuleOf (option_copied text.entry) rule) }
-    ensures refused { IfErr result (λ e.
-        (e.category ≡ category) × IsRefused (option_copied text.entry) e.error) }
-    ensures fits { IfErr result (λ e. e.error ≢ RuleError.Parse ParseError.ValueTooLarge) }
-{
     let Some(text) = text else {
-        return Ok(None);
+        return Ok(());
     };
     match packed(alloc, text) {
-        Ok(rule) => Ok(Some(rule)),
+        Ok(found) => {
+            *rule = Some(found);
+            Ok(())
+        }
         Err(error) => Err(RulesTextError { category, error }),
     }
 }

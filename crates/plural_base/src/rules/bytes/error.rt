@@ -28,7 +28,7 @@ impl fmt::Display for RulesBytesError {
 
     fn fmt<W: fmt::Write>(&self, f: &mut fmt::Formatter<W>) -> fmt::Result {
         match self {
-            RulesBytesError::List(fault) => write!(f, "{fault}"),
+            RulesBytesError::List(fault) => fault.fmt(f),
             RulesBytesError::ItemEmpty(place) => write!(f, "rule {place} without a byte"),
             RulesBytesError::Key(place) => write!(f, "bad key of rule {place}"),
             RulesBytesError::Rule(place, fault) => write!(f, "rule {place}: {fault}"),

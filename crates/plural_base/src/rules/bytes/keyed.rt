@@ -1,11 +1,11 @@
 //! The rules in the items of a list, taken key by key.
 
-ghost use Rattle.std.specs.Prelude.{◌≡◌, ◌↔◌, ◌+◌, ◌++◌, ◌∷◌, ◌≤◌, [], drop, Option, Some, None, IfOk, IfNone, MatchOption, MatchResult};
-ghost use Rattle.plural_base.specs.FiveRules.{rules_of};
+ghost use Rattle.std.specs.Prelude.{◌≡◌, ◌↔◌, ◌+◌, ◌++◌, ◌∷◌, ◌≤◌, [], drop, Option, Some, None, IfOk, IfNone, OnOk, MatchOption, MatchResult};
+ghost use Rattle.plural_base.specs.FiveRules.{five, rules_of};
 ghost use Rattle.plural_base.specs.RulesBytes.{CanPackRule, CanPackRules, FirstRuleFault, keyed, rule_items};
 ghost use Rattle.plural_base.specs.Inner.KeyedItems.{HasOtherKey, items_left};
 
-use crate::make_five;
+use crate::five::put_five;
 use crate::rules::bytes::error::RulesBytesError;
 use crate::rules::data::PluralRulesData;
 use packed_list::PackedList;
@@ -20,10 +20,32 @@ pub(crate) fn rules_in(list: PackedList<'_>) -> Result<PluralRulesData<'_>, Rule
     ensures fault { (fault : Option RulesBytesError) → FirstRuleFault 0 0 list.entry fault
         ↔ MatchResult result (λ _. fault ≡ None) (λ found. fault ≡ Some found) }
 {
+    let mut rules = PluralRulesData::default();
+    match put_rules(list, &mut rules) {
+        Ok(()) => Ok(rules),
+        Err(fault) => {
+            drop(rules);
+            Err(fault)
+        }
+    }
+}
+
+// Puts the rules of the items.
+#[inline(always)]
+fn put_rules<'data>(
+    list: PackedList<'data>,
+    rules: &mut PluralRulesData<'data>,
+) -> Result<(), RulesBytesError>
+    requires { rules_of rules.old ≡ five None None None None None }
+    ensures can_pack { OnOk result (CanPackRules (rules_of rules.new)) }
+    ensures items { OnOk result (list.entry ≡ rule_items (rules_of rules.new)) }
+    ensures fault { (fault : Option RulesBytesError) → FirstRuleFault 0 0 list.entry fault
+        ↔ MatchResult result (λ _. fault ≡ None) (λ found. fault ≡ Some found) }
+{
     let mut items = KeyedRules { list, place: 0 };
-    let rules = make_five!(PluralRulesData, |category| items.take(category as u8)?);
+    put_five!(rules, |rule, category| items.put(category as u8, rule)?);
     match items.fault() {
-        None => Ok(rules),
+        None => Ok(()),
         Some(fault) => Err(fault),
     }
 }
@@ -36,28 +58,28 @@ pub(crate) struct KeyedRules<'data> {
 }
 
 impl<'data> KeyedRules<'data> {
-    // Takes the first item that is left and returns its rule, if it has this key. All keys below
-    // this one were asked for.
+    // Puts the rule of the first item that is left, if it has this key, and takes the item. All keys
+    // below this one were asked for.
     #[inline(always)]
-    fn take(&mut self, key: u8) -> Result<Option<Rule<'data>>, RulesBytesError>
+    fn put(&mut self, key: u8, rule: &mut Option<Rule<'data>>) -> Result<(), RulesBytesError>
         requires key { key ≤ 4 }
         requires place { self.old.place ≤ key }
-        ensures place { IfOk result (λ _. self.new.place ≤ key + 1) }
-        ensures can_pack { IfOk result CanPackRule }
-        ensures items { IfOk result (λ rule. items_left self.old ≡ keyed key rule ++ items_left self.new) }
+        requires none { rule.old ≡ None }
+        ensures place { OnOk result (self.new.place ≤ key + 1) }
+        ensures can_pack { OnOk result (CanPackRule rule.new) }
+        ensures items { OnOk result (items_left self.old ≡ keyed key rule.new ++ items_left self.new) }
         ensures fault { (fault : Option RulesBytesError) → FirstRuleFault self.old.place key (items_left self.old) fault
             ↔ MatchResult result (λ _. FirstRuleFault self.new.place (key + 1) (items_left self.new) fault) (λ found. fault ≡ Some found) }
     {
         let Some(bytes) = self.bytes_of(key) else {
-            return Ok(None);
+            return Ok(());
         };
         match Rule::parse_bytes(bytes) {
-            Ok(rule) => {
-                self.place += 1;
-                Ok(Some(rule))
-            }
-            Err(fault) => Err(RulesBytesError::Rule(self.place, fault)),
+            Ok(found) => *rule = Some(found),
+            Err(fault) => return Err(RulesBytesError::Rule(self.place, fault)),
         }
+        self.place += 1;
+        Ok(())
     }
 
     // What follows the key in the first item that is left, if it has this key.

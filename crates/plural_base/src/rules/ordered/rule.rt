@@ -1,12 +1,14 @@
 //! A rule whose relations have their ranges in order.
 
-ghost use Rattle.std.specs.Prelude.{◌≡◌, IfOk};
+ghost use Rattle.std.specs.Prelude.{◌≡◌, ◌++◌, [], ◌∷◌, IfOk, OnOk, map};
+ghost use Rattle.plural_operands.specs.Operands.{Operands};
 ghost use Rattle.plural_runtime.specs.PackedTruth.{packed_truth};
-ghost use Rattle.plural_base.specs.Inner.OrderedRules.{AreLike};
+ghost use Rattle.plural_runtime.specs.Inner.RuleViews.{lent_relation};
+ghost use Rattle.plural_base.specs.Inner.OrderedRules.{AreLike, told_at};
 
 use crate::rules::ordered::relation::OrderedRelation;
 use plural_reference::PluralOperands;
-use plural_runtime::{AndOr, Rule};
+use plural_runtime::{AndOr, Relation, Rule};
 use std::alloc::{AllocError, Global};
 use std::marker::Model;
 
@@ -32,7 +34,7 @@ impl OrderedRule {
     {
         let mut relations = Vec::new(alloc);
         for item in rule.iter() {
-            relations.push(OrderedRelation::of(alloc, item.as_relation())?)?;
+            push_ordered(alloc, item.as_relation(), &mut relations)?;
         }
         Ok(OrderedRule { relations })
     }
@@ -50,4 +52,17 @@ impl OrderedRule {
         }
         so_far
     }
+}
+
+// Puts a relation that is true of the same operands.
+fn push_ordered(
+    alloc: Global,
+    relation: Relation<'_>,
+    relations: &mut Vec<OrderedRelation>,
+) -> Result<(), AllocError>
+    ensures { OnOk result ((o : Operands) → map (told_at o) relations.new.items
+        ≡ map (told_at o) relations.old.items ++ told_at o (lent_relation relation.entry) ∷ []) }
+{
+    relations.push(OrderedRelation::of(alloc, relation)?)?;
+    Ok(())
 }

@@ -9,7 +9,7 @@ use Rattle.serde_json.specs.View.{view, members_view}
 use Rattle.plural_base.proofs.reading.Rows.{Ascend, key_bytes, ascend_bytes}
 use Rattle.plural_base.proofs.reading.RowsRead.{behind, behind_none, rows_kept, order_kept}
 use Rattle.plural_base.proofs.json.rows.read_rows.Goals as goal
-use Rattle.plural_base.proofs.json.rows.read_rows.Goals.{After-into_iter-locale-iterator, In_ok-put}
+use Rattle.plural_base.proofs.json.rows.read_rows.Goals.{After-into_iter-locale-iterator, In_ok-put_row}
 
 -- all members remain at first
 all_left : (g : _) (c : After-into_iter-locale-iterator g) → c.into_iter-locale-iterator.result ≡ c.args.members.now.entries
@@ -23,17 +23,17 @@ loop-locale-init g c =
     )
 
 -- the member's row is put, and its key is after those before it
-is_put : (g : _) (c : In_ok-put g) → rows_by g.T.FromJson.seen c.put.new.rows.entries
+is_put : (g : _) (c : In_ok-put_row g) → rows_by g.T.FromJson.seen c.put_row.new.rows.entries
     ≡ insert_entry (slice_cmp nat_cmp) (rows_by g.T.FromJson.seen c.loop-locale.rows.entries) (string_bytes c.in-Some.locale.now)
-    (g.T.FromJson.seen c.in_ok-row.row)
+    c.in_ok-put_row.ensures.answers.0
 is_put g c =
     let seen = g.T.FromJson.seen in
-    subst (λ k. rows_by seen c.put.new.rows.entries ≡ insert_entry (slice_cmp nat_cmp) (rows_by seen c.loop-locale.rows.entries) k
-    (seen c.in_ok-row.row))
-    c.in_ok-clone.ensures.cases c.in_ok-put.ensures
+    subst (λ k. rows_by seen c.put_row.new.rows.entries ≡ insert_entry (slice_cmp nat_cmp) (rows_by seen c.loop-locale.rows.entries) k
+    c.in_ok-put_row.ensures.answers.0)
+    c.as_str.ensures.value c.in_ok-put_row.ensures.answers.2
 
 -- the keys so far, the member's key and the remaining keys ascend
-in_order : (g : _) (c : In_ok-put g)
+in_order : (g : _) (c : In_ok-put_row g)
     → Ascend
     (keys_of (rows_by g.T.FromJson.seen c.loop-locale.rows.entries) ++ string_bytes c.in-Some.locale.now ∷ key_bytes c.next.new.self)
 in_order g c =
@@ -42,13 +42,13 @@ in_order g c =
 
 pub loop-locale-preserved : goal.loop-locale-preserved
 loop-locale-preserved g c =
-    let row = g.T.FromJson.seen c.in_ok-row.row in
+    let row = c.in_ok-put_row.ensures.answers.0 in
     let rows = rows_by g.T.FromJson.seen c.loop-locale.rows.entries in
     let keys = key_bytes c.next.new.self in
     let meant = g.T.FromJson.meant in (
       c.loop-locale.invariant.0
           ∙ ap (λ left. behind rows (rows_meant meant (members_view left))) c.in-Some.ensures.steps
           ∙ rows_kept _ _ (string_bytes c.in-Some.locale.now) row keys meant (view c.in-Some.value.now) (members_view c.next.new.self)
-          (is_put g c) (in_order g c) c.in_ok-row.ensures.answers,
+          (is_put g c) (in_order g c) c.in_ok-put_row.ensures.answers.1,
       order_kept _ _ (string_bytes c.in-Some.locale.now) row keys (is_put g c) (in_order g c),
     )
