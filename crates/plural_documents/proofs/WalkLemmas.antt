@@ -1,24 +1,23 @@
 -- The steps through the items of an array and the members of an object.
-use Rattle.std.proofs.Common.{◌≡◌, ℕ, List, [], ◌∷◌, ◌++◌, Option, Some, None, refl, sym, ap, ◌∙◌}
+use Rattle.std.proofs.Common.{◌≡◌, ℕ, List, [], ◌∷◌, ◌++◌, Bool, false, true≢false, Option, Some, None, refl, sym, ap, ◌∙◌}
 use Rattle.std.specs.Prelude.{option_and_then, option_map}
 use Rattle.json.specs.Json as json
 use Rattle.std.specs.Borrow.{Bor}
 use Rattle.plural_documents.specs.Inner.HeldTokens.{Held, held_items, held_members, held_token, held_tokens}
 use Rattle.plural_documents.specs.declared.held_token.HeldToken.{HeldToken}
 use Rattle.plural_documents.specs.declared.held_token.HeldToken.TheVariants as variant
-use Rattle.plural_documents.specs.Inner.OutlineSteps.{IsOutlined, KeepsPart, members_by, portion_below}
+use Rattle.plural_documents.specs.Inner.OutlineSteps.{IsOneToken, IsOutlined, KeepsPart, members_by, opens, portion_below}
 use Rattle.plural_documents.specs.declared.outline.Portion.{Portion}
 use Rattle.plural_documents.proofs.ItemLemmas.{after_one_more, items_after}
 use Rattle.plural_documents.proofs.HeldLemmas.{no_members_left, rest_of}
 use Rattle.plural_documents.proofs.OpenLemmas.{joined}
-use Rattle.plural_documents.proofs.OutlinedLemmas.{held_map, number_outlined, some_is, view_number}
+use Rattle.plural_documents.proofs.OutlinedLemmas.{held_map, none_outlined, null_outlined, some_is}
 use Rattle.plural_documents.proofs.OutlineLemmas.{AreSorted, members_put, sorted_put}
-use Rattle.serde_json.specs.Data.{Items, no_items, item, Members, Num, put}
+use Rattle.serde_json.specs.Data.{Items, no_items, item, Members, null, put}
 use Rattle.serde_json.specs.Read.{of_items, of_json, of_members}
-use Rattle.serde_json.specs.View.{number_view, view}
+use Rattle.serde_json.specs.View.{view}
 use Rattle.serde_json.specs.declared.number.Number.{Number}
 use Rattle.serde_json.specs.declared.value.Value.{Value}
-use Rattle.serde_json.specs.declared.value.Value.TheVariants as value
 
 pub held_then : {A B : Type 0} (o : Option A) (next : A → Option B) (b : B) → option_and_then next o ≡ Some b
     → (a : A) × (o ≡ Some a) × (next a ≡ Some b)
@@ -39,11 +38,31 @@ no_end (variant.Number s) other is = absurd (cc)
 no_end (variant.Bool b) other is = absurd (cc)
 no_end variant.Null other is = absurd (cc)
 
-number_is_no_end : (n : Option Num) → Held.number n ≡ Held.end_array → ⊥
-number_is_no_end n is = absurd (cc)
+-- what opens no array and no object doesn't stand for a bracket that does
+pub no_opening : (first : HeldToken) → (first ≡ variant.BeginArray → ⊥) → (first ≡ variant.BeginObject → ⊥) → opens (held_token first) ≡ false
+no_opening variant.BeginObject array object = absurd (object refl)
+no_opening variant.EndObject array object = refl
+no_opening variant.BeginArray array object = absurd (array refl)
+no_opening variant.EndArray array object = refl
+no_opening (variant.Key k) array object = refl
+no_opening (variant.String s) array object = refl
+no_opening (variant.Number n) array object = refl
+no_opening (variant.Bool b) array object = refl
+no_opening variant.Null array object = refl
 
-pub text_is_no_end : (s : List ℕ) → Held.string s ≡ Held.end_array → ⊥
-text_is_no_end s is = absurd (cc)
+-- null is kept of null, and of a token that is no value
+pub null_kept : {S : Type 0} (keeps : S → List ℕ → Portion S) (token : HeldToken) → ((n : Number) → token ≡ variant.Number n → ⊥)
+    → ((b : Bool) → token ≡ variant.Bool b → ⊥) → ((s : Bor (List ℕ)) → token ≡ variant.String s → ⊥) → opens (held_token token) ≡ false
+    → IsOneToken keeps (held_token token) null
+null_kept keeps variant.BeginObject number truth text closed sieve rest = absurd (true≢false closed)
+null_kept keeps variant.EndObject number truth text closed sieve rest = none_outlined keeps sieve Held.end_object null rest rest refl
+null_kept keeps variant.BeginArray number truth text closed sieve rest = absurd (true≢false closed)
+null_kept keeps variant.EndArray number truth text closed sieve rest = none_outlined keeps sieve Held.end_array null rest rest refl
+null_kept keeps (variant.Key k) number truth text closed sieve rest = none_outlined keeps sieve (Held.key k.now) null rest rest refl
+null_kept keeps (variant.String s) number truth text closed sieve rest = absurd (text s refl)
+null_kept keeps (variant.Number n) number truth text closed sieve rest = absurd (number n refl)
+null_kept keeps (variant.Bool b) number truth text closed sieve rest = absurd (truth b refl)
+null_kept keeps variant.Null number truth text closed sieve rest = null_outlined keeps sieve rest
 
 -- what is no key doesn't stand for one
 pub no_key : (first : HeldToken) → ((name : Bor (List ℕ)) → first ≡ variant.Key name → ⊥) → (k : List ℕ) → held_token first ≡ Held.key k → ⊥
@@ -97,15 +116,6 @@ module _ {S : Type 0} (keeps : S → List ℕ → Portion S) where
         so_far ∙ ap (items_after values) (after.2 ∙ ap (λ d. item d after.0) (some_is first.0 (view value) kept.1))
             ∙ sym (after_one_more values value after.0),
       )
-
-  -- one more number
-  pub number_added : (values : List Value) (n : Number) (others : json.Items) (ts rest : List Held) (more whole : Items)
-      → Held.number (Some (number_view n)) ∷ ts ≡ held_items others ++ rest → of_items others ≡ Some more → whole ≡ items_after values more
-      → ItemsGoOn (values ++ value.Number n ∷ []) ts rest whole
-  number_added values n others ts rest more whole is read so_far =
-      item_added values (value.Number n) others (Held.number (Some (number_view n))) ts rest ts more whole is
-      (number_is_no_end (Some (number_view n)))
-      read so_far (rw (view_number n) (number_outlined keeps None (number_view n) ts))
 
   -- ---- Members
 

@@ -1,8 +1,8 @@
 //! The outline of a JSON value: what is kept of it.
 
-ghost use Rattle.std.specs.Prelude.{◌≡◌, ◌∷◌, ◌≤◌, IfOk, OnOk, length};
+ghost use Rattle.std.specs.Prelude.{◌≡◌, [], ◌∷◌, ◌++◌, ◌≤◌, IfOk, OnOk, false, length};
 ghost use Rattle.plural_documents.specs.Inner.HeldTokens.{held_token};
-ghost use Rattle.plural_documents.specs.Inner.OutlineSteps.{AreItems, AreOutlined, IsOutlined, KeepsPart, portion_below, portion_by};
+ghost use Rattle.plural_documents.specs.Inner.OutlineSteps.{AddsItem, AreItems, AreOutlined, IsOneToken, IsOutlined, KeepsPart, opens, portion_below, portion_by};
 ghost use Rattle.plural_documents.specs.Outlines.{GivesOutline, IsOutlineOf};
 ghost use Rattle.serde_json.specs.Data.{put};
 ghost use Rattle.serde_json.specs.View.{items_view, members_view, view};
@@ -79,14 +79,22 @@ fn outlined<S: Sieve>(
     ensures shorter { OnOk result (length left.new ≤ length left.old) }
 {
     match first {
-        HeldToken::Number(number) => Ok(Value::Number(number)),
-        HeldToken::Bool(truth) => Ok(Value::Bool(truth)),
-        HeldToken::Null | HeldToken::Key(_) | HeldToken::EndObject | HeldToken::EndArray => {
-            Ok(Value::Null)
-        }
-        HeldToken::String(words) => Ok(Value::String(String::from_str(alloc, words)?)),
         HeldToken::BeginArray => Ok(Value::Array(whole_items::<S>(alloc, left)?)),
         HeldToken::BeginObject => Ok(Value::Object(outlined_members(alloc, left, sieve)?)),
+        _ => one_token::<S>(alloc, first),
+    }
+}
+
+// The value that is one token.
+#[inline]
+fn one_token<S: Sieve>(alloc: Global, token: HeldToken<'_>) -> Result<Value, AllocError>
+    ensures { IfOk result (λ value. opens (held_token token.entry) ≡ false → IsOneToken S.keeps (held_token token.entry) (view value)) }
+{
+    match token {
+        HeldToken::Number(number) => Ok(Value::Number(number)),
+        HeldToken::Bool(truth) => Ok(Value::Bool(truth)),
+        HeldToken::String(words) => Ok(Value::String(String::from_str(alloc, words)?)),
+        _ => Ok(Value::Null),
     }
 }
 
@@ -103,14 +111,39 @@ fn whole_items<S: Sieve>(
     while let Some(first) = left.next() {
         match first {
             HeldToken::EndArray => break,
-            HeldToken::Number(number) => items.push(Value::Number(number))?,
-            HeldToken::String(words) => {
-                items.push(Value::String(String::from_str(alloc, words)?))?
-            }
-            _ => items.push(outlined::<S>(alloc, first, left, None)?)?,
+            _ => push_item::<S>(alloc, first, left, &mut items)?,
         }
     }
     Ok(items)
+}
+
+// Adds the item that begins with this token, and goes past it.
+#[cycle(build)]
+#[inline]
+fn push_item<S: Sieve>(
+    alloc: Global,
+    first: HeldToken<'_>,
+    left: &mut TokensLeft<'_, '_>,
+    items: &mut Vec<Value>,
+) -> Result<(), AllocError>
+    ensures adds { OnOk result (AddsItem S.keeps (held_token first.entry ∷ left.old) items.old.items items.new.items left.new) }
+    ensures shorter { OnOk result (length left.new ≤ length left.old) }
+{
+    match first {
+        HeldToken::BeginArray | HeldToken::BeginObject => {
+            push_value(outlined::<S>(alloc, first, left, None)?, items)
+        }
+        _ => push_value(one_token::<S>(alloc, first)?, items),
+    }
+}
+
+// Adds a value.
+#[inline]
+fn push_value(value: Value, items: &mut Vec<Value>) -> Result<(), AllocError>
+    ensures { OnOk result (items.new.items ≡ items.old.items ++ value ∷ []) }
+{
+    items.push(value)?;
+    Ok(())
 }
 
 // What is kept of the members of an object, which is passed.

@@ -1,5 +1,5 @@
 -- Not a definition of the subject: what is made of the tokens that are held.
-use Rattle.std.specs.Prelude.{◌≡◌, ℕ, List, ◌∷◌, ◌++◌, Option, Some, None, MatchOption, []}
+use Rattle.std.specs.Prelude.{◌≡◌, ℕ, List, ◌∷◌, ◌++◌, Option, Some, None, MatchOption, [], Bool, true, false}
 use Rattle.plural_documents.specs.declared.held_token.HeldToken.{HeldToken}
 use Rattle.json.specs.Json as json
 use Rattle.plural_documents.specs.Inner.HeldTokens.{Held, held_items, held_members, held_token, held_tokens}
@@ -7,6 +7,8 @@ use Rattle.plural_documents.specs.Outlines.{outline, outline_members}
 use Rattle.plural_documents.specs.declared.outline.Portion.{Portion}
 use Rattle.plural_documents.specs.declared.outline.Portion.TheVariants as kept
 use Rattle.serde_json.specs.Data.{Data, Items, Members, no_members, put}
+use Rattle.serde_json.specs.declared.Value.{Value}
+use Rattle.serde_json.specs.View.{view}
 use Rattle.serde_json.specs.Read.{of_items, of_json, of_members}
 
 -- ---- With or without a sieve
@@ -39,6 +41,20 @@ abbrev pub IsOutlined : {S : Type 0} → (S → List ℕ → Portion S) → Opti
 IsOutlined keeps sieve old part new =
     (value : json.Json) (rest : List Held) (whole : Data) → old ≡ held_tokens value ++ rest → of_json value ≡ Some whole
     → (new ≡ rest) × (outline keeps (portion_by sieve) whole ≡ Some part)
+
+-- this is kept of a value that is this token alone
+abbrev pub IsOneToken : {S : Type 0} → (S → List ℕ → Portion S) → Held → Data → Type 0
+IsOneToken {S} keeps token part = (sieve : Option S) (rest : List Held) → IsOutlined keeps sieve (token ∷ rest) part rest
+
+-- it opens an array or an object
+abbrev pub opens : Held → Bool
+opens Held.begin_object = true
+opens Held.begin_array = true
+opens _ = false
+
+-- one more item
+abbrev pub AddsItem : {S : Type 0} → (S → List ℕ → Portion S) → List Held → List Value → List Value → List Held → Type 0
+AddsItem keeps old before after new = (value : Value) × (after ≡ before ++ value ∷ []) × IsOutlined keeps None old (view value) new
 
 -- these are the items up to the end of the array
 abbrev pub AreItems : List Held → Items → List Held → Type 0

@@ -10,19 +10,22 @@ use Rattle.serde_json.specs.Read.{of_items, of_members}
 use Rattle.serde_json.specs.View.{members_view}
 
 abbrev pub decreases-outlined : goal.decreases-outlined
-decreases-outlined g l = 2 * length l.left.now + 1
+decreases-outlined g l = 3 * length l.left.now + 1
 
 abbrev pub decreases-whole_items : goal.decreases-whole_items
-decreases-whole_items g l = 2 * length l.left.now
+decreases-whole_items g l = 3 * length l.left.now
 
 abbrev pub decreases-outlined_members : goal.decreases-outlined_members
-decreases-outlined_members g l = 2 * length l.left.now
+decreases-outlined_members g l = 3 * length l.left.now
 
 abbrev pub decreases-keep_member : goal.decreases-keep_member
-decreases-keep_member g l = 2 * length l.left.now + 1
+decreases-keep_member g l = 3 * length l.left.now + 1
 
 abbrev pub decreases-put_outlined : goal.decreases-put_outlined
-decreases-put_outlined g l = 2 * length l.left.now + 2
+decreases-put_outlined g l = 3 * length l.left.now + 2
+
+abbrev pub decreases-push_item : goal.decreases-push_item
+decreases-push_item g l = 3 * length l.left.now + 2
 
 -- the items that are left come after those that were found
 abbrev pub invariant-whole_items-loop-first : goal.invariant-whole_items-loop-first
