@@ -2,6 +2,8 @@
 use Rattle.std.proofs.Common.{◌≡◌, ◌⊎◌, ℕ, ◌+◌, ◌<◌, ◌≤◌, List, [], ◌∷◌, ◌++◌, length, take, get_or, refl, ap, sym, ◌∙◌}
 use Rattle.std.proofs.Common.{subst, inl, inr, arith, append_assoc}
 use Rattle.std.proofs.lemmas.List.{append-nil, take_more}
+use Rattle.std.specs.Prelude.{Result, Ok, Err, IfOk, OnOk}
+use Rattle.std.specs.Result.{result_and}
 use Rattle.plural_checker.specs.Findings.{Findings, no_findings, fault_alone, both, FindsBoth, EachFinds, most_counted, IsCountOf, GrowsBy, AddsFindings}
 use Rattle.plural_checker.specs.Findings.{IsReportOfFindings}
 use Rattle.plural_checker.specs.declared.fault.Fault.{Fault}
@@ -89,3 +91,9 @@ reported a c found empty zero_counted (faults, counted) = (
   faults ∙ ap (λ l. l ++ found.faults) empty,
   subst (λ n. IsCountOf c.numbers n) (let e : a.numbers + found.numbers ≡ found.numbers = omega arith in e) counted,
 )
+
+-- the same if all that was found was added
+pub reported_if_ok : {A E : Type 0} (added : Result A E) (Finds : Findings → Type 0) (a c : Report) → a.faults ≡ [] → a.numbers ≡ 0
+    → OnOk added (AddsFindings Finds a c) → IfOk (result_and added (Ok c)) (λ report. (found : Findings) × Finds found × IsReportOfFindings found report)
+reported_if_ok (Ok done) Finds a c empty zero_counted (found, finds, grows) = (found, finds, reported a c found empty zero_counted grows)
+reported_if_ok (Err error) Finds a c empty zero_counted nothing = tt

@@ -1,20 +1,23 @@
 //! The six texts of a language's rules.
 
-ghost use Rattle.std.specs.Prelude.{◌≡◌, IfErr, IfOk, None, OnOk, Some};
+ghost use Rattle.std.specs.Prelude.{◌≡◌, IfErr, IfOk, IsSomeAnd, None, OnOk, Some};
 ghost use Rattle.std.specs.Option.{option_copied};
 ghost use Rattle.icu_plurals.specs.FiveRules.{rules_of};
-ghost use Rattle.plural_checker.specs.Inner.TextReadings.{IfRefused, six};
+ghost use Rattle.plural_checker.specs.Inner.TextReadings.{HasNoRule, IfRefused, IsShortRuleOf, six};
 ghost use Rattle.plural_checker.specs.LanguageTexts.{six_texts};
-ghost use Rattle.plural_checker.specs.TextChecks.{AreFindingsOf, AreFindingsUnder, AreRulesIfRead};
+ghost use Rattle.plural_checker.specs.Findings.{AddsFindings};
+ghost use Rattle.plural_checker.specs.TextChecks.{AreFindingsOf, AreFindingsUnder, AreRulesIfRead, IsFoundInSix};
 
 use crate::read_text::{NoRule, ReadText, packed_if_there, read_if_there};
 use crate::report::Report;
 use crate::text_check::check_if_there;
 use crate::texts::LanguageTexts;
 use icu_plurals::provider::PluralRulesData;
+use icu_plurals::provider::rules::runtime::ast::Rule as PackedRule;
 use icu_plurals::{Five, PluralCategory, PluralRules};
-use plural_base::{for_five, make_five};
+use plural_base::for_five;
 use std::alloc::{AllocError, Global};
+use std::mem;
 
 /// Returns the faults of the texts of a language's rules of one type, and how many numbers their
 /// samples have.
@@ -124,8 +127,13 @@ fn put_text<'a>(
 ) -> Result<(), AllocError>
     ensures { OnOk result (place.new ≡ option_copied text.entry) }
 {
-    *place = read_if_there(alloc, text)?;
-    Ok(())
+    match read_if_there(alloc, text) {
+        Ok(read) => {
+            drop(mem::replace(place, read));
+            Ok(())
+        }
+        Err(error) => Err(error),
+    }
 }
 
 // The faults of the texts under these rules.
@@ -138,11 +146,23 @@ fn check_all(
     ensures { IfOk result (λ report. AreFindingsUnder (option_copied rules.entry) (six five.now other.now) report) }
 {
     let mut report = Report::new(alloc);
+    add_all(alloc, rules, five, other, &mut report).and(Ok(report))
+}
+
+// Adds the faults of the texts under these rules.
+fn add_all(
+    alloc: Global,
+    rules: Option<&PluralRules<'_>>,
+    five: &Five<Option<ReadText<'_>>>,
+    other: &Option<ReadText<'_>>,
+    report: &mut Report,
+) -> Result<(), AllocError>
+    ensures { OnOk result (AddsFindings (IsFoundInSix (option_copied rules.entry) (six five.now other.now)) report.old report.new) }
+{
     for_five!(five, |text, category| {
-        check_if_there(alloc, rules, category, text, &mut report)?;
+        check_if_there(alloc, rules, category, text, report)?;
     });
-    check_if_there(alloc, rules, PluralCategory::Other, other, &mut report)?;
-    Ok(report)
+    check_if_there(alloc, rules, PluralCategory::Other, other, report)
 }
 
 // The rules of the five texts, or `None` if one is too long or gives no rule.
@@ -167,5 +187,40 @@ fn packed_rules(
     ensures ok { IfOk result (λ packed. AreRulesIfRead five.now (Some (rules_of packed))) }
     ensures refused { IfErr result (λ why. IfRefused why (AreRulesIfRead five.now None)) }
 {
-    Ok(make_five!(PluralRulesData, five, |text| packed_if_there(alloc, text)?))
+    let mut packed = PluralRulesData::default();
+    put_packed(alloc, five, &mut packed).and(Ok(packed))
+}
+
+// Puts the packed rules of the five texts in their places.
+fn put_packed(
+    alloc: Global,
+    five: &Five<Option<ReadText<'_>>>,
+    packed: &mut PluralRulesData<'static>,
+) -> Result<(), NoRule>
+    ensures ok { OnOk result (AreRulesIfRead five.now (Some (rules_of packed.new))) }
+    ensures refused { IfErr result (λ why. IfRefused why (AreRulesIfRead five.now None)) }
+{
+    put_rule(alloc, &five.zero, &mut packed.zero)?;
+    put_rule(alloc, &five.one, &mut packed.one)?;
+    put_rule(alloc, &five.two, &mut packed.two)?;
+    put_rule(alloc, &five.few, &mut packed.few)?;
+    put_rule(alloc, &five.many, &mut packed.many)
+}
+
+// Puts the packed rule of a text in its place.
+fn put_rule(
+    alloc: Global,
+    text: &Option<ReadText<'_>>,
+    place: &mut Option<PackedRule<'static>>,
+) -> Result<(), NoRule>
+    ensures ok { OnOk result (IsShortRuleOf text.now place.new) }
+    ensures refused { IfErr result (λ why. IfRefused why (IsSomeAnd text.now HasNoRule)) }
+{
+    match packed_if_there(alloc, text) {
+        Ok(rule) => {
+            drop(mem::replace(place, rule));
+            Ok(())
+        }
+        Err(error) => Err(error),
+    }
 }

@@ -1,12 +1,12 @@
 //! Which categories a translation lacks, and which of its categories are unused.
 
-ghost use Rattle.std.specs.Prelude.{◌≡◌};
+ghost use Rattle.std.specs.Prelude.{◌≡◌, ◌&&◌, not};
 ghost use Rattle.icu_plurals.specs.FiveRules.{rules_of};
 ghost use Rattle.plural_checker.specs.LanguageTexts.{categories_with_rule, categories_with_value, without};
 
 use icu_plurals::PluralElements;
 use icu_plurals::provider::PluralRulesData;
-use plural_base::{at_category, make_five};
+use plural_base::make_five;
 
 /// A set of categories, without other.
 #[derive(Clone, Copy, Debug, Default, PartialEq, Eq)]
@@ -44,10 +44,21 @@ impl CategorySet {
     pub fn without(self, others: CategorySet) -> CategorySet
         ensures { result ≡ without self others }
     {
-        make_five!(CategorySet, self, |is_own, category| {
-            *is_own && !at_category!(others, category, |is_other| *is_other, false)
-        })
+        CategorySet {
+            zero: is_in_first_alone(self.zero, others.zero),
+            one: is_in_first_alone(self.one, others.one),
+            two: is_in_first_alone(self.two, others.two),
+            few: is_in_first_alone(self.few, others.few),
+            many: is_in_first_alone(self.many, others.many),
+        }
     }
+}
+
+// Whether what may be in two sets is in the first alone.
+fn is_in_first_alone(first: bool, second: bool) -> bool
+    ensures { result ≡ first && not second }
+{
+    first && !second
 }
 
 /// How the categories of a translated message match a language's rules (UTS 35 Part 3, Language

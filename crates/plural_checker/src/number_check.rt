@@ -65,9 +65,10 @@ fn check_text(
 ) -> Result<Option<NumberFault>, AllocError>
     ensures { IfOk result (λ fault. IsCheckedText (option_copied rules.entry) category text.now fault) }
 {
-    match read_number(alloc, text.0.as_str())? {
-        Ok(number) => Ok(check_number(rules, category, &number)),
-        Err(error) => Ok(Some(NumberFault::Text(error))),
+    match read_number(alloc, text.0.as_str()) {
+        Ok(Ok(number)) => Ok(check_number(rules, category, &number)),
+        Ok(Err(error)) => Ok(Some(NumberFault::Text(error))),
+        Err(error) => Err(error),
     }
 }
 

@@ -59,8 +59,18 @@ fn table_of(asked: &AskedRules<'_>) -> [u8; 236]
 {
     match asked.tables() {
         Some(tables) => tables.to_table(),
-        None => PreparedRules::from_rules(asked.rules().as_borrowed()).to_table(),
+        None => table_made(asked.rules()),
     }
+}
+
+// The bytes of tables that are made for rules.
+fn table_made(rules: &PluralRules<'_>) -> [u8; 236]
+    ensures { IsTableOf rules.now result }
+{
+    let prepared = PreparedRules::from_rules(rules.as_borrowed());
+    let table = prepared.to_table();
+    drop(prepared);
+    table
 }
 
 // Sees each number from a start and before an end, but those that are told, until all that is sought

@@ -3,10 +3,12 @@
 ghost use Rattle.std.specs.Prelude.{◌≡◌, List, ℕ, IfOk, OnOk, Some};
 ghost use Rattle.std.specs.Option.{option_copied};
 ghost use Rattle.plural_checker.specs.Findings.{AddsFindings, EachFinds, GrowsBy};
-ghost use Rattle.plural_checker.specs.NumberChecks.{IsCheckedRange};
+ghost use Rattle.plural_checker.specs.NumberChecks.{AreCheckedNumbers, IsCheckedRange};
+ghost use Rattle.plural_checker.specs.SampleNumbers.{count_of};
+ghost use Rattle.plural_checker.specs.declared.fault.SampleFault.TheVariants.{Range};
 ghost use Rattle.plural_checker.specs.TextChecks.{IsFoundInList, IsFoundInRange, IsFoundInSamples, sample_findings};
 
-use crate::fault::{Fault, SampleFault, SampleType, TextFault};
+use crate::fault::{Fault, RangeFault, SampleFault, SampleType, TextFault};
 use crate::number_check::check_numbers;
 use crate::number_count::number_count;
 use crate::reading::compact_text;
@@ -133,10 +135,26 @@ fn check_ranges(
         (EachFinds (IsFoundInRange (option_copied rules.entry) category sample_type) ranges.now) report.old report.new) }
 {
     for range in ranges {
-        let (fault, count) = check_range(alloc, rules, category, range)?;
-        add_sample(category, sample_type, fault, count, report)?;
+        add_range(alloc, rules, category, sample_type, range, report)?;
     }
     Ok(())
+}
+
+// Adds the fault of a range of samples, if it has one, and the count of its numbers.
+fn add_range(
+    alloc: Global,
+    rules: Option<&AskedRules<'_>>,
+    category: PluralCategory,
+    sample_type: SampleType,
+    range: &SampleRange,
+    report: &mut Report,
+) -> Result<(), AllocError>
+    ensures { OnOk result (AddsFindings (IsFoundInRange (option_copied rules.entry) category sample_type range.now) report.old report.new) }
+{
+    match check_range(alloc, rules, category, range) {
+        Ok((fault, count)) => add_sample(category, sample_type, fault, count, report),
+        Err(error) => Err(error),
+    }
 }
 
 // The fault of a range of samples, and the count of its numbers.
@@ -169,15 +187,42 @@ fn check_by_text(
     ensures { IfOk result (λ checked.
         IsCheckedRange (option_copied rules.entry) category range.now checked.0 checked.1) }
 {
-    match SampleNumbers::of(alloc, range)? {
-        Ok(numbers) => {
-            let fault = check_numbers(alloc, rules, category, &numbers)?;
-            Ok((fault, numbers.count()))
-        }
-        Err(fault) => {
-            let fault = SampleFault::Range(range.try_clone()?, fault);
+    match SampleNumbers::of(alloc, range) {
+        Ok(Ok(numbers)) => check_counted(alloc, rules, category, &numbers),
+        Ok(Err(fault)) => wrong_range(range, fault),
+        Err(error) => Err(error),
+    }
+}
+
+// The fault of the numbers of a range, if they have one, and their count.
+fn check_counted(
+    alloc: Global,
+    rules: Option<&AskedRules<'_>>,
+    category: PluralCategory,
+    numbers: &SampleNumbers,
+) -> Result<(Option<SampleFault>, u64), AllocError>
+    ensures { IfOk result (λ checked. AreCheckedNumbers (option_copied rules.entry) category numbers.now checked.0
+        × (checked.1 ≡ count_of numbers.now)) }
+{
+    match check_numbers(alloc, rules, category, numbers) {
+        Ok(fault) => Ok((fault, numbers.count())),
+        Err(error) => Err(error),
+    }
+}
+
+// The fault of a range without numbers.
+fn wrong_range(
+    range: &SampleRange,
+    fault: RangeFault,
+) -> Result<(Option<SampleFault>, u64), AllocError>
+    ensures { IfOk result (λ checked. (checked.0 ≡ Some (Range range.now fault)) × (checked.1 ≡ 0)) }
+{
+    match range.try_clone() {
+        Ok(range) => {
+            let fault = SampleFault::Range(range, fault);
             Ok((Some(fault), 0))
         }
+        Err(error) => Err(error),
     }
 }
 
@@ -191,10 +236,12 @@ fn add_sample(
 ) -> Result<(), AllocError>
     ensures { OnOk result (GrowsBy report.old (sample_findings category sample_type fault count) report.new) }
 {
-    if let Some(fault) = fault {
-        let kind = TextFault::Sample(sample_type, fault);
-        report.add(Fault { category, kind })?;
-    }
     report.count(count);
-    Ok(())
+    match fault {
+        Some(fault) => {
+            let kind = TextFault::Sample(sample_type, fault);
+            report.add(Fault { category, kind })
+        }
+        None => Ok(()),
+    }
 }

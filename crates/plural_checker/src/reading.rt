@@ -1,6 +1,6 @@
 //! Samples read as numbers.
 
-ghost use Rattle.std.specs.Prelude.{◌≡◌, ◌+◌, ◌≤◌, length, None, Some, if◌then◌else◌, IfOk};
+ghost use Rattle.std.specs.Prelude.{◌≡◌, ◌+◌, ◌++◌, ◌≤◌, codes, length, None, Some, if◌then◌else◌, IfOk, MatchOption, OnOk, string_bytes};
 ghost use Rattle.icu_plurals.specs.Operands.{all_digits_value};
 ghost use Rattle.plural_checker.specs.SampleNumbers.{GivesSampleNumber, text_with_c, has_many_digits, parts_of, fraction_places};
 
@@ -26,15 +26,28 @@ pub(crate) fn read_sample(
 pub(crate) fn compact_text(alloc: Global, sample: &DecimalValue) -> Result<DecimalValue, AllocError>
     ensures { IfOk result (λ text. text ≡ text_with_c sample.now) }
 {
-    let text = sample.0.as_str();
-    let Some((before, after)) = text.split_once('e') else {
+    let Some((before, after)) = split_at_e(sample) else {
         return sample.try_clone();
     };
     let mut compact = String::new(alloc);
+    push_compact(before, after, &mut compact).and(Ok(DecimalValue(compact)))
+}
+
+// What stands before and behind the sample's `e`, if it has one.
+pub(crate) fn split_at_e(sample: &DecimalValue) -> Option<(&str, &str)>
+    ensures { MatchOption result (text_with_c sample.now ≡ sample.now)
+        (λ parts. text_with_c sample.now ≡ parts.0.now ++ codes "c" ++ parts.1.now) }
+{
+    sample.0.as_str().split_once('e')
+}
+
+// Appends what stands before an `e`, `c`, and what stands behind it.
+fn push_compact(before: &str, after: &str, compact: &mut String) -> Result<(), AllocError>
+    ensures { OnOk result (string_bytes compact.new ≡ string_bytes compact.old ++ before.now ++ codes "c" ++ after.now) }
+{
     compact.push_str(before)?;
     compact.push_str("c")?;
-    compact.push_str(after)?;
-    Ok(DecimalValue(compact))
+    compact.push_str(after)
 }
 
 // The number that a text writes, or why it writes none.

@@ -1,7 +1,7 @@
 //! The numbers of a sample, or of a range of samples.
 
-ghost use Rattle.std.specs.Prelude.{◌≡◌, IfOk};
-ghost use Rattle.plural_checker.specs.SampleNumbers.{AreNumbersBetween, AreNumbersOfRange, count_of, numbers_between, number_at};
+ghost use Rattle.std.specs.Prelude.{◌≡◌, IfOk, List, Ok, ℕ};
+ghost use Rattle.plural_checker.specs.SampleNumbers.{AreNumbersBetween, AreNumbersOfRange, GivesSampleNumber, count_of, numbers_between, number_at, text_with_c};
 
 use crate::fault::RangeFault;
 use crate::number_text::number_text;
@@ -94,13 +94,26 @@ fn between(
 ) -> Result<Result<SampleNumbers, RangeFault>, AllocError>
     ensures { IfOk result (λ answer. AreNumbersBetween lower.now upper.now answer) }
 {
-    let first = match read_sample(alloc, lower)? {
-        Ok(number) => number,
-        Err(fault) => return Ok(Err(RangeFault::End(fault))),
-    };
-    match read_sample(alloc, upper)? {
-        Ok(last) => Ok(stepped(&first, &last)),
-        Err(fault) => Ok(Err(RangeFault::End(fault))),
+    match read_sample(alloc, lower) {
+        Ok(Ok(first)) => numbers_to(alloc, &first, upper),
+        Ok(Err(fault)) => Ok(Err(RangeFault::End(fault))),
+        Err(error) => Err(error),
+    }
+}
+
+// The numbers from one number, which a sample writes, to another sample.
+fn numbers_to(
+    alloc: Global,
+    first: &CompactDecimal,
+    upper: &DecimalValue,
+) -> Result<Result<SampleNumbers, RangeFault>, AllocError>
+    ensures { (lower : List ℕ) → GivesSampleNumber (text_with_c lower) (Ok first.now)
+        → IfOk result (λ answer. AreNumbersBetween lower upper.now answer) }
+{
+    match read_sample(alloc, upper) {
+        Ok(Ok(last)) => Ok(stepped(first, &last)),
+        Ok(Err(last_fault)) => Ok(Err(RangeFault::End(last_fault))),
+        Err(error) => Err(error),
     }
 }
 
@@ -109,7 +122,10 @@ fn stepped(first: &CompactDecimal, last: &CompactDecimal) -> Result<SampleNumber
     ensures { result ≡ numbers_between first.now last.now }
 {
     let (places, exponent) = (places_of(first), first.exponent());
-    if places != places_of(last) || exponent != last.exponent() {
+    if places != places_of(last) {
+        return Err(RangeFault::Uneven);
+    }
+    if exponent != last.exponent() {
         return Err(RangeFault::Uneven);
     }
     let Some(low) = parts_of(first) else {

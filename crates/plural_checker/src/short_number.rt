@@ -9,7 +9,7 @@ ghost use Rattle.plural_checker.specs.Inner.ShortNumbers.{IsVerdictOn, IsVerdict
 ghost use Rattle.plural_checker.specs.SampleNumbers.{number_at, number_text, text_with_c};
 
 use crate::fault::NumberFault;
-use crate::reading::MOST_DIGITS;
+use crate::reading::{MOST_DIGITS, split_at_e};
 use crate::sample_range::{SampleNumbers, Steps};
 use icu_plurals::provider::rules::reference::ast::{DecimalValue, Operand, SampleRange};
 use icu_plurals::{AskedRules, PluralCategory, PluralOperands, RawPluralOperands};
@@ -79,10 +79,9 @@ fn verdict_on_sample(
 fn sample_operands(alloc: Global, sample: &DecimalValue) -> Option<PluralOperands>
     ensures { IfSome result (λ operands. WritesShortNumber (text_with_c sample.now) operands) }
 {
-    let text = sample.0.as_str();
-    match text.split_once('e') {
+    match split_at_e(sample) {
         Some(_) => None,
-        None => text_operands(alloc, text),
+        None => text_operands(alloc, sample.0.as_str()),
     }
 }
 

@@ -10,7 +10,7 @@ use icu_plurals::{PluralCategory, PluralRules};
 use plural_base::make_five;
 
 // The two least whole numbers from a start of each of some categories, or the least one alone.
-#[derive(Clone, Copy, Debug)]
+#[derive(Clone, Copy)]
 pub(crate) struct Sought {
     pub(crate) categories: CategorySet,
     pub(crate) other: bool,

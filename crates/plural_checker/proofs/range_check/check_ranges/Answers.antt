@@ -1,9 +1,9 @@
-use Rattle.std.proofs.Common.{List, refl, subst}
+use Rattle.std.proofs.Common.{List, subst}
 use Rattle.std.proofs.lemmas.List.{take_all}
 use Rattle.std.specs.Option.{option_copied}
 use Rattle.icu_plurals.specs.declared.provider.rules.reference.ast.SampleRange.{SampleRange}
 use Rattle.plural_checker.specs.Findings.{AddsFindings, EachFinds}
-use Rattle.plural_checker.specs.TextChecks.{IsFoundInRange, sample_findings}
+use Rattle.plural_checker.specs.TextChecks.{IsFoundInRange}
 use Rattle.plural_checker.proofs.Growth.{adds_nothing, adds_one_more}
 use Rattle.plural_checker.proofs.range_check.check_ranges.Goals as goal
 
@@ -13,10 +13,9 @@ loop-range-init c = adds_nothing c.args.report.now
 pub loop-range-preserved : goal.loop-range-preserved
 loop-range-preserved c =
     adds_one_more (IsFoundInRange (option_copied c.args.rules) c.args.category c.args.sample_type) c.args.ranges.now
-    c.loop-range.range-index c.range-item.result c.args.report.now c.loop-range.report c.add_sample.new.report
-    (sample_findings c.args.category c.args.sample_type c.in_ok-fault.fault c.in_ok-fault.count)
-    c.loop-range-test.true c.range-item.is c.loop-range.invariant
-    (c.in_ok-fault.fault, c.in_ok-fault.count, c.in_ok-fault.ensures, refl) c.in_ok-add_sample.ensures
+    c.loop-range.range-index c.range-item.result c.args.report.now c.loop-range.report c.add_range.new.report
+    c.in_ok-add_range.ensures.0 c.loop-range-test.true c.range-item.is c.loop-range.invariant
+    c.in_ok-add_range.ensures.1 c.in_ok-add_range.ensures.2
 
 pub returns : goal.returns
 returns c =

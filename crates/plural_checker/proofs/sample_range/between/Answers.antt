@@ -1,13 +1,8 @@
-use Rattle.std.proofs.Common.{inr, subst}
-use Rattle.plural_checker.specs.SampleNumbers.{GivesSampleNumber, text_with_c}
+use Rattle.std.proofs.Common.{inl, refl}
 use Rattle.plural_checker.proofs.sample_range.between.Goals as goal
 
-pub returns-in-Ok-2 : goal.returns-in-Ok-2
-returns-in-Ok-2 c =
-    inr (inr (
-      c.in-Ok.number,
-      c.in-Ok-2.last,
-      subst (λ answer. GivesSampleNumber (text_with_c c.args.lower.now) answer) c.in-Ok.is c.in_ok-number.ensures,
-      subst (λ answer. GivesSampleNumber (text_with_c c.args.upper.now) answer) c.in-Ok-2.is c.in_ok-last.ensures,
-      c.stepped.ensures,
-    ))
+pub returns-in-Ok-Ok : goal.returns-in-Ok-Ok
+returns-in-Ok-Ok c = c.numbers_to.ensures c.args.lower.now (rw c.in-Ok-Ok.field-0-is at c.in-Ok-Ok.ensures)
+
+pub returns-in-Ok-Err : goal.returns-in-Ok-Err
+returns-in-Ok-Err c = inl (c.in-Ok-Err.fault, rw c.in-Ok-Err.field-0-is at c.in-Ok-Err.ensures, refl)
