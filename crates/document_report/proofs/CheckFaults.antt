@@ -1,5 +1,7 @@
 -- A fault of a step is the fault of the whole.
 use Rattle.std.proofs.Common.{◌≡◌, Result, Ok, Err, refl, sym, ◌∙◌, ap, subst}
+use Rattle.std.specs.Prelude.{⊤}
+use Rattle.std.specs.Result.{result_and}
 use Rattle.plural_documents.proofs.InputLemmas as faults
 use Rattle.plural_documents.specs.Steps.{◌>>=◌}
 use Rattle.document_report.specs.CheckAnswer.{check_origin}
@@ -30,3 +32,10 @@ of_second {A} seen value x next r there h = subst (λ (v : Result A CheckError).
 pub after : {A B : Type 0} (value : Result A CheckError) (x : A) (next : A → Result B CheckError) (y : Result B CheckError)
     → value ≡ Ok x → next x ≡ y → (value >>= next) ≡ y
 after value x next y there e = rw there e
+
+-- a value that is kept if it has its form
+pub kept_if_formed : {B D : Type 0} (seen : D → B) (formed : Result ⊤ CheckError) (x : D) (checked : Result ⊤ CheckError)
+    → GivesOnly (λ done. done) formed checked → GivesOnly seen (formed >>= λ _. Ok (seen x)) (result_and checked (Ok x))
+kept_if_formed seen formed x (Ok done) h = rw h refl
+kept_if_formed seen formed x (Err e) h =
+    mapped (λ fault. formed ≡ Err fault) (λ fault. (formed >>= λ _. Ok (seen x)) ≡ Err fault) (λ fault there. rw there refl) e h

@@ -6,10 +6,11 @@ use Rattle.serde_json.specs.Data.{Data, Members, no_members, member}
 use Rattle.serde_json.specs.Find.{as_null, as_object, get}
 use Rattle.serde_json.specs.Written.{has_float}
 use Rattle.plural_documents.specs.PrintedKeys.{name_text}
-use Rattle.document_report.specs.CheckAnswer.{Answer, AnswersDocument, AnswersInputAs, IsCheckAnswered, IsAnswerTo, check_origin}
+use Rattle.document_report.specs.CheckAnswer.{Answer, AnswersDocument, AnswersInputAs, IsCheckAnswered, answer_with, check_origin}
 use Rattle.document_report.specs.CheckedDocument.{document_formed, document_with, has_part_form, locales_formed, object_formed, part_formed, parts_formed, value_in, document_of_bytes}
+use Rattle.document_report.specs.DocumentReport.{IsReportOf}
 use Rattle.plural_documents.specs.Steps.{or_fault, ◌>>=◌}
-use Rattle.document_report.specs.Inner.CheckCalls.{Gives, GivesAfterReading, GivesFault, answer_view, check_input_fault}
+use Rattle.document_report.specs.Inner.CheckCalls.{Gives, GivesAfterReading, GivesFault, GivesOnly, answer_view, check_input_fault}
 use Rattle.plural_fallback.specs.LocalesJson.{part_name}
 use Rattle.document_report.specs.declared.error.CheckError.{CheckError}
 use Rattle.document_report.specs.declared.error.CheckError.TheVariants.{Usage, Read, TooLong, Json, Float, NoObject, Write, Memory}
@@ -103,11 +104,14 @@ pub document_refused : (text_of : Report → List ℕ) (value : Result Data Chec
 document_refused text_of value e r is h =
     rw is (mapped (λ fault. value ≡ Err fault) (λ fault. AnswersDocument text_of value (Err fault)) (λ fault there. rw there refl) e h)
 
--- the answer to a document is the answer to the result that holds it
-pub document_answered : (text_of : Report → List ℕ) (value : Result Data CheckError) (document : Data) (answer : Answer)
-    → value ≡ Ok document → IsAnswerTo text_of document answer → AnswersDocument text_of value (Ok answer)
-document_answered text_of value document answer there h =
-    subst (λ (v : Result Data CheckError). AnswersDocument text_of v (Ok answer)) (sym there) h
+-- the answer with a document's report is the answer to the document
+pub report_answered : (text_of : Report → List ℕ) (document : Data) (report : Report) (r : Result CodeAnswer CheckError)
+    → IsReportOf document report → GivesOnly answer_view (Ok (answer_with text_of report)) r
+    → Gives answer_view (AnswersDocument text_of (Ok document)) r
+report_answered text_of document report (Ok x) is h = (report, is, let same : answer_view x ≡ answer_with text_of report = cc in same)
+report_answered text_of document report (Err e) is h =
+    mapped (λ fault. Ok (answer_with text_of report) ≡ Err fault) (λ fault. AnswersDocument text_of (Ok document) (Err fault))
+    (λ fault same. cc) e h
 
 -- without arguments, only the input matters
 pub without_words : (text_of : Report → List ℕ) (has_words : Bool) (input : List ℕ) (answer : Result Answer CheckError)

@@ -28,9 +28,10 @@ use std::alloc::{AllocError, Global};
 pub fn value_of(alloc: Global, bytes: &[u8]) -> Result<Value, CheckError>
     ensures { GivesBy check_origin view (λ answer. document_of_bytes bytes.now ≡ answer) result }
 {
-    let value = json_of(alloc, bytes)?;
-    check_document(alloc, &value)?;
-    Ok(value)
+    match json_of(alloc, bytes) {
+        Ok(value) => check_document(alloc, &value).and(Ok(value)),
+        Err(error) => Err(error),
+    }
 }
 
 // The JSON value that the bytes write.

@@ -114,9 +114,8 @@ fn add_part<'a>(key: &'a str, found: &mut Found<'a>) -> Result<(), AllocError>
 fn is_part_name(key: &str) -> bool
     ensures { result ≡ is_part_name key.now }
 {
-    key == "cardinal"
-        || key == "ordinal"
-        || key == "ranges"
-        || key == "elements"
-        || key == "parents"
+    matches!(
+        key,
+        "cardinal" | "ordinal" | "ranges" | "elements" | "parents"
+    )
 }

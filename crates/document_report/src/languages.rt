@@ -4,6 +4,7 @@ ghost use Rattle.std.specs.Prelude.{◌≡◌, Some, OnOk, option_map};
 ghost use Rattle.std.specs.Option.{option_copied};
 ghost use Rattle.icu_plurals.specs.RulesJson.{text_under};
 ghost use Rattle.plural_checker.specs.LanguageTexts.{six_texts};
+ghost use Rattle.plural_checker.specs.TextChecks.{AreFindingsOf};
 ghost use Rattle.document_report.specs.DocumentPlaces.{locale_place_view};
 ghost use Rattle.document_report.specs.DocumentReport.{all_texts_in, faults_of, found_of_other, found_told};
 ghost use Rattle.document_report.specs.DocumentReport.{found_under, found_under_all, lacks_other, text_order, IsFoundInLanguage, IsFoundInRules};
@@ -17,7 +18,7 @@ use crate::finding_place::{FindingPlace, LocalePlace};
 use crate::found::Found;
 use crate::keys::{add_categories, add_key};
 use icu_plurals::PluralCategory;
-use plural_checker::{Fault, LanguageTexts, check_texts};
+use plural_checker::{Fault, LanguageTexts, Report, check_texts};
 use plural_documents::{MOST_TOLD, MemberCheck, sum};
 use plural_fallback::Part;
 use serde_json::Value;
@@ -66,7 +67,27 @@ fn add_language<'a>(
 ) -> Result<(), AllocError>
     ensures { OnOk result (HasGrownBy (IsFoundInLanguage (locale_place_view place.entry) (view value.now)) found.old found.new) }
 {
-    let checked = check_texts(alloc, &texts_of(value))?;
+    match check_texts(alloc, &texts_of(value)) {
+        Ok(checked) => {
+            let added = add_checked(alloc, place, value, &checked, found);
+            drop(checked);
+            added
+        }
+        Err(error) => Err(error),
+    }
+}
+
+// Adds what is found in the rules of a locale, given what a check of their texts found.
+fn add_checked<'a>(
+    alloc: Global,
+    place: LocalePlace<'a>,
+    value: &'a Value,
+    checked: &Report,
+    found: &mut Found<'a>,
+) -> Result<(), AllocError>
+    requires { AreFindingsOf (all_texts_in (view value.now)) checked.now }
+    ensures { OnOk result (HasGrownBy (IsFoundInLanguage (locale_place_view place.entry) (view value.now)) found.old found.new) }
+{
     add_key(place, found)?;
     add_other(place, value, found)?;
     add_texts(alloc, place, value, checked.faults.as_slice(), found)?;
@@ -211,6 +232,10 @@ fn tell<'a>(
     if before >= MOST_TOLD {
         return Ok(());
     }
-    let kind = fault_copy(alloc, &fault.kind)?;
-    found.add_finding(FindingPlace::Text(place, fault.category), Cause::Text(kind))
+    match fault_copy(alloc, &fault.kind) {
+        Ok(kind) => {
+            found.add_finding(FindingPlace::Text(place, fault.category), Cause::Text(kind))
+        }
+        Err(error) => Err(error),
+    }
 }

@@ -68,7 +68,7 @@ pub(crate) struct Parents<'a> {
 }
 
 impl<'a> Parents<'a> {
-    ghost use Rattle.document_report.specs.Inner.ParentRows.{named_parent, parent_among};
+    ghost use Rattle.document_report.specs.Inner.ParentRows.{named_parent, parent_among, parent_by};
 
     // The parents that the members of the part name.
     pub(crate) fn of(
@@ -80,6 +80,36 @@ impl<'a> Parents<'a> {
     {
         let mut folded = BTreeMap::new(alloc);
         let mut exact = BTreeMap::new(alloc);
+        let absent = Row {
+            name: "",
+            parent: None,
+            place: None,
+        };
+        match Parents::put_all(alloc, members, &mut folded, &mut exact) {
+            Ok(longest) => Ok(Parents {
+                folded,
+                exact,
+                absent,
+                longest,
+            }),
+            Err(error) => Err(error),
+        }
+    }
+
+    // Puts a row for each member, where there are none. The most bytes of a name.
+    fn put_all(
+        alloc: Global,
+        members: &'a Map<String, Value>,
+        firsts: &mut BTreeMap<Vec<u8>, Row<'a>>,
+        others: &mut BTreeMap<Vec<u8>, Row<'a>>,
+    ) -> Result<usize, AllocError>
+        requires firsts { (name : List ℕ) → row_at firsts.old name ≡ None }
+        requires others { (name : List ℕ) → row_at others.old name ≡ None }
+        ensures parents { IfOk result (λ _. (locale : List ℕ)
+            → parent_by None locale (row_at firsts.new (map folded locale)) (row_at others.new locale)
+            ≡ parent_among (members_view members.now.entries) locale) }
+        ensures longest { IfOk result (λ longest. AreUpTo longest (row_at firsts.new)) }
+    {
         let mut longest = 0;
         let mut count = 0_usize;
         for (key, value) in members.iter() {
@@ -89,21 +119,11 @@ impl<'a> Parents<'a> {
                 parent: value.as_str(),
                 place: Some(count),
             };
-            put(alloc, &mut folded, &mut exact, row)?;
+            put(alloc, firsts, others, row)?;
             longest = longest.max(name.len());
             count = count.saturating_add(1);
         }
-        let absent = Row {
-            name: "",
-            parent: None,
-            place: None,
-        };
-        Ok(Parents {
-            folded,
-            exact,
-            absent,
-            longest,
-        })
+        Ok(longest)
     }
 
     // The row of a locale. Of a front of many subtags the length tells mostly that it has none.

@@ -1,12 +1,12 @@
 //! The report of a document.
 
-ghost use Rattle.std.specs.Prelude.{◌≡◌, ◌++◌, IfOk, OnOk, map, string_bytes};
+ghost use Rattle.std.specs.Prelude.{◌≡◌, [], IfOk, OnOk, map, string_bytes};
 ghost use Rattle.std.specs.List.{flat_map};
 ghost use Rattle.document_report.specs.CheckAnswer.{verdict_of_report, report_status};
 ghost use Rattle.document_report.specs.CheckedDocument.{members_at};
 ghost use Rattle.document_report.specs.DocumentFindings.{finding_view};
 ghost use Rattle.document_report.specs.DocumentReport.{found_of_count, IsFoundInDocument, IsFoundInRanges, IsFoundInRules, IsReportOf};
-ghost use Rattle.document_report.specs.FoundInDocuments.{together, HasGrownBy, IsFoundInMembers};
+ghost use Rattle.document_report.specs.FoundInDocuments.{nothing_found, together, HasGrownBy, IsFoundInMembers};
 ghost use Rattle.document_report.specs.ReportText.{counts_in, counts_line, counts_of, findings_in, printed_finding, report_text};
 ghost use Rattle.plural_fallback.specs.declared.locales.Part.TheVariants.{Ranges};
 ghost use Rattle.serde_json.specs.View.{view};
@@ -69,9 +69,10 @@ pub fn report_of<'a>(alloc: Global, document: &'a Value) -> Result<Report<'a>, A
     ensures { IfOk result (λ report. IsReportOf (view document.now) report) }
 {
     let locales = locale_count(document)?;
-    let mut found = found_in(alloc, document)?;
-    add_count(locales, &mut found)?;
-    Ok(Report { locales, found })
+    match found_in(alloc, document) {
+        Ok(mut found) => add_count(locales, &mut found).and(Ok(Report { locales, found })),
+        Err(error) => Err(error),
+    }
 }
 
 // Adds a fault if there is no locale.
@@ -89,12 +90,23 @@ fn found_in<'a>(alloc: Global, document: &'a Value) -> Result<Found<'a>, AllocEr
     ensures { IfOk result (λ found. IsFoundInDocument (view document.now) found) }
 {
     let mut found = Found::nothing(alloc);
-    add_members_of(alloc, &PartCheck, document.as_object(), &mut found)?;
-    add_rules(alloc, document, Part::Cardinal, &mut found)?;
-    add_rules(alloc, document, Part::Ordinal, &mut found)?;
-    add_ranges(alloc, document, &mut found)?;
-    add_parents(alloc, document, &mut found)?;
-    Ok(found)
+    add_parts(alloc, document, &mut found).and(Ok(found))
+}
+
+// Adds it to nothing.
+fn add_parts<'a>(
+    alloc: Global,
+    document: &'a Value,
+    found: &mut Found<'a>,
+) -> Result<(), AllocError>
+    requires { found.old ≡ nothing_found }
+    ensures { OnOk result (IsFoundInDocument (view document.now) found.new) }
+{
+    add_members_of(alloc, &PartCheck, document.as_object(), found)?;
+    add_rules(alloc, document, Part::Cardinal, found)?;
+    add_rules(alloc, document, Part::Ordinal, found)?;
+    add_ranges(alloc, document, found)?;
+    add_parents(alloc, document, found)
 }
 
 // Adds what is found in the rules of a part.
@@ -160,12 +172,20 @@ impl<'a> Report<'a> {
         ensures { IfOk result (λ text. string_bytes text ≡ report_text self.now) }
     {
         let mut text = String::new(alloc);
+        self.push_text(alloc, &mut text).and(Ok(text))
+    }
+
+    // Appends the text of the report.
+    fn push_text(&self, alloc: Global, text: &mut String) -> Result<(), AllocError>
+        requires { string_bytes text.old ≡ [] }
+        ensures { OnOk result (string_bytes text.new ≡ report_text self.now) }
+    {
         let mut lines = FindingLines {
             place: KeptPlace::new(alloc),
         };
-        push_lines(alloc, &mut lines, self.findings(), &mut text)?;
-        text.push_str(self.last_line(alloc)?.as_str())?;
-        Ok(text)
+        push_lines(alloc, &mut lines, self.findings(), text)?;
+        let last = self.last_line(alloc)?;
+        text.push_str(last.as_str())
     }
 
     // The line with the counts of the report.

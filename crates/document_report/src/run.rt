@@ -1,20 +1,20 @@
 //! Reads an input and writes the answer to it.
 
-ghost use Rattle.std.specs.Prelude.{◌≡◌, ◌≢◌, Err, IfErr, IfOk, List, ℕ, IsFalse, IsTrue};
-ghost use Rattle.document_report.specs.CheckAnswer.{AnswersDocument, AnswersInput, AnswersInputAs, IsCheckAnswered, IsAnswerTo, check_origin};
+ghost use Rattle.std.specs.Prelude.{◌≡◌, ◌≢◌, Ok, Err, IfErr, List, ℕ, IsFalse, IsTrue};
+ghost use Rattle.document_report.specs.CheckAnswer.{AnswersDocument, AnswersInput, AnswersInputAs, IsCheckAnswered, answer_with, check_origin};
 ghost use Rattle.document_report.specs.CheckedDocument.{value_in, document_of_bytes};
-ghost use Rattle.document_report.specs.Inner.CheckCalls.{Gives, GivesAfterReading, answer_view};
+ghost use Rattle.document_report.specs.Inner.CheckCalls.{Gives, GivesAfterReading, GivesOnly, answer_view};
 ghost use Rattle.document_report.specs.declared.error.CheckError.TheVariants.{Usage};
 ghost use Rattle.plural_documents.specs.Inputs.{IsInput, IsRead};
 ghost use Rattle.serde_json.specs.View.{view};
 
 use crate::document::value_of;
 use crate::error::CheckError;
-use crate::report::{Verdict, report_of};
+use crate::report::{Report, Verdict, report_of};
 use crate::report_printer::{ReportLines, ReportPrinter};
 use plural_documents::{read_input, write_output};
 use serde_json::Value;
-use std::alloc::{AllocError, Global};
+use std::alloc::Global;
 use std::io::{Read, Write};
 
 // The text that is written for a document, and whether the document has a fault.
@@ -101,10 +101,13 @@ fn answer_to<P: ReportPrinter>(
 ) -> Result<Answer, CheckError>
     ensures { Gives answer_view (AnswersDocument (P.text_of printer.now) (document_of_bytes bytes.now)) result }
 {
-    let document = value_of(alloc, bytes)?;
-    match answer_of(alloc, printer, &document) {
-        Ok(answer) => Ok(answer),
-        Err(_) => Err(CheckError::Memory),
+    match value_of(alloc, bytes) {
+        Ok(document) => {
+            let answer = answer_of(alloc, printer, &document);
+            drop(document);
+            answer
+        }
+        Err(error) => Err(error),
     }
 }
 
@@ -113,13 +116,32 @@ fn answer_of<P: ReportPrinter>(
     alloc: Global,
     printer: &P,
     document: &Value,
-) -> Result<Answer, AllocError>
-    ensures { IfOk result (λ answer. IsAnswerTo (P.text_of printer.now) (view document.now) (answer_view answer)) }
+) -> Result<Answer, CheckError>
+    ensures { Gives answer_view (AnswersDocument (P.text_of printer.now) (Ok (view document.now))) result }
 {
-    let report = report_of(alloc, document)?;
-    let text = printer.print(alloc, &report)?;
-    Ok(Answer {
-        text,
-        verdict: report.verdict(),
-    })
+    match report_of(alloc, document) {
+        Ok(report) => {
+            let answer = answer_with(alloc, printer, &report);
+            drop(report);
+            answer
+        }
+        Err(_) => Err(CheckError::Memory),
+    }
+}
+
+// The answer with a report.
+fn answer_with<P: ReportPrinter>(
+    alloc: Global,
+    printer: &P,
+    report: &Report<'_>,
+) -> Result<Answer, CheckError>
+    ensures { GivesOnly answer_view (Ok (answer_with (P.text_of printer.now) report.now)) result }
+{
+    match printer.print(alloc, report) {
+        Ok(text) => Ok(Answer {
+            text,
+            verdict: report.verdict(),
+        }),
+        Err(_) => Err(CheckError::Memory),
+    }
 }

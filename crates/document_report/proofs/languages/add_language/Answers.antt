@@ -1,37 +1,7 @@
-use Rattle.std.proofs.Common.{◌≡◌, List, ap, refl, subst, ◌∙◌}
-use Rattle.serde_json.specs.Data.{Members}
-use Rattle.serde_json.specs.View.{view}
+use Rattle.std.proofs.Common.{subst}
 use Rattle.plural_checker.specs.LanguageTexts.{SixTexts}
 use Rattle.plural_checker.specs.TextChecks.{AreFindingsOf}
-use Rattle.plural_checker.specs.declared.Fault.{Fault}
-use Rattle.document_report.specs.CheckedDocument.{members_or_none}
-use Rattle.document_report.specs.DocumentPlaces.{locale_place_view}
-use Rattle.document_report.specs.DocumentReport.{found_by_check, found_of_key, found_of_other, found_under_all, text_order, IsFoundInKey}
-use Rattle.document_report.specs.FoundInDocuments.{cases_alone, together, IsFoundInMembers}
-use Rattle.document_report.proofs.FoundParts.{five_more, on_ok}
 use Rattle.document_report.proofs.languages.add_language.Goals as goal
 
-pub returns : goal.returns
-returns c =
-    let place = locale_place_view c.args.place in
-    let value = view c.args.value.now in
-    let checked = c.in_ok-checked.checked in
-    let under : c.add_texts.new.found ≡ together c.add_other.new.found (found_under_all place value checked.faults text_order) =
-    c.in_ok-add_texts.ensures
-    ∙ ap (λ (faults : List Fault). together c.add_other.new.found (found_under_all place value faults text_order)) c.as_slice.ensures in
-    on_ok c.add_categories.result
-    (λ added. (
-      together (found_of_key place) (together (found_of_other place value) (together (found_by_check place value checked) added.0)),
-      (
-        checked,
-        added.0,
-        subst (λ (texts : SixTexts). AreFindingsOf texts checked) c.texts_of.ensures c.in_ok-checked.ensures,
-        subst (λ (m : Members). IsFoundInMembers (IsFoundInKey place) m added.0) (ap members_or_none c.as_object.ensures) added.1,
-        refl,
-      ),
-      five_more c.args.found.now (found_of_key place) (found_of_other place value)
-          (found_under_all place value checked.faults text_order) (cases_alone checked.numbers) added.0
-          c.add_key.new.found c.add_other.new.found c.add_texts.new.found c.add_cases.new.self c.add_categories.new.found
-          c.in_ok-add_key.ensures c.in_ok-add_other.ensures under c.in_ok-add_cases.ensures added.2,
-    ))
-    c.add_categories.ensures
+pub add_checked-added-requires : goal.add_checked-added-requires
+add_checked-added-requires c = subst (λ (texts : SixTexts). AreFindingsOf texts c.in-Ok.checked) c.texts_of.ensures c.in-Ok.ensures
