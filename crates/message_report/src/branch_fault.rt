@@ -10,7 +10,7 @@ ghost use Rattle.message_report.specs.PatternFaults.{missing_by, missing_fault, 
 ghost use Rattle.message_report.specs.Inner.ArgumentViews.{branching};
 
 use crate::argument::{Argument, has_category_branch, has_number, stands_in};
-use crate::fault::write_rare;
+use crate::fault::{write_missing, write_rare};
 use crate::language::Language;
 use crate::rare_samples::TwoSamples;
 use icu_plurals::PluralCategory;
@@ -47,11 +47,8 @@ impl fmt::Display for BranchFault {
             BranchFault::NoHash(category, first, second) => {
                 write!(f, "no #, but {first} and {second} are {category}")
             }
-            BranchFault::Missing(category, first, Some(second)) => {
-                write!(f, "missing, but {first} and {second} are {category}")
-            }
-            BranchFault::Missing(category, first, None) => {
-                write!(f, "missing, but {first} is {category}")
+            BranchFault::Missing(category, first, second) => {
+                write_missing(f, category, first, second)
             }
             BranchFault::MissingRare(category, first, second) => {
                 write_rare(f, category, first, second)

@@ -6,7 +6,7 @@ ghost use Rattle.message_report.specs.Inner.KnownNumbers.{chosen_of};
 use plural_checker::TwoNumbers;
 
 // What is known of the whole numbers that have a category.
-#[derive(Clone, Copy, Debug)]
+#[derive(Clone, Copy)]
 pub(crate) struct CategoryNumbers {
     // Whether 0 has it.
     pub(crate) zero: bool,

@@ -3,7 +3,7 @@
 ghost use Rattle.std.specs.Prelude.{◌≡◌, Some, None, option_map};
 ghost use Rattle.std.specs.Fmt.{DisplaysOnOk};
 ghost use Rattle.std.specs.Option.{option_and_then};
-ghost use Rattle.message_report.specs.FormFaults.{form_fault_text, form_value_fault, missing_form, missing_samples_text, no_number, told_of};
+ghost use Rattle.message_report.specs.FormFaults.{form_fault_text, form_value_fault, missing_form, missing_numbers_text, missing_samples_text, no_number, told_of};
 ghost use Rattle.message_report.specs.FormFaults.{HasFaultUnder, HasPresentFault, HasTextFault};
 ghost use Rattle.message_report.specs.Inner.FormSteps.{HasFaultOf, language_lent, value_lent};
 ghost use Rattle.message_report.specs.Inner.LanguageViews.{language_view};
@@ -45,16 +45,28 @@ impl fmt::Display for FormFault {
             FormFault::NoNumber(category, first, second) => {
                 write!(f, "no {{}}, but {first} and {second} are {category}")
             }
-            FormFault::Missing(category, first, Some(second)) => {
-                write!(f, "missing, but {first} and {second} are {category}")
-            }
-            FormFault::Missing(category, first, None) => {
-                write!(f, "missing, but {first} is {category}")
+            FormFault::Missing(category, first, second) => {
+                write_missing(f, category, first, second)
             }
             FormFault::MissingRare(category, first, second) => {
                 write_rare(f, category, first, second)
             }
         }
+    }
+}
+
+// Writes that a category is missing, with its numbers.
+pub(crate) fn write_missing<W: fmt::Write>(
+    f: &mut fmt::Formatter<W>,
+    category: PluralCategory,
+    first: u16,
+    second: Option<u16>,
+) -> fmt::Result
+    ensures { DisplaysOnOk W.write_str_gives f.old result (Some (missing_numbers_text category first second)) f.new }
+{
+    match second {
+        Some(second) => write!(f, "missing, but {first} and {second} are {category}"),
+        None => write!(f, "missing, but {first} is {category}"),
     }
 }
 

@@ -48,7 +48,7 @@ impl Form {
 }
 
 // Whether exactly 0 and exactly 1 have forms of their own in a message.
-#[derive(Clone, Copy, Debug, PartialEq, Eq)]
+#[derive(Clone, Copy)]
 pub(crate) struct OwnForms {
     pub(crate) zero: bool,
     pub(crate) one: bool,
@@ -70,12 +70,9 @@ impl OwnForms {
 pub(crate) fn is_form_name(key: &str) -> bool
     ensures { result ≡ is_form_name key.now }
 {
-    key == "explicit_zero"
-        || key == "explicit_one"
-        || key == "zero"
-        || key == "one"
-        || key == "two"
-        || key == "few"
-        || key == "many"
-        || key == "other"
+    match key {
+        "explicit_zero" | "explicit_one" => true,
+        "zero" | "one" | "two" | "few" | "many" | "other" => true,
+        _ => false,
+    }
 }

@@ -17,7 +17,7 @@ use std::alloc::Global;
 
 // The categories that a language has, what is known of the numbers of each, and the samples of those
 // that no whole number has.
-#[derive(Clone, Copy, Debug)]
+#[derive(Clone, Copy)]
 pub(crate) struct Language {
     numbers: LanguageNumbers,
     samples: Five<TwoSamples>,
@@ -36,23 +36,25 @@ impl Language {
         ensures { IsLanguageOf (rules_of given.now) (HasText (S.source source.now) rule_type locale.now) (language_view result) }
     {
         let numbers = LanguageNumbers::of(given);
-        let rules = &PluralRules::from_data(given.as_borrowed());
-        Language {
+        let rules = PluralRules::from_data(given.as_borrowed());
+        let language = Language {
             numbers,
             samples: make_five!(
                 Five,
-                |category| samples_of(alloc, source, rule_type, locale, rules, &numbers, category)
+                |category| samples_of(alloc, source, rule_type, locale, &rules, &numbers, category)
             ),
             samples_of_other: samples_of(
                 alloc,
                 source,
                 rule_type,
                 locale,
-                rules,
+                &rules,
                 &numbers,
                 PluralCategory::Other,
             ),
-        }
+        };
+        drop(rules);
+        language
     }
 
     // Whether the language has a category.

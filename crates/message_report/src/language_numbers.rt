@@ -13,7 +13,7 @@ use plural_base::{at_category, make_five};
 use plural_checker::{CategorySet, LeastNumbers, TwoNumbers, two_least_of_each};
 
 // The categories that a language has, and what is known of the numbers of each.
-#[derive(Clone, Copy, Debug)]
+#[derive(Clone, Copy)]
 pub(crate) struct LanguageNumbers {
     categories: CategorySet,
     numbers: Five<CategoryNumbers>,
@@ -25,11 +25,12 @@ impl LanguageNumbers {
     pub(crate) fn of(given: &PluralRulesData<'_>) -> LanguageNumbers
         ensures { HasNumbersOf (rules_of given.now) (numbers_view result) }
     {
-        let rules = &PluralRules::from_data(given.as_borrowed());
+        let rules = PluralRules::from_data(given.as_borrowed());
         let categories = CategorySet::of_rules(given);
         let of_zero = rules.category_for(PluralOperands::from(0u16));
         let of_one = rules.category_for(PluralOperands::from(1u16));
-        let least = two_least_of_each(rules, 2);
+        let least = two_least_of_each(&rules, 2);
+        drop(rules);
         LanguageNumbers {
             categories,
             numbers: make_five!(

@@ -116,7 +116,11 @@ fn language_at<S: RulesOfLocales>(
     ensures { HasLanguage (S.source source.now) rule_type locale.now (option_map language_view result) }
 {
     match source.rules_of(rule_type, locale) {
-        Some(rules) => Some(Language::of(alloc, source, rule_type, locale, &rules)),
+        Some(rules) => {
+            let language = Language::of(alloc, source, rule_type, locale, &rules);
+            drop(rules);
+            Some(language)
+        }
         None => None,
     }
 }

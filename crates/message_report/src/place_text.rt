@@ -1,9 +1,10 @@
 //! What is printed for places.
 
 ghost use Rattle.std.specs.Prelude.{◌≡◌, IfOk, Some, string_bytes};
+ghost use Rattle.std.specs.Fmt.{DisplaysOnOk};
 ghost use Rattle.message_pattern.specs.PatternParts.{selector_view};
 ghost use Rattle.message_report.specs.MessagePlaces.{argument_place_text, locale_text, message_place_text, pattern_place_text};
-ghost use Rattle.message_report.specs.MessagePlaces.{place_text, selector_text};
+ghost use Rattle.message_report.specs.MessagePlaces.{named, place_text, selector_text};
 ghost use Rattle.message_report.specs.MessagePlaces.{argument_place_view, locale_place_view, message_place_view, pattern_place_view, place_view};
 
 use crate::place::{ArgumentPlace, LocalePlace, MessagePlace, PatternPlace, Place, type_name};
@@ -29,24 +30,48 @@ impl fmt::Display for Place<'_> {
     ghost output = { λ place. Some (place_text (place_view place)) };
 
     fn fmt<W: fmt::Write>(&self, f: &mut fmt::Formatter<W>) -> fmt::Result {
-        match *self {
+        match self {
             Place::Document(_) => f.write_str("document"),
             Place::Locale(locale) => write!(f, "{locale}"),
             Place::Key(locale, key) => write!(f, "{locale} {}", printed_name(key)),
-            Place::Sources(locale) => write!(f, "{locale} source"),
+            Place::Sources(locale) => write_named(f, locale, "source"),
             Place::Source(locale, key) => write!(f, "{locale} source {}", message_key(key)),
-            Place::Messages(locale, rule_type) => write!(f, "{locale} {}", type_name(rule_type)),
+            Place::Messages(locale, rule_type) => write_named(f, locale, type_name(*rule_type)),
             Place::Message(message) => write!(f, "{message}"),
-            Place::Form(message, form) => write!(f, "{message} {}", form.as_str()),
+            Place::Form(message, form) => write_part(f, message, form.as_str()),
             Place::OtherKey(message, key) => write!(f, "{message} {}", printed_name(key)),
-            Place::Patterns(locale) => write!(f, "{locale} patterns"),
+            Place::Patterns(locale) => write_named(f, locale, "patterns"),
             Place::Pattern(pattern) => write!(f, "{pattern}"),
             Place::Argument(argument) => write!(f, "{argument}"),
             Place::Branch(argument, selector) => {
-                write!(f, "{argument} {}", PrintedSelector(selector))
+                write!(f, "{argument} {}", PrintedSelector(*selector))
             }
         }
     }
+}
+
+// Writes what has a name in a locale: `ru patterns`.
+fn write_named<W: fmt::Write>(
+    f: &mut fmt::Formatter<W>,
+    locale: &LocalePlace<'_>,
+    name: &str,
+) -> fmt::Result
+    ensures { DisplaysOnOk W.write_str_gives f.old result
+        (Some (named (locale_text (locale_place_view locale.now)) name.now)) f.new }
+{
+    write!(f, "{locale} {name}")
+}
+
+// Writes what has a name in a message: `ru files one`.
+fn write_part<W: fmt::Write>(
+    f: &mut fmt::Formatter<W>,
+    message: &MessagePlace<'_>,
+    name: &str,
+) -> fmt::Result
+    ensures { DisplaysOnOk W.write_str_gives f.old result
+        (Some (named (message_place_text (message_place_view message.now)) name.now)) f.new }
+{
+    write!(f, "{message} {name}")
 }
 
 /// The locale alone: `ru`.

@@ -11,7 +11,7 @@ use plural_checker::{Sample, first_samples};
 use std::alloc::Global;
 
 // The first two samples of a text, as far as there are two.
-#[derive(Clone, Copy, Debug, PartialEq, Eq)]
+#[derive(Clone, Copy)]
 pub(crate) struct TwoSamples {
     pub(crate) first: Option<Sample>,
     pub(crate) second: Option<Sample>,

@@ -90,6 +90,7 @@ fn known<'a, L: Locales>(
         (option_map rules_of result) }
 {
     if is_unknown(locale, loaded.key) && !is_known(locales, locale) {
+        drop(loaded);
         return None;
     }
     Some(loaded.value)

@@ -10,7 +10,7 @@ use Rattle.message_report.proofs.language.Language.of.Goals as goal
 
 pub returns : goal.returns
 returns g c =
-    let rules = c.from_data.result in
+    let rules = c.from_data-rules.result in
     let IsText : PluralCategory → Option (List ℕ) → Type 0 =
     HasText (g.S.RulesOfLocales.source c.args.source.now) c.args.rule_type c.args.locale.now in
     let language : Language = record {
@@ -24,7 +24,7 @@ returns g c =
       };
       samples_of_other = c.samples_of-6.result;
     } in
-    let same : rules ≡ rules_of c.args.given.now = c.from_data.ensures ∙ ap rules_of c.as_borrowed.ensures in
+    let same : rules ≡ rules_of c.args.given.now = c.from_data-rules.ensures ∙ ap rules_of c.as_borrowed.ensures in
     let known : HasNumbersOf rules (numbers_view language.numbers) =
     subst (λ (r : FiveRules). HasNumbersOf r (numbers_view language.numbers)) (sym same) c.of-numbers.ensures in
     subst (λ (r : FiveRules). IsLanguageOf r IsText (language_view language)) same

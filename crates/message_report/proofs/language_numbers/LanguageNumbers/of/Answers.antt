@@ -12,7 +12,7 @@ use Rattle.message_report.proofs.language_numbers.LanguageNumbers.of.Goals as go
 
 pub returns : goal.returns
 returns c =
-    let rules = c.from_data.result in
+    let rules = c.from_data-rules.result in
     let set = c.of_rules-categories.result in
     let least = c.two_least_of_each-least.result in
     let zero = c.category_for-of_zero.result in
@@ -28,7 +28,7 @@ returns c =
       };
       other = c.numbers_of-6.result;
     } in
-    let same : rules ≡ rules_of c.args.given.now = c.from_data.ensures ∙ ap rules_of c.as_borrowed.ensures in
+    let same : rules ≡ rules_of c.args.given.now = c.from_data-rules.ensures ∙ ap rules_of c.as_borrowed.ensures in
     let of_zero : zero ≡ first_category (packed_truth (of_whole 0)) rules = cc in
     let of_one : one ≡ first_category (packed_truth (of_whole 1)) rules = cc in
     let found = c.two_least_of_each-least.ensures in
