@@ -18,7 +18,7 @@ use std::alloc::{AllocError, Global};
 const MOST_STEPS: usize = 16;
 
 // The locales whose keys are kept.
-#[derive(Clone, Copy, Debug)]
+#[derive(Clone, Copy)]
 pub(crate) enum KeptLocales<'a> {
     // Those that this locale begins with, and `root`.
     Fronts(&'a [u8]),
@@ -29,7 +29,7 @@ pub(crate) enum KeptLocales<'a> {
 }
 
 // What is kept of a document of rules.
-#[derive(Clone, Copy, Debug)]
+#[derive(Clone, Copy)]
 pub(crate) enum RulesSieve<'a> {
     // Of a document this part and the parents.
     Document(Part, KeptLocales<'a>),
@@ -162,15 +162,44 @@ fn rules_in_text(
     ensures { IfOk result (IsServedBy part locale.now text.now.bytes) }
 {
     let fronts = KeptLocales::Fronts(locale.as_bytes());
-    if let Some(kept) = rules_inside(alloc, part, locale, fronts, text)? {
-        return Ok(kept);
+    match rules_inside(alloc, part, locale, fronts, text) {
+        Ok(Some(kept)) => Ok(kept),
+        Ok(None) => rules_by_chain(alloc, part, locale, text),
+        Err(error) => Err(error),
     }
-    let parents = text.outline(alloc, RulesSieve::Parents)?;
-    if let Some(kept) = rules_of_chain(alloc, part, locale, &parents, text)? {
-        return Ok(kept);
+}
+
+// The same with the locales of the chain, if it stays among them, else with all of the part.
+fn rules_by_chain(
+    alloc: Global,
+    part: Part,
+    locale: &str,
+    text: &JsonTokens<'_>,
+) -> Result<KeptRules, AllocError>
+    requires { HoldsPart part text.now }
+    ensures { IfOk result (IsServedBy part locale.now text.now.bytes) }
+{
+    match rules_by_parents(alloc, part, locale, text) {
+        Ok(Some(kept)) => Ok(kept),
+        Ok(None) => rules_of_part(alloc, part, locale, text),
+        Err(error) => Err(error),
     }
-    drop(parents);
-    rules_of_part(alloc, part, locale, text)
+}
+
+// What is kept of an outline with the locales of the chain, whose parents are outlined first.
+fn rules_by_parents(
+    alloc: Global,
+    part: Part,
+    locale: &str,
+    text: &JsonTokens<'_>,
+) -> Result<Option<KeptRules>, AllocError>
+    requires { HoldsPart part text.now }
+    ensures { IfOk result (λ found. IfSome found (IsServedBy part locale.now text.now.bytes)) }
+{
+    match text.outline(alloc, RulesSieve::Parents) {
+        Ok(parents) => rules_of_chain(alloc, part, locale, &parents, text),
+        Err(error) => Err(error),
+    }
 }
 
 // What is kept of an outline with these locales, if the chain stays among them.
@@ -186,10 +215,16 @@ fn rules_inside(
 {
     let document = text.outline(alloc, RulesSieve::Document(part, locales))?;
     let Some(first) = first_inside(&document, part, locale, locales) else {
+        drop(document);
         return Ok(None);
     };
-    let key = owned(alloc, first)?;
-    Ok(Some(KeptRules { key, document }))
+    match owned(alloc, first) {
+        Ok(key) => Ok(Some(KeptRules { key, document })),
+        Err(error) => {
+            drop(document);
+            Err(error)
+        }
+    }
 }
 
 // What is kept of an outline with all of the part.
