@@ -42,7 +42,9 @@ fn text_by(
     ensures { (held : Data) → IsHeld text.now held → GivesText (After (AnswersLookup (lookup_view lookup.now)) (document_of_value held)) result }
 {
     let document = document_for(alloc, text, lookup)?;
-    text_of(alloc, &document, lookup)
+    let answer = text_of(alloc, &document, lookup);
+    drop(document);
+    answer
 }
 
 // The answer to a query of a document.

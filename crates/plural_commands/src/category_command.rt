@@ -25,6 +25,7 @@ pub(crate) fn category_line(
 {
     let rules = PluralRules::from_data(rules_for(document, locale, rule_type)?);
     let category = rules.category_for_compact(number);
+    drop(rules);
     Ok(CowStr::Borrowed(line_of(category)))
 }
 

@@ -57,14 +57,12 @@ fn of_three<'a>(
 ) -> Option<Command<'a>>
     ensures { option_map command_view result ≡ of_three command.now locale.now rule_type.now number.now }
 {
-    if command == "category" {
-        Some(Command::Category(locale, type_of(rule_type)?, number))
-    } else if command == "select" {
-        Some(Command::Select(locale, type_of(rule_type)?, number))
-    } else if command == "message" {
-        Some(Command::Message(locale, type_of(rule_type)?, number))
-    } else {
-        None
+    let rule_type = type_of(rule_type)?;
+    match command {
+        "category" => Some(Command::Category(locale, rule_type, number)),
+        "select" => Some(Command::Select(locale, rule_type, number)),
+        "message" => Some(Command::Message(locale, rule_type, number)),
+        _ => None,
     }
 }
 

@@ -70,8 +70,13 @@ pub(crate) fn document_for(
     ensures { (held : Data) → IsHeld text.now held → GivesServing (lookup_view lookup.now) (document_of_value held) result }
 {
     let maps = maps_of(alloc, text, lookup.locale())?;
-    let value = value_for(alloc, text, lookup)?;
-    Ok(Document { value, maps })
+    match value_for(alloc, text, lookup) {
+        Ok(value) => Ok(Document { value, maps }),
+        Err(fault) => {
+            drop(maps);
+            Err(fault)
+        }
+    }
 }
 
 // What the maps of a document have for a locale.

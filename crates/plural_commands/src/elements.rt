@@ -31,8 +31,16 @@ pub(crate) fn elements_for<'a>(
     ensures { GivesValue elements_view (elements_for rule_type locale.now (document_view document.now)) result }
 {
     let elements = elements_of(alloc, &document.value)?;
-    let rules = PluralRules::from_data(rules_for(document, locale, rule_type)?);
-    Ok(RuledElements { elements, rules })
+    match rules_for(document, locale, rule_type) {
+        Ok(data) => {
+            let rules = PluralRules::from_data(data);
+            Ok(RuledElements { elements, rules })
+        }
+        Err(fault) => {
+            drop(elements);
+            Err(fault)
+        }
+    }
 }
 
 // The elements of the document that a JSON value is.

@@ -1,6 +1,7 @@
 //! The command `print`.
 
-ghost use Rattle.std.specs.Prelude.{◌≡◌, ◌++◌, OnOk, IfOk, string_bytes};
+ghost use Rattle.std.specs.Prelude.{◌≡◌, ◌++◌, codes, Ok, OnOk, IfOk, string_bytes};
+ghost use Rattle.icu_plurals.specs.Categories.{name_of};
 ghost use Rattle.icu_plurals.specs.FiveRules.{rules_of as data_of};
 ghost use Rattle.plural_commands.specs.Answer.{AnswersFrom};
 ghost use Rattle.plural_commands.specs.Input.{rules_for};
@@ -27,7 +28,16 @@ pub(crate) fn rule_lines(
         (rules_for rule_type locale.now (document_view document.now))) result }
 {
     let rules = rules_for(document, locale, rule_type)?;
-    match lines_of(alloc, &rules) {
+    let lines = answer_of(alloc, &rules);
+    drop(rules);
+    lines
+}
+
+// The lines of rules, as an answer.
+fn answer_of(alloc: Global, rules: &PluralRulesData<'_>) -> Result<CowStr<'static>, RunError>
+    ensures { GivesText (AnswersFrom AreRuleLines (Ok (data_of rules.now))) result }
+{
+    match lines_of(alloc, rules) {
         Ok(lines) => Ok(CowStr::Owned(lines)),
         Err(_) => Err(RunError::Memory),
     }
@@ -38,12 +48,25 @@ fn lines_of(alloc: Global, rules: &PluralRulesData<'_>) -> Result<String, AllocE
     ensures { IfOk result (λ lines. string_bytes lines ≡ rule_lines (data_of rules.now)) }
 {
     let mut lines = String::new(alloc);
-    push_rule(alloc, &mut lines, PluralCategory::Zero, &rules.zero)?;
-    push_rule(alloc, &mut lines, PluralCategory::One, &rules.one)?;
-    push_rule(alloc, &mut lines, PluralCategory::Two, &rules.two)?;
-    push_rule(alloc, &mut lines, PluralCategory::Few, &rules.few)?;
-    push_rule(alloc, &mut lines, PluralCategory::Many, &rules.many)?;
-    Ok(lines)
+    match push_rules(alloc, &mut lines, rules) {
+        Ok(()) => Ok(lines),
+        Err(error) => Err(error),
+    }
+}
+
+// Appends the lines of the rules that are present, from zero to many.
+fn push_rules(
+    alloc: Global,
+    lines: &mut String,
+    rules: &PluralRulesData<'_>,
+) -> Result<(), AllocError>
+    ensures { OnOk result (string_bytes lines.new ≡ string_bytes lines.old ++ rule_lines (data_of rules.now)) }
+{
+    push_rule(alloc, lines, PluralCategory::Zero, &rules.zero)?;
+    push_rule(alloc, lines, PluralCategory::One, &rules.one)?;
+    push_rule(alloc, lines, PluralCategory::Two, &rules.two)?;
+    push_rule(alloc, lines, PluralCategory::Few, &rules.few)?;
+    push_rule(alloc, lines, PluralCategory::Many, &rules.many)
 }
 
 // Appends the line of a rule, if present.
@@ -58,9 +81,19 @@ fn push_rule(
     let Some(rule) = rule else {
         return Ok(());
     };
-    let text = rule.to_string(alloc)?;
+    match rule.to_string(alloc) {
+        Ok(text) => push_line(lines, category, text.as_str()),
+        Err(error) => Err(error),
+    }
+}
+
+// Appends the line of a rule, given its text.
+fn push_line(lines: &mut String, category: PluralCategory, text: &str) -> Result<(), AllocError>
+    ensures { OnOk result (string_bytes lines.new
+        ≡ string_bytes lines.old ++ (name_of category ++ codes ": " ++ text.now ++ codes "\n")) }
+{
     lines.push_str(RawPluralCategory::from(category).as_str())?;
     lines.push_str(": ")?;
-    lines.push_str(text.as_str())?;
+    lines.push_str(text)?;
     lines.push_str("\n")
 }

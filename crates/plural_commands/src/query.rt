@@ -1,11 +1,11 @@
 //! The query that the words of a command line ask for.
 
 ghost use Rattle.std.specs.Prelude.{◌≡◌, ◌↔◌, Err, None, Some, map};
-ghost use Rattle.plural_commands.specs.Commands.{command_of};
+ghost use Rattle.plural_commands.specs.Commands.{category, command_of, message, range, select, test};
 ghost use Rattle.plural_commands.specs.Inner.CallAnswers.{GivesQuery};
 ghost use Rattle.plural_commands.specs.Inner.KeptDocuments.{locale_of};
 ghost use Rattle.plural_commands.specs.Inner.PrivateViews.{command_view, lookup_view};
-ghost use Rattle.plural_commands.specs.Queries.{ReadingTakesMemory};
+ghost use Rattle.plural_commands.specs.Queries.{ReadingTakesMemory, TakesMemory};
 
 use crate::command::{Command, command_of};
 use crate::condition::condition;
@@ -73,28 +73,91 @@ fn read_words<'a>(alloc: Global, command: Command<'a>) -> Result<Query<'a>, RunE
     ensures memory { (result ≡ Err RunError.Memory) → ReadingTakesMemory (Some (command_view command.entry)) }
 {
     match command {
-        Command::Test(word, integer_word) => {
-            let condition = condition(alloc, word)?;
-            let integer = integer(integer_word)?;
-            Ok(Query::Test(condition, integer))
-        }
-        Command::Category(locale, rule_type, word) => {
-            let number = number(alloc, word)?;
-            Ok(Query::Document(Lookup::Category(locale, rule_type, number)))
-        }
+        Command::Test(word, integer_word) => test_query(alloc, word, integer_word),
+        Command::Category(locale, rule_type, word) => category_query(
+            alloc, locale, rule_type, word,
+        ),
         Command::Range(locale, rule_type, start_word, end_word) => {
-            let start = number(alloc, start_word)?;
-            let end = number(alloc, end_word)?;
-            Ok(Query::Document(Lookup::Range(locale, rule_type, start, end)))
+            range_query(alloc, locale, rule_type, start_word, end_word)
         }
         Command::Print(locale, rule_type) => Ok(Query::Document(Lookup::Print(locale, rule_type))),
-        Command::Select(locale, rule_type, word) => {
-            let number = number(alloc, word)?;
-            Ok(Query::Document(Lookup::Select(locale, rule_type, number)))
-        }
-        Command::Message(locale, rule_type, word) => {
-            let number = number(alloc, word)?;
-            Ok(Query::Document(Lookup::Message(locale, rule_type, number, word)))
-        }
+        Command::Select(locale, rule_type, word) => select_query(alloc, locale, rule_type, word),
+        Command::Message(locale, rule_type, word) => message_query(alloc, locale, rule_type, word),
+    }
+}
+
+// The query of the command `test`.
+fn test_query<'a>(alloc: Global, word: &str, integer_word: &str) -> Result<Query<'a>, RunError>
+    ensures { GivesQuery (Some (test word.now integer_word.now)) result }
+{
+    let condition = condition(alloc, word)?;
+    match integer(integer_word) {
+        Ok(integer) => Ok(Query::Test(condition, integer)),
+        Err(fault) => Err(fault),
+    }
+}
+
+// The query of the command `category`.
+fn category_query<'a>(
+    alloc: Global,
+    locale: &'a str,
+    rule_type: PluralRuleType,
+    word: &str,
+) -> Result<Query<'a>, RunError>
+    ensures query { GivesQuery (Some (category locale.now rule_type word.now)) result }
+    ensures memory { (result ≡ Err RunError.Memory) → TakesMemory word.now }
+{
+    match number(alloc, word) {
+        Ok(number) => Ok(Query::Document(Lookup::Category(locale, rule_type, number))),
+        Err(fault) => Err(fault),
+    }
+}
+
+// The query of the command `range`.
+fn range_query<'a>(
+    alloc: Global,
+    locale: &'a str,
+    rule_type: PluralRuleType,
+    start_word: &str,
+    end_word: &str,
+) -> Result<Query<'a>, RunError>
+    ensures query { GivesQuery (Some (range locale.now rule_type start_word.now end_word.now)) result }
+    ensures memory { (result ≡ Err RunError.Memory)
+        → ReadingTakesMemory (Some (range locale.now rule_type start_word.now end_word.now)) }
+{
+    let start = number(alloc, start_word)?;
+    let end = number(alloc, end_word)?;
+    Ok(Query::Document(Lookup::Range(locale, rule_type, start, end)))
+}
+
+// The query of the command `select`.
+fn select_query<'a>(
+    alloc: Global,
+    locale: &'a str,
+    rule_type: PluralRuleType,
+    word: &str,
+) -> Result<Query<'a>, RunError>
+    ensures query { GivesQuery (Some (select locale.now rule_type word.now)) result }
+    ensures memory { (result ≡ Err RunError.Memory) → TakesMemory word.now }
+{
+    match number(alloc, word) {
+        Ok(number) => Ok(Query::Document(Lookup::Select(locale, rule_type, number))),
+        Err(fault) => Err(fault),
+    }
+}
+
+// The query of the command `message`.
+fn message_query<'a>(
+    alloc: Global,
+    locale: &'a str,
+    rule_type: PluralRuleType,
+    word: &'a str,
+) -> Result<Query<'a>, RunError>
+    ensures query { GivesQuery (Some (message locale.now rule_type word.now)) result }
+    ensures memory { (result ≡ Err RunError.Memory) → TakesMemory word.now }
+{
+    match number(alloc, word) {
+        Ok(number) => Ok(Query::Document(Lookup::Message(locale, rule_type, number, word))),
+        Err(fault) => Err(fault),
     }
 }

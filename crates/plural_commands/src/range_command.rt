@@ -28,5 +28,7 @@ pub(crate) fn range_line(
     let rules = ranged.rules();
     let start = rules.category_for_compact(start);
     let end = rules.category_for_compact(end);
-    Ok(CowStr::Borrowed(line_of(ranged.resolve_range(start, end))))
+    let range = ranged.resolve_range(start, end);
+    drop(ranged);
+    Ok(CowStr::Borrowed(line_of(range)))
 }

@@ -61,12 +61,29 @@ pub fn run<R: Read, W: Write>(
     ensures memory { (result ≡ Err RunError.Memory) → MayRunOut (map (λ w. w.now) words.now) }
 {
     let query = query_of(alloc, words)?;
-    let text = answer(alloc, &query, reader)?;
-    drop(query);
+    let text = answer_of(alloc, query, reader)?;
     match write_output(writer, text.as_str().as_bytes()) {
         Ok(()) => Ok(()),
         Err(_) => Err(RunError::Write),
     }
+}
+
+// The answer to a query, which is dropped.
+fn answer_of<R: Read>(
+    alloc: Global,
+    query: Query<'_>,
+    reader: &mut R,
+) -> Result<CowStr<'static>, RunError>
+    ensures answers { (input : List ℕ) × IsInput (R.remaining reader.old) input
+        × GivesTextAfterReading (AnswersQuery (query_view query.entry) input) result }
+    ensures reads { IsOfDocument (query_view query.entry) → IsRead run_origin (R.remaining reader.old) (R.remaining reader.new) result }
+    ensures reads_nothing { ¬ (IsOfDocument (query_view query.entry)) → (reader.new ≡ reader.old) × IsNotRead result }
+    ensures not_usage { result ≢ Err RunError.Usage }
+    ensures memory { (result ≡ Err RunError.Memory) → IsOfDocument (query_view query.entry) }
+{
+    let answer = answer(alloc, &query, reader);
+    drop(query);
+    answer
 }
 
 // The answer to a query. A truth value needs no input.

@@ -32,5 +32,7 @@ pub(crate) fn element_line(
     let given = elements_for(alloc, document, locale, rule_type)?;
     let operands = PluralOperands::from(number);
     let text = given.elements.get(operands, &given.rules);
-    line(alloc, text)
+    let answer = line(alloc, text);
+    drop(given);
+    answer
 }

@@ -10,5 +10,5 @@ pub returns : goal.returns
 returns c held is_held =
     let lookup = lookup_view c.args.lookup.now in
     let given = c.in_ok-document.ensures held is_held in
-    value_answer cow_str_bytes (AnswersLookup lookup) (document_of_value held) given.0 c.text_of.result given.1
-    (answer_mapped (AnswersLookup lookup (document_view c.in_ok-document.document)) (AnswersLookup lookup given.0) given.2 c.text_of.result c.text_of.ensures)
+    value_answer cow_str_bytes (AnswersLookup lookup) (document_of_value held) given.0 c.text_of-answer.result given.1
+    (answer_mapped (AnswersLookup lookup (document_view c.in_ok-document.document)) (AnswersLookup lookup given.0) given.2 c.text_of-answer.result c.text_of-answer.ensures)

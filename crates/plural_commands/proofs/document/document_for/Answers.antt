@@ -10,11 +10,11 @@ returns-in_err-maps c held is_held =
     rw (handed_on c.from_residual.result c.in_err-maps.field-0.0 (err_from_is_err_and c.from_residual.result c.from_residual.ensures.1))
     (document_refused held c.locale.result.now c.in_err-maps.field-0.0 (c.in_err-maps.ensures held is_held))
 
-pub returns : goal.returns
-returns c held is_held =
+pub returns-in-Ok : goal.returns-in-Ok
+returns-in-Ok c held is_held =
     let there = maps_there held c.locale.result.now (document_of_json held) _ (c.in_ok-maps.ensures held is_held) in (
       record { value = held; maps = there.0 },
       document_there held there.0 there.1,
-      serves (lookup_view c.args.lookup.now) held there.0 (document_view (record { value = c.in_ok-value.value; maps = c.in_ok-maps.maps }))
-          (rw (← c.locale.ensures) there.2) (c.in_ok-value.ensures held is_held),
+      serves (lookup_view c.args.lookup.now) held there.0 (document_view (record { value = c.in-Ok.value; maps = c.in_ok-maps.maps }))
+          (rw (← c.locale.ensures) there.2) (c.in-Ok.ensures held is_held),
     )

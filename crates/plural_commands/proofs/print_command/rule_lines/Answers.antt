@@ -1,4 +1,9 @@
+use Rattle.std.proofs.Common.{Result, subst, sym}
 use Rattle.std.proofs.lemmas.Result.{err_from_is_err_and}
+use Rattle.icu_plurals.specs.FiveRules.{FiveRules}
+use Rattle.plural_commands.specs.Answer.{AnswersFrom}
+use Rattle.plural_commands.specs.Inner.CallAnswers.{GivesText}
+use Rattle.plural_commands.specs.declared.error.RunError.{RunError}
 use Rattle.plural_commands.specs.Input.{rules_for}
 use Rattle.plural_commands.specs.Inner.PrivateViews.{document_view}
 use Rattle.plural_commands.specs.Lines.{AreRuleLines}
@@ -10,3 +15,8 @@ returns-in_err-rules c =
     nothing_given AreRuleLines (rules_for c.args.rule_type c.args.locale.now (document_view c.args.document.now))
     c.in_err-rules.field-0.0 c.from_residual.result
     (handed_on _ _ (err_from_is_err_and c.from_residual.result c.from_residual.ensures.1)) c.in_err-rules.ensures
+
+pub returns : goal.returns
+returns c =
+    subst (λ (rules : Result FiveRules RunError). GivesText (AnswersFrom AreRuleLines rules) c.answer_of-lines.result)
+    (sym c.in_ok-rules.ensures) c.answer_of-lines.ensures

@@ -26,7 +26,7 @@ returns c =
     c.in_ok-ranged.ensures (
       start.result,
       end.result,
-      c.line_of.ensures ∙ ap (λ (category : PluralCategory). line (name_of category)) c.resolve_range.ensures,
+      c.line_of.ensures ∙ ap (λ (category : PluralCategory). line (name_of category)) c.resolve_range-range.ensures,
       subst (λ (rules : FiveRules). HasCategory rules c.args.start.now start.result) c.rules-rules.ensures
           (start.ensures.kept, start.ensures.exact),
       subst (λ (rules : FiveRules). HasCategory rules c.args.end.now end.result) c.rules-rules.ensures
