@@ -188,7 +188,19 @@ enum plurals_fault {
     PLURALS_CATALOG_LENGTH = -141, /* the last block doesn't end where the catalogue ends */
     PLURALS_CATALOG_END = -142,    /* a key or a block ends before it begins */
     PLURALS_CATALOG_ORDER = -143,  /* a key isn't above the key before it */
-    PLURALS_NO_KEY = -144          /* no message has the key */
+    PLURALS_NO_KEY = -144,         /* no message has the key */
+
+    /* of a document of messages that is packed; a value of another kind is PLURALS_DOCUMENT_SHAPE, and a pattern has the faults
+       above */
+    PLURALS_MESSAGES_NO_LOCALE = -150,       /* it isn't an object, or has no locale */
+    PLURALS_MESSAGES_SEVERAL_LOCALES = -151, /* it has several locales, and none is named */
+    PLURALS_MESSAGES_ABSENT_LOCALE = -152,   /* it hasn't the locale */
+    PLURALS_MESSAGES_CARDINAL_FORMS = -153,  /* the locale has messages of cardinal numbers as forms, which aren't packed */
+    PLURALS_MESSAGES_ORDINAL_FORMS = -154,   /* the same of ordinal numbers */
+    PLURALS_MESSAGES_NO_PATTERNS = -155,     /* the locale has no patterns */
+    PLURALS_ENTRIES_TOO_MANY = -160,         /* there are more than 4294967295 messages */
+    PLURALS_ENTRIES_ORDER = -161,            /* a key isn't above the key before it; no JSON has this fault */
+    PLURALS_ENTRIES_TOO_LONG = -162          /* keys and blocks have more than 4294967295 bytes together */
 };
 
 /* What an argument of a pattern is. */
@@ -354,6 +366,13 @@ int32_t plurals_pattern_check(const uint8_t *block, size_t block_len);
 int64_t plurals_packed_format(const uint8_t *cardinal, size_t cardinal_len, const uint8_t *ordinal, size_t ordinal_len,
                               const uint8_t *block, size_t block_len, const struct plurals_argument *arguments,
                               size_t arguments_len, char *out, size_t out_len);
+
+/* Writes the catalogue of the patterns that a JSON document of messages (docs/TRANSLATORS.md) has for a locale, as plural_forms pack
+ * does. The locale is compared byte by byte; one of length 0 is the document's only one. Faults, in the order in which they are looked
+ * for: the locale's text isn't UTF-8; the text isn't JSON; from PLURALS_MESSAGES_NO_LOCALE to PLURALS_MESSAGES_NO_PATTERNS, in this
+ * order; PLURALS_DOCUMENT_SHAPE, where the patterns are no object, or one isn't a text; that of the first pattern by its key, as of
+ * plurals_pattern_pack; from PLURALS_ENTRIES_TOO_MANY on. Allocates in proportion to the document and the catalogue. */
+int64_t plurals_catalog_pack(const char *json, size_t json_len, const char *locale, size_t locale_len, uint8_t *out, size_t out_len);
 
 /* Returns 0 if the bytes are a catalogue of messages (docs/FORMATS.md), else their fault, which is from PLURALS_CATALOG_HEADER
  * to PLURALS_CATALOG_ORDER, or that of the first block that isn't one of a pattern. Takes time in proportion to the catalogue.

@@ -506,6 +506,15 @@ private:
 /* A catalogue of messages (docs/FORMATS.md). The bytes stay the caller's, and live as long as it. */
 class Catalog {
 public:
+    /* Returns the bytes of the catalogue of the patterns that a JSON document of messages has for a locale, which is compared byte by
+     * byte, or without one, for its only locale. */
+    static Result<Bytes> pack(std::string_view json, std::string_view locale = {}) noexcept {
+        return Bytes::written([&](std::uint8_t *out, std::size_t room) {
+            return plurals_catalog_pack(json.data(), json.size(), locale.data(), locale.size(), out, room);
+        });
+    }
+
+    /* The catalogue of bytes that are one. */
     static Result<Catalog> from_bytes(std::string_view bytes) noexcept {
         std::int32_t found = plurals_catalog_check(reinterpret_cast<const std::uint8_t *>(bytes.data()), bytes.size());
         if (found < 0) return Fault(found);

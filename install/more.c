@@ -105,6 +105,16 @@ const char *plurals_fault_text(int64_t fault) {
     case PLURALS_CATALOG_END: return "the catalogue: a key or a block has a wrong end";
     case PLURALS_CATALOG_ORDER: return "the catalogue: a key is out of order";
     case PLURALS_NO_KEY: return "no message has the key";
+
+    case PLURALS_MESSAGES_NO_LOCALE: return "the document of messages has no locale";
+    case PLURALS_MESSAGES_SEVERAL_LOCALES: return "the document has messages of several locales, and none is named";
+    case PLURALS_MESSAGES_ABSENT_LOCALE: return "the document has no messages for the locale";
+    case PLURALS_MESSAGES_CARDINAL_FORMS: return "the locale has cardinal messages as forms, which aren't packed";
+    case PLURALS_MESSAGES_ORDINAL_FORMS: return "the locale has ordinal messages as forms, which aren't packed";
+    case PLURALS_MESSAGES_NO_PATTERNS: return "the locale has no patterns";
+    case PLURALS_ENTRIES_TOO_MANY: return "the catalogue has too many messages";
+    case PLURALS_ENTRIES_ORDER: return "the catalogue: a key isn't above the one before";
+    case PLURALS_ENTRIES_TOO_LONG: return "the catalogue is too long";
     default: return NULL;
     }
 }

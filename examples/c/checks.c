@@ -112,6 +112,34 @@ static void catalogs(void) {
     }
 }
 
+/* The catalogue of a document, which is as above, and says what its patterns do. */
+static void packed_catalogs(void) {
+    const char *json = "{\"en\":{\"cardinal\":{},\"patterns\":{\"hi\":\"hello\",\"n\":\"{n, plural, one {# file} other {# files}}\"}},\"ru\":{}}";
+    const char *one = "{\"en\":{\"patterns\":{\"hi\":\"hello\"}}}";
+    struct plurals_argument n = {"n", 1, "1", 1, PLURALS_NUMBER};
+    size_t json_len = strlen(json);
+    uint8_t catalog[256], rules[64];
+    char out[8];
+    int64_t rules_len = plurals_rules_from_texts(NULL, 0, "i = 1 and v = 0", 15, NULL, 0, NULL, 0, NULL, 0, rules, sizeof rules);
+    int64_t length = plurals_catalog_pack(json, json_len, "en", 2, NULL, 0);
+    CHECK(length > 0 && length <= (int64_t)sizeof catalog);
+    CHECK(plurals_catalog_pack(json, json_len, "en", 2, catalog, sizeof catalog) == length && plurals_catalog_check(catalog, (size_t)length) == 0);
+    CHECK(plurals_catalog_say(rules, (size_t)rules_len, NULL, 0, catalog, (size_t)length, "n", 1, &n, 1, out, sizeof out) == 6 && !memcmp(out, "1 file", 6));
+    memset(catalog, 77, sizeof catalog);
+    CHECK(plurals_catalog_pack(one, strlen(one), NULL, 0, catalog, 22) == 23 && catalog[0] == 77);
+    CHECK(plurals_catalog_pack(one, strlen(one), NULL, 0, catalog, 23) == 23 && !memcmp(catalog, "\1\0\0\0\2\0\0\0\13\0\0\0hi\1\0\0\0hello", 23));
+    CHECK(plurals_catalog_pack(NULL, 0, NULL, 0, NULL, 0) == PLURALS_JSON);
+    CHECK(plurals_catalog_pack(NULL, 0, "\xff", 1, NULL, 0) == PLURALS_UTF8);
+    CHECK(plurals_catalog_pack("{}", 2, NULL, 0, NULL, 0) == PLURALS_MESSAGES_NO_LOCALE);
+    CHECK(plurals_catalog_pack(json, json_len, NULL, 0, NULL, 0) == PLURALS_MESSAGES_SEVERAL_LOCALES);
+    CHECK(plurals_catalog_pack(json, json_len, "de", 2, NULL, 0) == PLURALS_MESSAGES_ABSENT_LOCALE);
+    CHECK(plurals_catalog_pack(json, json_len, "ru", 2, NULL, 0) == PLURALS_MESSAGES_NO_PATTERNS);
+    CHECK(plurals_catalog_pack("{\"en\":{\"cardinal\":5}}", 23, NULL, 0, NULL, 0) == PLURALS_MESSAGES_CARDINAL_FORMS);
+    CHECK(plurals_catalog_pack("{\"en\":{\"ordinal\":5}}", 22, NULL, 0, NULL, 0) == PLURALS_MESSAGES_ORDINAL_FORMS);
+    CHECK(plurals_catalog_pack("{\"en\":{\"patterns\":5}}", 23, NULL, 0, NULL, 0) == PLURALS_DOCUMENT_SHAPE);
+    CHECK(plurals_catalog_pack("{\"en\":{\"patterns\":{\"a\":\"{\"}}}", 31, NULL, 0, NULL, 0) == PLURALS_PATTERN_UNCLOSED);
+}
+
 static void pattern_of_the_page(void) {
     uint8_t cardinal[64], *ordinal = NULL;
     size_t ordinal_len = 0;
@@ -285,6 +313,7 @@ int main(void) {
     patterns();
     packed_patterns();
     catalogs();
+    packed_catalogs();
     pattern_of_the_page();
     operands();
     tables();

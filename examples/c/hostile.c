@@ -72,7 +72,7 @@ struct text {
     size_t length;
 };
 
-enum kind { RULES, ELEMENTS, NUMBER, PATTERN, PACKED, CATALOG, MESSAGE_KEY, NAME, VALUE, DIGITS, RULE, DOCUMENT, ELEMENTS_JSON, KEYS, LOCALE, CHAINED, TEXT_OF_ELEMENT, TEXT_OF_RULE, TABLE,
+enum kind { RULES, ELEMENTS, NUMBER, PATTERN, PACKED, CATALOG, MESSAGE_KEY, NAME, VALUE, DIGITS, RULE, DOCUMENT, ELEMENTS_JSON, KEYS, LOCALE, CHAINED, TEXT_OF_ELEMENT, TEXT_OF_RULE, MESSAGES, NAMED, TABLE,
             KINDS };
 
 /* Of each kind the good ones, which mistakes are made in. */
@@ -97,6 +97,8 @@ static const char *const alphabets[KINDS] = {
     [CHAINED] = "aenrtoUPL-_",
     [TEXT_OF_ELEMENT] = "{} item\xc3\xa9",
     [TEXT_OF_RULE] = "nivwftce%=!,.~@ 0123456789andorinteger",
+    [MESSAGES] = "{}[]:,\"'#=nsk01enpatternscardinlot ",
+    [NAMED] = "enruEN",
 };
 
 static void add(enum kind kind, const void *bytes, size_t length) {
@@ -214,6 +216,11 @@ static void fill_pools(void) {
     add_text(KEYS, "{}");
     add_text(KEYS, "{\"cardinal\":{\"en\":{},\"pt-PT\":{},\"root\":{}},\"ordinal\":{\"root\":{}},\"parents\":{\"pt-AO\":\"pt-PT\",\"sr-Latn\":\"root\"}}");
     add_text(KEYS, "{\"ranges\":{\"PT\":5,\"en_US\":1.5},\"cardinal\":{\"EN\":0,\"en\":0},\"parents\":{\"en\":\"pt\",\"pt\":\"en\"}}");
+    add_text(MESSAGES, "{\"en\":{\"patterns\":{\"k\":\"{n, plural, one {# file} other {# files}}\",\"a\":\"\"}}}");
+    add_text(MESSAGES, "{\"en\":{\"cardinal\":{},\"patterns\":{\"b\":\"{\",\"a\":5}},\"ru\":{\"cardinal\":{\"k\":{}}}}");
+    add_text(MESSAGES, "{\"en\":{\"ordinal\":[],\"patterns\":{}},\"\":{\"patterns\":[1.5]}}");
+    add_text(NAMED, "en");
+    add_text(NAMED, "");
     add_text(LOCALE, "en");
     add_text(LOCALE, "ru");
     add_text(CHAINED, "pt_AO");
@@ -388,6 +395,23 @@ static void good_catalog(struct text *text) {
     catalog_of(text, chosen, blocks, count);
 }
 
+/* A document of messages, most of which are patterns. */
+static void good_messages(struct text *text) {
+    append(text, "{");
+    for (bool is_first = true; below(3) || is_first; is_first = false) {
+        append(text, is_first ? "\"" : ",\""), append(text, ONE_OF("en", "en", "ru", "", "z")), append(text, "\":{");
+        if (below(4) == 0) append(text, ONE_OF("\"cardinal\":{},", "\"cardinal\":{\"k\":{}},", "\"ordinal\":5,", "\"ordinal\":{},", "\"source\":1.5,"));
+        append(text, ONE_OF("\"patterns\":{", "\"patterns\":{", "\"pattern\":{"));
+        for (bool is_first_key = true; below(3); is_first_key = false) {
+            append(text, is_first_key ? "\"" : ",\""), append(text, ONE_OF("k", "a", "aa", "", "\\u00e9", "b")), append(text, "\":");
+            if (below(8)) append(text, "\""), good_pattern(text, 2), append(text, "\"");
+            else append(text, ONE_OF("null", "5", "{\"one\":\"x\"}"));
+        }
+        append(text, "}}");
+    }
+    append(text, "}");
+}
+
 /* Makes the input good, if there is a way for its kind. */
 static void make_good(enum kind kind, struct text *text) {
     static uint8_t block[MODEL_BYTES];
@@ -407,6 +431,8 @@ static void make_good(enum kind kind, struct text *text) {
     if (kind == TABLE) good_table(text);
     if (kind == KEYS) good_keys(text);
     if (kind == LOCALE) append(text, ONE_OF("en", "ru", "z", ""));
+    if (kind == NAMED) append(text, ONE_OF("en", "ru", ""));
+    if (kind == MESSAGES) good_messages(text);
     if (kind == CHAINED) append(text, any_locale());
     while (kind == CHAINED && below(2)) append(text, ONE_OF("-x", "_US", "-us", "_Latn"));
     if (kind == TEXT_OF_ELEMENT) append(text, ONE_OF("{} items", "{} item", "", "{}{}", "\xc3\xa9"));
@@ -587,6 +613,7 @@ static int64_t packed_format(const struct slice *s, uint8_t *out, size_t room) {
     return plurals_packed_format(BLOCK(0), BLOCK(1), BLOCK(2), arguments_of(s), arguments_len, (char *)out, room);
 }
 
+static int64_t catalog_pack(const struct slice *s, uint8_t *out, size_t room) { return plurals_catalog_pack(TEXT(0), TEXT(1), out, room); }
 static int64_t catalog_check(const struct slice *s, uint8_t *out, size_t room) {
     (void)out, (void)room;
     return plurals_catalog_check(BLOCK(0));
@@ -634,6 +661,7 @@ static int64_t model_of_packed(const struct slice *s, uint8_t *out) {
     return model_packed_format(s[0], s[1], s[2], arguments_of(s), arguments_len, out);
 }
 
+static int64_t model_of_catalog_pack(const struct slice *s, uint8_t *out) { return model_catalog_pack(s[0], s[1], out); }
 static int64_t model_of_catalog_check(const struct slice *s, uint8_t *out) { return (void)out, model_catalog_check(s[0]); }
 static int64_t model_of_catalog(const struct slice *s, uint8_t *out) {
     return model_catalog_say(s[0], s[1], s[2], s[7], arguments_of(s), arguments_len, out);
@@ -642,7 +670,7 @@ static int64_t model_of_catalog(const struct slice *s, uint8_t *out) {
 /* Groups of faults, as bits. */
 enum { OF_MEMORY = 1, OF_UTF8 = 2, OF_TYPE = 4, OF_NUMBER = 8, OF_TEXT = 16, OF_RULES = 32, OF_PACKED_RULES = 64, OF_ELEMENTS = 128,
        OF_PACKED_ELEMENTS = 256, OF_JSON = 512, OF_DOCUMENT = 1024, OF_BOUND = 2048, OF_TABLE = 4096, OF_PATTERN = 8192, OF_ARGUMENT = 16384, OF_KEY = 32768,
-       OF_PACKED = 65536, OF_PACKING = 131072, OF_CATALOG = 262144, OF_NO_KEY = 524288 };
+       OF_PACKED = 65536, OF_PACKING = 131072, OF_CATALOG = 262144, OF_NO_KEY = 524288, OF_MESSAGES = 1048576, OF_ENTRIES = 2097152 };
 
 static const struct export {
     const char *name;
@@ -688,6 +716,8 @@ static const struct export {
     {"plurals_pattern_check", pattern_check, model_of_pattern_check, 0, OF_PACKED, 1, {PACKED}},
     {"plurals_packed_format", packed_format, model_of_packed, -1, OF_MEMORY | OF_UTF8 | OF_RULES | OF_PACKED | OF_ARGUMENT, 7,
      {RULES, RULES, PACKED, NAME, VALUE, NAME, VALUE}},
+    {"plurals_catalog_pack", catalog_pack, model_of_catalog_pack, -1, OF_MEMORY | OF_UTF8 | OF_PATTERN | OF_PACKING | OF_MESSAGES | OF_ENTRIES, 2,
+     {MESSAGES, NAMED}},
     {"plurals_catalog_check", catalog_check, model_of_catalog_check, 0, OF_PACKED | OF_CATALOG, 1, {CATALOG}},
     {"plurals_catalog_say", catalog_say, model_of_catalog, -1, OF_MEMORY | OF_UTF8 | OF_RULES | OF_PACKED | OF_ARGUMENT | OF_NO_KEY, 8,
      {RULES, RULES, CATALOG, NAME, VALUE, NAME, VALUE, MESSAGE_KEY}},
@@ -743,9 +773,9 @@ static struct fault {
     FAULT(PLURALS_ELEMENTS_ITEM_TEXT, OF_ELEMENTS),
     FAULT(PLURALS_ELEMENTS_DEFAULT_LIMIT, OF_PACKED_ELEMENTS),
     FAULT(PLURALS_ELEMENTS_START_LIMIT, OF_PACKED_ELEMENTS),
-    FAULT(PLURALS_JSON, OF_JSON | OF_KEY),
+    FAULT(PLURALS_JSON, OF_JSON | OF_KEY | OF_MESSAGES),
     FAULT(PLURALS_DOCUMENT_FLOAT, OF_JSON),
-    FAULT(PLURALS_DOCUMENT_SHAPE, OF_JSON),
+    FAULT(PLURALS_DOCUMENT_SHAPE, OF_JSON | OF_MESSAGES),
     FAULT(PLURALS_DOCUMENT_RANGE_KEY, OF_DOCUMENT),
     FAULT(PLURALS_DOCUMENT_RANGE_VALUE, OF_DOCUMENT),
     FAULT(PLURALS_LOCALE, OF_DOCUMENT | OF_KEY),
@@ -784,6 +814,15 @@ static struct fault {
     FAULT(PLURALS_CATALOG_END, OF_CATALOG),
     FAULT(PLURALS_CATALOG_ORDER, OF_CATALOG),
     FAULT(PLURALS_NO_KEY, OF_NO_KEY),
+    FAULT(PLURALS_MESSAGES_NO_LOCALE, OF_MESSAGES),
+    FAULT(PLURALS_MESSAGES_SEVERAL_LOCALES, OF_MESSAGES),
+    FAULT(PLURALS_MESSAGES_ABSENT_LOCALE, OF_MESSAGES),
+    FAULT(PLURALS_MESSAGES_CARDINAL_FORMS, OF_MESSAGES),
+    FAULT(PLURALS_MESSAGES_ORDINAL_FORMS, OF_MESSAGES),
+    FAULT(PLURALS_MESSAGES_NO_PATTERNS, OF_MESSAGES),
+    FAULT(PLURALS_ENTRIES_TOO_MANY, OF_ENTRIES),
+    FAULT(PLURALS_ENTRIES_ORDER, OF_ENTRIES),
+    FAULT(PLURALS_ENTRIES_TOO_LONG, OF_ENTRIES),
 };
 enum { FAULTS = sizeof faults / sizeof *faults };
 
@@ -966,6 +1005,8 @@ static const struct slice good[KINDS] = {
     [CHAINED] = BYTES("en_US"),
     [TEXT_OF_ELEMENT] = BYTES("{} items"),
     [TEXT_OF_RULE] = BYTES("i = 1 and v = 0"),
+    [MESSAGES] = BYTES("{\"en\":{\"patterns\":{\"k\":\"hello\"}}}"),
+    [NAMED] = BYTES("en"),
     [TABLE] = BYTES(ONES "\1\1\1\1\1\1\1\1"),
 };
 
@@ -1025,6 +1066,13 @@ static const struct bad {
     {KEYS, BYTES("{\"cardinal\":{\"en-US-x\":{},\"us\":{}}}"), -75}, {KEYS, BYTES("{\"cardinal\":{\"de\":{}},\"parents\":{\"en\":\"fr\",\"fr\":\"en\"}}"), -75},
     {CHAINED, BYTES("\xff"), -2}, {CHAINED, BYTES("en\xc3"), -2}, {CHAINED, BYTES("xx"), -75}, {CHAINED, BYTES("e"), -75}, {CHAINED, BYTES(""), -75},
     {CHAINED, BYTES("fr-en"), -75}, {LOCALE, BYTES("\xff"), -2}, {LOCALE, BYTES("e"), -75}, {LOCALE, BYTES("EN"), -75}, {LOCALE, BYTES(""), -75},
+    {MESSAGES, BYTES(""), -70}, {MESSAGES, BYTES("{"), -70}, {MESSAGES, BYTES("{} {}"), -70}, {MESSAGES, BYTES("{\"en\":1e999}"), -70},
+    {MESSAGES, BYTES("5"), -150}, {MESSAGES, BYTES("[\"en\"]"), -150}, {MESSAGES, BYTES("{}"), -152}, {MESSAGES, BYTES("{\"\":{}}"), -152},
+    {MESSAGES, BYTES("{\"en\":{\"cardinal\":{\"k\":0},\"ordinal\":5}}"), -153}, {MESSAGES, BYTES("{\"en\":{\"cardinal\":1.5}}"), -153},
+    {MESSAGES, BYTES("{\"en\":{\"cardinal\":{},\"ordinal\":null,\"patterns\":5}}"), -154}, {MESSAGES, BYTES("{\"en\":{}}"), -155},
+    {MESSAGES, BYTES("{\"en\":\"patterns\"}"), -155}, {MESSAGES, BYTES("{\"en\":{\"patterns\":{},\"patterns\":[]}}"), -72},
+    {MESSAGES, BYTES("{\"en\":{\"patterns\":{\"b\":5,\"a\":\"{\"}}}"), -72}, {MESSAGES, BYTES("{\"en\":{\"patterns\":{\"b\":\"{\",\"a\":\"{}\"}}}"), -91},
+    {NAMED, BYTES("\xff"), -2}, {NAMED, BYTES("en\xc3"), -2}, {NAMED, BYTES("e"), -152}, {NAMED, BYTES("EN"), -152}, {NAMED, BYTES("en-US"), -152},
     {TABLE, BYTES(""), -80}, {TABLE, BYTES("\1"), -80}, {TABLE, BYTES(ONES "\1\1\1\1\1\1\1"), -80},
     {TABLE, BYTES(ONES "\1\1\1\1\1\1\1\1\1"), -80}, {TEXT_OF_ELEMENT, BYTES("\xff"), -2}, {TEXT_OF_ELEMENT, BYTES("x\xe2\x82"), -2},
     {ELEMENTS_JSON, BYTES(""), -70}, {ELEMENTS_JSON, BYTES("{\"other\":[0,\"x\"],}"), -70}, {ELEMENTS_JSON, BYTES("{\"other\":[0.5,\"x\"]}"), -71},
@@ -1053,7 +1101,9 @@ static void try_faults(void) {
                     set_slice(k + 1, bad[other].bytes);
                     bool is_late = bad[other].fault == PLURALS_UTF8 && bad[b].fault != PLURALS_UTF8 && export->kinds[k] >= RULE
                         && export->kinds[k] != TABLE;
-                    bool is_second = is_late || bad[other].kind == MESSAGE_KEY;
+                    bool is_absent = bad[other].fault == PLURALS_MESSAGES_ABSENT_LOCALE && bad[b].fault != PLURALS_JSON
+                        && bad[b].fault != PLURALS_MESSAGES_NO_LOCALE;
+                    bool is_second = is_late || is_absent || bad[other].kind == MESSAGE_KEY;
                     run_by_hand(is_second ? bad[other].fault : bad[b].fault, NO_BYTES);
                 }
             }
@@ -1279,6 +1329,10 @@ static const struct {
     {"plurals_pattern_format", {ENGLISH, BYTES(""), BYTES("{n, selectordinal, one {#st} other {#th}}"), BYTES("n"), BYTES("1"), BYTES("s"), BYTES("")}, BYTES("1th")},
     {"plurals_pattern_format", {ENGLISH, BYTES(""), BYTES("{s, select, a {A#} other {B}}{s}"), BYTES("n"), BYTES(" "), BYTES("s"), BYTES("a")}, BYTES("A#a")},
     {"plurals_pattern_format", {ENGLISH, BYTES(""), BYTES("'{n}' I don''t }# '"), BYTES("n"), BYTES("1"), BYTES("s"), BYTES("")}, BYTES("{n} I don't }# '")},
+    {"plurals_catalog_pack", {BYTES("{\"en\":{\"patterns\":{}}}"), BYTES("en")}, BYTES("\0\0\0\0")},
+    {"plurals_catalog_pack", {BYTES("{\"en\":{\"patterns\":{\"hi\":\"hello\"}}}"), BYTES("")}, BYTES("\1\0\0\0\2\0\0\0\13\0\0\0hi\1\0\0\0hello")},
+    {"plurals_catalog_pack", {BYTES("{\"ru\":5,\"en\":{\"source\":1.5,\"cardinal\":{},\"patterns\":{\"hi\":\"\",\"hi\":\"h\\u00e9\",\"\":\"\"}}}"), BYTES("en")},
+     BYTES("\2\0\0\0\0\0\0\0\0\0\0\0\2\0\0\0\11\0\0\0hi\1\0\0\0h\xc3\xa9")},
     {"plurals_pattern_pack", {BYTES("hello")}, BYTES("\1\0\0\0hello")},
     {"plurals_pattern_pack", {BYTES("I don't")}, BYTES("\3\0\7\0\12\0\0\0I don\0\0'\0\0t")},
     {"plurals_pattern_pack", {BYTES("{s, select, other {'{'#}}")}, BYTES("\5\0\10\0\21\0\24\0\27\0\5\0\3\0\1\0\1s\6\0\2\0other\0\1{\0\1#\10\0")},
@@ -1361,6 +1415,21 @@ static void try_catalogs(void) {
     }
 }
 
+/* The catalogue of one pattern, whose faults are its own; and documents without a locale that is named. */
+static void try_packed_catalogs(void) {
+    static char document[256];
+    export = export_of("plurals_catalog_pack");
+    for (int b = 0; b < BAD; b++) {
+        if (bad[b].kind != PATTERN) continue;
+        snprintf(document, sizeof document, "{\"en\":{\"patterns\":{\"k\":\"%.*s\"}}}", (int)bad[b].bytes.length, (const char *)bad[b].bytes.at);
+        set_slice(0, slice_of(document)), set_slice(1, slice_of("en")), run_by_hand(bad[b].fault, NO_BYTES);
+    }
+    set_slice(1, NO_BYTES);
+    set_slice(0, slice_of("{}")), run_by_hand(PLURALS_MESSAGES_NO_LOCALE, NO_BYTES);
+    set_slice(0, slice_of("{\"en\":{\"cardinal\":5},\"\":{}}")), run_by_hand(PLURALS_MESSAGES_SEVERAL_LOCALES, NO_BYTES);
+    set_slice(0, slice_of("{\"en\":{\"cardinal\":5}}")), run_by_hand(PLURALS_MESSAGES_CARDINAL_FORMS, NO_BYTES);
+}
+
 static void try_arguments(void) {
     export = export_of("plurals_pattern_format");
     for (size_t row = 0; row < sizeof uses / sizeof *uses; row++) {
@@ -1440,6 +1509,8 @@ static void try_depth(int depth, int fault) {
     run_limit(fault ? fault : PLURALS_LOCALE);
     export = export_of("plurals_find_locale");
     run_limit(fault ? fault : PLURALS_LOCALE);
+    export = export_of("plurals_catalog_pack");
+    run_limit(fault ? fault : PLURALS_MESSAGES_ABSENT_LOCALE);
 }
 
 /* A pattern with the number n, where the front ends in so many of a piece. */
@@ -1472,6 +1543,11 @@ static void try_patterns(void) {
 static void try_pack(const char *front, const char *piece, int times, const char *end, int fault) {
     export = export_of("plurals_pattern_pack");
     set_slice(0, repeated(front, piece, times, end));
+    run_limit(fault);
+    export = export_of("plurals_catalog_pack");
+    char first[64], last[64];
+    snprintf(first, sizeof first, "{\"en\":{\"patterns\":{\"k\":\"%s", front), snprintf(last, sizeof last, "%s\"}}}", end);
+    set_slice(0, repeated(first, piece, times, last)), set_slice(1, slice_of("en"));
     run_limit(fault);
 }
 
@@ -1542,6 +1618,7 @@ int main(int count, char **words) {
     try_written();
     try_keys();
     try_catalogs();
+    try_packed_catalogs();
     try_arguments();
     try_limits();
     expect_each_fault();

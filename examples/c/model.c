@@ -1092,3 +1092,50 @@ int64_t model_elements_from_texts(const struct slice texts[8], uint8_t *out) {
     }
     return write_elements(0, other, out);
 }
+
+/* ---- docs/TRANSLATORS.md, docs/FORMATS.md: the catalogue of a document's patterns */
+
+/* Whether a locale has a part that is something else than an object without members. */
+static bool has_messages(int locale, const char *name) {
+    int messages = nodes[locale].kind == OBJECT ? find_text(locale, name) : -1;
+    return messages >= 0 && (nodes[messages].kind != OBJECT || next_member(messages, -1) >= 0);
+}
+
+/* Finds the patterns of a locale, and returns the fault, or 0. */
+static int find_patterns(struct slice locale, int *patterns) {
+    if (nodes[0].kind != OBJECT) return PLURALS_MESSAGES_NO_LOCALE;
+    int found = locale.length ? find(0, locale) : next_member(0, -1);
+    if (!locale.length && found < 0) return PLURALS_MESSAGES_NO_LOCALE;
+    if (!locale.length && next_member(0, found) >= 0) return PLURALS_MESSAGES_SEVERAL_LOCALES;
+    if (found < 0) return PLURALS_MESSAGES_ABSENT_LOCALE;
+    if (has_messages(found, "cardinal")) return PLURALS_MESSAGES_CARDINAL_FORMS;
+    if (has_messages(found, "ordinal")) return PLURALS_MESSAGES_ORDINAL_FORMS;
+    *patterns = nodes[found].kind == OBJECT ? find_text(found, "patterns") : -1;
+    return *patterns < 0 ? PLURALS_MESSAGES_NO_PATTERNS : 0;
+}
+
+static size_t put_four(uint8_t *out, size_t number) {
+    for (int k = 0; k < 4; k++) out[k] = (uint8_t)(number >> 8 * k);
+    return 4;
+}
+
+int64_t model_catalog_pack(struct slice json, struct slice locale, uint8_t *out) {
+    int patterns = -1, fault;
+    size_t count = 0, end = 0, at = 4;
+    if (!model_is_utf8(locale)) return PLURALS_UTF8;
+    if (read_json(json) == PLURALS_JSON) return PLURALS_JSON;
+    if ((fault = find_patterns(locale, &patterns))) return fault;
+    if (nodes[patterns].kind != OBJECT) return PLURALS_DOCUMENT_SHAPE;
+    for (int one = next_member(patterns, -1); one >= 0; one = next_member(patterns, one), count++)
+        if (nodes[one].kind != TEXT) return PLURALS_DOCUMENT_SHAPE;
+    uint8_t *data = out + put_four(out, count) + 8 * count;
+    for (int one = next_member(patterns, -1); one >= 0; one = next_member(patterns, one)) {
+        struct slice key = nodes[one].key;
+        if (key.length) memcpy(data + end, key.at, key.length);
+        at += put_four(out + at, end += key.length);
+        int64_t length = model_pattern_pack(nodes[one].text, data + end);
+        if (length < 0) return length;
+        at += put_four(out + at, end += (size_t)length);
+    }
+    return (int64_t)(at + end);
+}

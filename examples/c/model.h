@@ -42,6 +42,7 @@ int64_t model_pattern_pack(struct slice pattern, uint8_t *out);
 int64_t model_pattern_check(struct slice block);
 int64_t model_packed_format(struct slice cardinal, struct slice ordinal, struct slice block, const struct plurals_argument *arguments,
                             size_t count, uint8_t *out);
+int64_t model_catalog_pack(struct slice json, struct slice locale, uint8_t *out);
 int64_t model_catalog_check(struct slice catalog);
 /* What is returned if docs/ doesn't tell it: the bytes aren't a packed catalogue, or it isn't told what the block says. */
 #define MODEL_UNTOLD INT64_MAX

@@ -35,6 +35,7 @@ int64_t __real_plurals_message(const uint8_t *, size_t, const uint8_t *, size_t,
 int64_t __real_plurals_pattern_format(const uint8_t *, size_t, const uint8_t *, size_t, const char *, size_t, const struct plurals_argument *,
                                       size_t, char *, size_t);
 int64_t __real_plurals_pattern_pack(const char *, size_t, uint8_t *, size_t);
+int64_t __real_plurals_catalog_pack(const char *, size_t, const char *, size_t, uint8_t *, size_t);
 int32_t __real_plurals_catalog_check(const uint8_t *, size_t);
 int64_t __real_plurals_catalog_say(const uint8_t *, size_t, const uint8_t *, size_t, const uint8_t *, size_t, const char *, size_t,
                                    const struct plurals_argument *, size_t, char *, size_t);
@@ -257,6 +258,14 @@ int32_t __wrap_plurals_text_category_by_table(const uint8_t *table, size_t table
     int bug = planted();
     if (bug == 45 && text_len && text[0] == '-') text++, text_len--; /* a number below 0 is told as its absolute value */
     return __real_plurals_text_category_by_table(table, table_len, text, text_len);
+}
+
+int64_t __wrap_plurals_catalog_pack(const char *json, size_t json_len, const char *locale, size_t locale_len, uint8_t *out, size_t out_len) {
+    int bug = planted();
+    int64_t result = __real_plurals_catalog_pack(json, json_len, locale, locale_len, out, out_len);
+    if (bug == 49 && result == PLURALS_MESSAGES_ORDINAL_FORMS) return PLURALS_MESSAGES_CARDINAL_FORMS; /* two faults have one number */
+    if (bug == 50 && result > 8 && result <= (int64_t)out_len) out[0]--; /* a message is left out of the count */
+    return result;
 }
 
 int32_t __wrap_plurals_catalog_check(const uint8_t *catalog, size_t catalog_len) {

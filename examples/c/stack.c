@@ -65,6 +65,7 @@ static void packed_format(void) {
 
 static uint8_t catalog[2 * LONG];
 static size_t catalog_len;
+static void catalog_pack(void) { result = plurals_catalog_pack(text, text_len, "", 0, out, LONG); }
 static void catalog_check(void) { result = plurals_catalog_check(catalog, catalog_len); }
 static void catalog_say(void) {
     struct plurals_argument argument = {"n", 1, number, number_len, PLURALS_NUMBER};
@@ -86,13 +87,13 @@ static const struct export {
     {"plurals_sure_category", sure_category, false},      {"plurals_is_read_whole", is_read_whole, false},
     {"plurals_table_of_rules", table_of_rules, false},    {"plurals_category_by_table", category_by_table, false},
     {"plurals_categories_of_integers", categories_of_integers, false}, {"plurals_find_locale", find_locale, true},
-    {"plurals_text_category_by_table", text_category_by_table, false},
+    {"plurals_text_category_by_table", text_category_by_table, false}, {"plurals_catalog_pack", catalog_pack, true},
     {"plurals_pattern_check", pattern_check, false},      {"plurals_pattern_pack", pattern_pack, true},
     {"plurals_pattern_format", pattern_format, true},     {"plurals_packed_format", packed_format, true},
     {"plurals_catalog_check", catalog_check, false},      {"plurals_catalog_say", catalog_say, true},
 };
-/* Those of patterns stand at the end. */
-enum { EXPORTS = sizeof exports / sizeof *exports, PATTERNS = EXPORTS - 6 };
+/* Those of patterns stand at the end, that of a document of patterns before them. */
+enum { EXPORTS = sizeof exports / sizeof *exports, PATTERNS = EXPORTS - 6, DOCUMENT = PATTERNS - 1 };
 
 /* ---- a call on a thread with so much stack left */
 
@@ -210,6 +211,11 @@ static void try_patterns(void) {
             for (size_t export = PATTERNS; export < EXPORTS; export++) try_export(&exports[export]);
             repeat(number, &number_len, "-", "9", 32766, ".5");
             for (size_t export = PATTERNS; export < EXPORTS; export++) try_export(&exports[export]);
+            char document[64] = "{\"en\":{\"patterns\":{\"k\":\"";
+            memmove(text + strlen(document), text, text_len), memcpy(text, document, strlen(document));
+            text_len += strlen(document);
+            text_len += (size_t)sprintf(text + text_len, "\"}}}");
+            try_export(&exports[DOCUMENT]);
         }
 }
 

@@ -257,6 +257,11 @@ static void catalogs() {
     CHECK(catalog->say("ho", {}, *rules, *rules).fault().number() == PLURALS_NO_KEY);
     CHECK(Catalog::from_bytes(bytes.substr(1)).fault().number() == PLURALS_CATALOG_HEADER);
     CHECK(Catalog::from_bytes({}).fault().number() == PLURALS_CATALOG_HEADER);
+    const std::string_view json = "{\"en\":{\"patterns\":{\"hi\":\"hello\"}},\"ru\":{\"cardinal\":5}}";
+    CHECK(Catalog::pack(json, "en")->view() == bytes && Catalog::pack("{\"\":{\"patterns\":{\"hi\":\"hello\"}}}")->view() == bytes);
+    CHECK(Catalog::pack(json).fault().number() == PLURALS_MESSAGES_SEVERAL_LOCALES);
+    CHECK(Catalog::pack(json, "en-US").fault().number() == PLURALS_MESSAGES_ABSENT_LOCALE);
+    CHECK(Catalog::pack(json, "ru").fault().text() == "the locale has cardinal messages as forms, which aren't packed");
 }
 
 int main() {

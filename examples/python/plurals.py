@@ -111,6 +111,7 @@ def _opened() -> ctypes.CDLL:
         "plurals_pattern_pack": (ctypes.c_int64, [*given, *given]),
         "plurals_pattern_check": (ctypes.c_int32, [*given]),
         "plurals_packed_format": (ctypes.c_int64, [*given * 3, ctypes.POINTER(_Argument), ctypes.c_size_t, *given]),
+        "plurals_catalog_pack": (ctypes.c_int64, [*given, *given, *given]),
         "plurals_catalog_check": (ctypes.c_int32, [*given]),
         "plurals_catalog_say": (ctypes.c_int64, [*given * 4, ctypes.POINTER(_Argument), ctypes.c_size_t, *given]),
         "plurals_category_name": (ctypes.c_char_p, [ctypes.c_int32]),
@@ -468,6 +469,17 @@ class Catalog:
         """Takes the bytes of a catalogue. Others are a fault."""
         _checked(_library.plurals_catalog_check(block, len(block)))
         self.block = bytes(block)
+
+    @classmethod
+    def of_messages(cls, document: Union[str, bytes], locale: str = "") -> Catalog:
+        """Packs the patterns that a JSON document of messages has for a locale, or without one, for its only locale.
+
+        >>> messages = '{"en": {"patterns": {"files": "{n, plural, one {# file} other {# files}}"}}}'
+        >>> Catalog.of_messages(messages).say("files", Rules.of_locale("en"), n=1)
+        '1 file'
+        """
+        given = document if isinstance(document, bytes) else _bytes(document)
+        return cls(_written(_library.plurals_catalog_pack, *_words((given, _bytes(locale)))))
 
     def say(self, key: str, cardinal: Rules, ordinal: Optional[Rules] = None, /, **arguments: Number) -> str:
         """Returns what the message under a key says, as format_pattern does of its pattern. That there is none is a fault."""

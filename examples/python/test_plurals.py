@@ -340,6 +340,19 @@ def test_catalogs():
         assert fault.value.number == number
 
 
+def test_catalogs_of_documents():
+    text = '{"en": {"patterns": {"é": "{n, plural, one {# file} other {# files}}"}}, "ru": {"ordinal": 5}}'
+    for document in (text, text.encode()):
+        assert plurals.Catalog.of_messages(document, "en").say("é", ENGLISH, n=2) == "2 files"
+    assert plurals.Catalog.of_messages('{"x": {"patterns": {"hi": "hello"}}}').block == b"\1\0\0\0\2\0\0\0\x0b\0\0\0hi\1\0\0\0hello"
+    faults = [("{", "", -70), ("{}", "", -150), (text, "", -151), (text, "EN", -152), (text, "ru", -154), ('{"a": {}}', "", -155)]
+    faults += [('{"a": {"cardinal": []}}', "", -153), ('{"a": {"patterns": []}}', "", -72), ('{"a": {"patterns": {"b": "{"}}}', "a", -90), ("{", "\ud800", -2)]
+    for document, locale, number in faults:
+        with pytest.raises(Fault) as fault:
+            plurals.Catalog.of_messages(document, locale)
+        assert fault.value.number == number
+
+
 def test_byte_0_is_no_end():
     assert Elements('{"other":[0,"a\\u0000b"]}').text(ENGLISH, 1) == "a\0b"
     with pytest.raises(Fault):

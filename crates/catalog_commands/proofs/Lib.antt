@@ -1,2 +1,3 @@
+mod LocaleParts
 mod PatternTexts
 mod WordArguments

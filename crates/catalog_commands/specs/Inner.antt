@@ -1,3 +1,4 @@
 -- No definitions of the subject: views, and what private functions tell.
 pub mod KeyedViews
+pub mod LocaleViews
 pub mod WordViews

@@ -2,5 +2,6 @@
 pub mod CatalogWords
 pub mod DocumentPatterns
 pub mod GivenWords
+pub mod LocaleMessages
 -- not a definition of the subject
 pub mod Inner

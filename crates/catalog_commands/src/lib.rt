@@ -6,6 +6,7 @@ mod arguments;
 mod catalog_words;
 mod fault;
 mod given;
+mod locales;
 mod packing;
 mod texts;
 
@@ -13,4 +14,5 @@ pub use arguments::{Word, arguments_of, takes_number};
 pub use catalog_words::{PackWords, SayWords, pack_words, say_words};
 pub use fault::PatternsFault;
 pub use given::{GivenFault, given_words};
+pub use locales::{LocaleMessages, MessagesFault, messages_in, patterns_in};
 pub use packing::pack_patterns;

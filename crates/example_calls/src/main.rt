@@ -12,6 +12,7 @@ mod json;
 mod messages;
 mod named;
 mod numbers;
+mod page;
 mod ranges;
 mod texts;
 
@@ -107,7 +108,9 @@ fn show_cldr(rt: &HostRuntime, alloc: Global) -> anyhow::Result<()> {
     println!(rt; "== constant")?;
     cldr::show_bytes(rt)?;
     println!(rt; "== items")?;
-    items::print_items(rt, alloc)
+    items::print_items(rt, alloc)?;
+    println!(rt; "== page")?;
+    page::show_page(rt, alloc)
 }
 
 fn main(rt: HostRuntime) -> anyhow::Result<()> {

@@ -10,3 +10,4 @@ pub mod ManyIntegers
 pub mod ReadArguments
 pub mod SaidPatterns
 pub mod PatternsPacked
+pub mod CatalogsPacked

@@ -1,5 +1,7 @@
 -- The number that an export returns for each fault (docs/C.md). Places aren't told.
 use Rattle.std.specs.Prelude.{ℕ, ◌-◌, ℤ, negsuc}
+use Rattle.catalog_commands.specs.declared.locales.MessagesFault.{MessagesFault}
+use Rattle.catalog_commands.specs.declared.locales.MessagesFault.TheVariants as document
 use Rattle.icu_plurals.specs.declared.DecimalError.{DecimalError}
 use Rattle.icu_plurals.specs.declared.DecimalError.TheVariants as decimal
 use Rattle.icu_plurals.specs.declared.ElementsPackError.{ElementsPackError}
@@ -25,13 +27,15 @@ use Rattle.message_catalog.specs.declared.error.MessageCatalogError.{MessageCata
 use Rattle.message_catalog.specs.declared.error.MessageCatalogError.TheVariants as messages
 use Rattle.packed_catalog.specs.declared.error.CatalogError.{CatalogError}
 use Rattle.packed_catalog.specs.declared.error.CatalogError.TheVariants as entries
+use Rattle.packed_catalog.specs.declared.error.PackCatalogError.{PackCatalogError}
+use Rattle.packed_catalog.specs.declared.error.PackCatalogError.TheVariants as entered
 use Rattle.packed_pattern.specs.declared.error.BlockError.{BlockError}
 use Rattle.packed_pattern.specs.declared.error.BlockError.TheVariants as blocked
 use Rattle.packed_pattern.specs.declared.error.PackPatternError.{PackPatternError}
 use Rattle.packed_pattern.specs.declared.error.PackPatternError.TheVariants as unpacked
 use Rattle.plural_exports.specs.declared.fault.Fault.{Fault}
 use Rattle.plural_exports.specs.declared.fault.Fault.TheVariants.{Memory, Utf8, RuleType, Number, OutsideBound, Text, Rules, RulesLimit, Elements, Json}
-use Rattle.plural_exports.specs.declared.fault.Fault.TheVariants.{Document, Locale, TableLength, Pattern, Argument, ArgumentKind, Packed, Packing, Catalog, NoKey}
+use Rattle.plural_exports.specs.declared.fault.Fault.TheVariants.{Document, Locale, TableLength, Pattern, Argument, ArgumentKind, Packed, Packing, Catalog, NoKey, Messages, Entries}
 
 -- the negative of a number that isn't 0
 abbrev pub minus : ℕ → ℤ
@@ -163,6 +167,22 @@ abbrev pub catalog_number : MessageCatalogError → ℤ
 catalog_number (messages.Catalog fault) = entries_number fault
 catalog_number (messages.Pattern place fault) = pattern_block_number fault
 
+-- a document of messages has no patterns that are packed
+abbrev pub messages_number : MessagesFault → ℤ
+messages_number document.NoLocale = minus 150
+messages_number document.SeveralLocales = minus 151
+messages_number document.AbsentLocale = minus 152
+messages_number document.CardinalForms = minus 153
+messages_number document.OrdinalForms = minus 154
+messages_number document.NoPatterns = minus 155
+
+-- entries can't be packed as a catalogue
+abbrev pub entries_packing_number : PackCatalogError → ℤ
+entries_packing_number entered.TooMany = minus 160
+entries_packing_number (entered.Order place) = minus 161
+entries_packing_number entered.TooLong = minus 162
+entries_packing_number entered.Memory = memory_number
+
 -- the number of a fault
 abbrev pub fault_number : Fault → ℤ
 fault_number Memory = memory_number
@@ -185,3 +205,5 @@ fault_number (Packed fault) = pattern_block_number fault
 fault_number (Packing fault) = pattern_packing_number fault
 fault_number (Catalog fault) = catalog_number fault
 fault_number NoKey = minus 144
+fault_number (Messages fault) = messages_number fault
+fault_number (Entries fault) = entries_packing_number fault

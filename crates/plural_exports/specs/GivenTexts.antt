@@ -30,6 +30,11 @@ abbrev pub text_given : List ℕ → Option (List ℕ)
 text_given [] = None
 text_given (byte ∷ text) = Some (byte ∷ text)
 
+-- the text, if there is any byte, or the fault of bytes that aren't UTF-8
+abbrev pub ReadsGiven : List ℕ → Result (Option (List ℕ)) Fault → Type 0
+ReadsGiven bytes (Ok text) = IsUtf8 bytes × (text ≡ text_given bytes)
+ReadsGiven bytes (Err fault) = (fault ≡ Utf8) × ¬ (IsUtf8 bytes)
+
 -- the bytes of five rules
 abbrev pub texts_given : Five (List ℕ) → Five (Option (List ℕ))
 texts_given texts =

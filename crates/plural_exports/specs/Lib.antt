@@ -10,6 +10,7 @@ pub mod NumberAnswers
 pub mod GivenArguments
 pub mod GivenPatterns
 pub mod GivenCatalogs
+pub mod PackedDocuments
 pub mod FormattedPatterns
 pub mod RulesCategories
 pub mod TableAnswers

@@ -1,20 +1,21 @@
 //! Why an export has no result, and the numbers that tell it.
 
 ghost use Rattle.std.specs.Prelude.{◌≡◌};
-ghost use Rattle.plural_exports.specs.Faults.{argument_number, block_number, catalog_number, decimal_number, elements_number, entries_number, fault_number, json_number, packed_number, packing_number, parse_number, pattern_block_number, pattern_number, pattern_packing_number, rule_number};
-ghost use Rattle.plural_exports.specs.Inner.Conversions.{decimal_fault, format_fault, json_fault, json_text_fault, rules_pack_fault, pattern_fault, pattern_pack_fault, text_fault};
-ghost use Rattle.plural_exports.specs.declared.fault.Fault.TheVariants.{Catalog, Elements, Packed, Rules};
+ghost use Rattle.plural_exports.specs.Faults.{argument_number, block_number, catalog_number, decimal_number, elements_number, entries_number, entries_packing_number, fault_number, json_number, messages_number, packed_number, packing_number, parse_number, pattern_block_number, pattern_number, pattern_packing_number, rule_number};
+ghost use Rattle.plural_exports.specs.Inner.Conversions.{decimal_fault, entries_pack_fault, format_fault, json_fault, json_text_fault, rules_pack_fault, pattern_fault, pattern_pack_fault, pattern_text_fault, patterns_fault, text_fault};
+ghost use Rattle.plural_exports.specs.declared.fault.Fault.TheVariants.{Catalog, Elements, Messages, Packed, Rules};
 
+use catalog_commands::{MessagesFault, PatternsFault};
 use icu_plurals::provider::rules::reference::ParseError;
 use icu_plurals::provider::rules::runtime::ast::{RuleBytesError, RuleError};
 use icu_plurals::{
     DecimalError, ElementsBytesError, ElementsPackError, JsonError, ListError, RulesBytesError,
     RulesPackError,
 };
-use message_catalog::MessageCatalogError;
+use message_catalog::{MessageCatalogError, TextFault};
 use message_format::{ArgumentFault, FormatError};
 use message_pattern::{FaultKind, PatternError};
-use packed_catalog::CatalogError;
+use packed_catalog::{CatalogError, PackCatalogError};
 use packed_pattern::{BlockError, PackPatternError};
 use plural_documents::JsonTextError;
 
@@ -61,6 +62,10 @@ pub(crate) enum Fault {
     Catalog(MessageCatalogError),
     // No message has the key.
     NoKey,
+    // A document of messages has no patterns that are packed.
+    Messages(MessagesFault),
+    // Messages can't be packed as a catalogue.
+    Entries(PackCatalogError),
 }
 
 impl Fault {
@@ -89,6 +94,8 @@ impl Fault {
             Fault::Packing(fault) => pattern_packing_number(fault),
             Fault::Catalog(fault) => catalog_number(fault),
             Fault::NoKey => -144,
+            Fault::Messages(fault) => messages_number(fault),
+            Fault::Entries(fault) => entries_packing_number(fault),
         }
     }
 }
@@ -218,6 +225,53 @@ impl From<MessageCatalogError> for Fault {
 
     fn from(error: MessageCatalogError) -> Fault {
         Fault::Catalog(error)
+    }
+}
+
+impl From<MessagesFault> for Fault {
+    ghost from_gives = { λ error fault. fault ≡ Messages error };
+
+    fn from(error: MessagesFault) -> Fault {
+        Fault::Messages(error)
+    }
+}
+
+impl From<TextFault> for Fault {
+    ghost from_gives = { λ error fault. fault ≡ pattern_text_fault error };
+
+    fn from(error: TextFault) -> Fault {
+        match error {
+            TextFault::Text(kind, _) => Fault::Pattern(kind),
+            TextFault::Pattern(reason) => Fault::from(reason),
+        }
+    }
+}
+
+impl From<PackCatalogError> for Fault {
+    ghost from_gives = { λ error fault. fault ≡ entries_pack_fault error };
+
+    fn from(error: PackCatalogError) -> Fault {
+        match error {
+            PackCatalogError::TooMany | PackCatalogError::Order(_) | PackCatalogError::TooLong => {
+                Fault::Entries(error)
+            }
+            PackCatalogError::Memory => Fault::Memory,
+        }
+    }
+}
+
+impl<'a> From<PatternsFault<'a>> for Fault {
+    ghost from_gives = { λ error fault. fault ≡ patterns_fault error };
+
+    fn from(error: PatternsFault<'a>) -> Fault {
+        match error {
+            PatternsFault::NoObject | PatternsFault::NoText(_) => {
+                Fault::Document(JsonError::Shape)
+            }
+            PatternsFault::Message(_, fault) => Fault::from(fault),
+            PatternsFault::Catalog(reason) => Fault::from(reason),
+            PatternsFault::Memory => Fault::Memory,
+        }
     }
 }
 
@@ -412,5 +466,31 @@ fn catalog_number(fault: MessageCatalogError) -> i32
     match fault {
         MessageCatalogError::Catalog(fault) => entries_number(fault),
         MessageCatalogError::Pattern(_, fault) => pattern_block_number(fault),
+    }
+}
+
+// The number of a document of messages without patterns that are packed.
+fn messages_number(fault: MessagesFault) -> i32
+    ensures { result ≡ messages_number fault }
+{
+    match fault {
+        MessagesFault::NoLocale => -150,
+        MessagesFault::SeveralLocales => -151,
+        MessagesFault::AbsentLocale => -152,
+        MessagesFault::CardinalForms => -153,
+        MessagesFault::OrdinalForms => -154,
+        MessagesFault::NoPatterns => -155,
+    }
+}
+
+// The number of messages that can't be packed as a catalogue.
+fn entries_packing_number(fault: PackCatalogError) -> i32
+    ensures { result ≡ entries_packing_number fault }
+{
+    match fault {
+        PackCatalogError::TooMany => -160,
+        PackCatalogError::Order(_) => -161,
+        PackCatalogError::TooLong => -162,
+        PackCatalogError::Memory => MEMORY,
     }
 }

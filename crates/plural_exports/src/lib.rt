@@ -5,6 +5,7 @@
 mod arguments;
 mod block_categories;
 mod buffer;
+mod catalog_packing;
 mod catalogs;
 mod document;
 mod element_texts;
@@ -28,6 +29,7 @@ mod whole;
 
 pub use arguments::GivenArgument;
 pub use block_categories::categories;
+pub use catalog_packing::catalog_pack;
 pub use catalogs::{catalog_check, catalog_say};
 pub use element_texts::elements_from_texts;
 pub use elements::{element, elements_from_json};

@@ -8,8 +8,8 @@ ghost use Rattle.icu_plurals.specs.DocumentJson.{rows_for};
 ghost use Rattle.plural_documents.specs.Steps.{Then};
 ghost use Rattle.plural_exports.specs.GivenDocuments.{AreRulesIn, HasRulesAt};
 ghost use Rattle.icu_plurals.specs.RuleTexts.{lent_texts};
-ghost use Rattle.plural_exports.specs.GivenTexts.{AreRulesFrom, GiveRules, PackRules, ReadsTexts};
-ghost use Rattle.plural_exports.specs.Inner.GivenResults.{GivesSeen, lent_bytes, ReadsGiven};
+ghost use Rattle.plural_exports.specs.GivenTexts.{AreRulesFrom, GiveRules, PackRules, ReadsGiven, ReadsTexts};
+ghost use Rattle.plural_exports.specs.Inner.GivenResults.{GivesSeen, lent_bytes};
 ghost use Rattle.plural_exports.specs.Results.{Answered, Written};
 
 use crate::buffer::put;
@@ -142,7 +142,7 @@ pub(crate) fn given_texts<'a>(texts: &Five<&'a [u8]>) -> Result<Five<Option<&'a 
     Ok(make_five!(Five, texts, |text| given(*text)?))
 }
 
-// The text of a rule, if it has any byte.
+// The text, if it has any byte.
 pub(crate) fn given(bytes: &[u8]) -> Result<Option<&str>, Fault>
     ensures { GivesSeen option_copied (ReadsGiven bytes.now) result }
 {

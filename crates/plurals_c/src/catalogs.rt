@@ -3,10 +3,31 @@
 ghost use Rattle.std.specs.Prelude.{pos};
 ghost use Rattle.plural_exports.specs.FormattedPatterns.{IsCatalogSaid};
 ghost use Rattle.plural_exports.specs.GivenCatalogs.{ReadsCatalog};
+ghost use Rattle.plural_exports.specs.PackedDocuments.{IsCatalogPacked};
 ghost use Rattle.plural_exports.specs.Results.{Answered, Written};
 
 use plural_exports::GivenArgument;
 use std::alloc::Global;
+
+/// Writes the catalogue of the patterns that a JSON document of messages has for a locale, which is
+/// compared byte by byte, or if the locale's text is empty, for its only one. The result is how many
+/// bytes the catalogue has; if the buffer is shorter, nothing is written.
+///
+/// A fault is negative, and then nothing is written. Faults are looked for in this order: the
+/// locale's text isn't UTF-8, no JSON text, no such locale, messages given as forms, no patterns,
+/// one that isn't a text, the first text that isn't a pattern or can't be packed, and a catalogue
+/// that is too long. It allocates.
+#[unsafe(no_mangle)]
+pub extern "C" fn plurals_catalog_pack(
+    alloc: Global,
+    json: &[u8],
+    locale: &[u8],
+    out: &mut [u8],
+) -> i64
+    ensures { Written (IsCatalogPacked json.now locale.now) out.old out.new result }
+{
+    plural_exports::catalog_pack(alloc, json, locale, out)
+}
 
 /// Returns 0 if the bytes are a catalogue of messages, else their fault. It allocates nothing.
 #[unsafe(no_mangle)]

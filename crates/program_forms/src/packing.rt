@@ -3,34 +3,14 @@
 use crate::answers::print_bytes;
 use crate::catalog_faults::fault_of_words;
 use crate::failure::{Failure, of_word, told};
-use crate::opened::messages_in;
-use catalog_commands::{PackWords, PatternsFault, pack_patterns, pack_words};
+use crate::opened::messages_in as document_in;
+use catalog_commands::{
+    MessagesFault, PackWords, PatternsFault, messages_in, pack_patterns, pack_words, patterns_in,
+};
 use form_commands::Verdict;
 use plural_documents::printed_name;
-use serde_json::{Map, Value};
+use serde_json::Value;
 use std::alloc::Global;
-
-// The patterns of a locale.
-#[derive(Clone, Copy)]
-struct Patterns<'a> {
-    locale: &'a str,
-    value: &'a Value,
-}
-
-// Why a document has no patterns for a catalogue.
-#[derive(Clone, Copy)]
-enum Unpacked<'a> {
-    // It has no locale, or isn't an object.
-    NoLocale,
-    // It has several, and none is named.
-    Locales,
-    // It hasn't this one.
-    Absent(&'a str),
-    // This locale has messages given as forms, in this part.
-    Forms(&'a str, &'a str),
-    // This locale has no patterns.
-    NoPatterns(&'a str),
-}
 
 // Writes the catalogue of the patterns that words name.
 pub(crate) fn pack(rt: &HostRuntime, words: &[&str]) -> Result<Verdict, Failure> {
@@ -42,89 +22,46 @@ pub(crate) fn pack(rt: &HostRuntime, words: &[&str]) -> Result<Verdict, Failure>
 
 // Writes the catalogue of the patterns of a file.
 fn pack_file(rt: &HostRuntime, said: PackWords<'_>) -> Result<Verdict, Failure> {
-    let alloc = rt.alloc();
-    let document = messages_in(rt, said.file)?;
-    let patterns = match patterns_of(&document, said.locale) {
+    let document = document_in(rt, said.file)?;
+    let packed = packed_in(rt.alloc(), said, &document);
+    drop(document);
+    print_bytes(&mut rt.stdout(), packed?.as_slice())
+}
+
+// The catalogue of the patterns of a document.
+fn packed_in(alloc: Global, said: PackWords<'_>, document: &Value) -> Result<Vec<u8>, Failure> {
+    let file = said.file;
+    let of_locale = match messages_in(document, said.locale) {
+        Ok(of_locale) => of_locale,
+        Err(fault) => return Err(of_messages(alloc, file, said.locale.unwrap_or(""), fault)),
+    };
+    let locale = of_locale.locale;
+    let patterns = match patterns_in(of_locale.messages) {
         Ok(patterns) => patterns,
-        Err(fault) => return Err(of_unpacked(alloc, said.file, fault)),
+        Err(fault) => return Err(of_messages(alloc, file, locale, fault)),
     };
-    match pack_patterns(alloc, patterns.value) {
-        Ok(bytes) => print_bytes(&mut rt.stdout(), bytes.as_slice()),
-        Err(fault) => Err(of_patterns(alloc, said.file, patterns.locale, fault)),
+    match pack_patterns(alloc, patterns) {
+        Ok(bytes) => Ok(bytes),
+        Err(fault) => Err(of_patterns(alloc, file, locale, fault)),
     }
 }
 
-// The patterns of a locale of a document, or of its only one.
-fn patterns_of<'a>(
-    document: &'a Value,
-    locale: Option<&'a str>,
-) -> Result<Patterns<'a>, Unpacked<'a>> {
-    let Some(locales) = document.as_object() else {
-        return Err(Unpacked::NoLocale);
-    };
-    match locale {
-        Some(locale) => match locales.get(locale) {
-            Some(value) => patterns_in(locale, value),
-            None => Err(Unpacked::Absent(locale)),
-        },
-        None => only_patterns(locales),
-    }
-}
-
-// The patterns of the only locale.
-fn only_patterns(locales: &Map<String, Value>) -> Result<Patterns<'_>, Unpacked<'_>> {
-    if locales.len() > 1 {
-        return Err(Unpacked::Locales);
-    }
-    match locales.iter().next() {
-        Some((locale, value)) => patterns_in(locale.as_str(), value),
-        None => Err(Unpacked::NoLocale),
-    }
-}
-
-// The patterns in the value of a locale.
-fn patterns_in<'a>(locale: &'a str, value: &'a Value) -> Result<Patterns<'a>, Unpacked<'a>> {
-    for part in ["cardinal", "ordinal"] {
-        if has_members(value.get(part)) {
-            return Err(Unpacked::Forms(locale, part));
-        }
-    }
-    match value.get("patterns") {
-        Some(value) => Ok(Patterns { locale, value }),
-        None => Err(Unpacked::NoPatterns(locale)),
-    }
-}
-
-// Whether a part is there, and not empty.
-fn has_members(part: Option<&Value>) -> bool {
-    match part {
-        Some(part) => match part.as_object() {
-            Some(members) => !members.is_empty(),
-            None => true,
-        },
-        None => false,
-    }
-}
-
-// Why a file has no patterns for a catalogue.
-fn of_unpacked(alloc: Global, file: &str, fault: Unpacked<'_>) -> Failure {
+// Why a file has no patterns of a locale for a catalogue.
+fn of_messages(alloc: Global, file: &str, locale: &str, fault: MessagesFault) -> Failure {
+    let locale = printed_name(locale);
     told(match fault {
-        Unpacked::NoLocale => format!(in alloc; "{file}: messages of no locale"),
-        Unpacked::Locales => {
+        MessagesFault::NoLocale => format!(in alloc; "{file}: messages of no locale"),
+        MessagesFault::SeveralLocales => {
             format!(in alloc; "{file}: messages of several locales: name one by --locale")
         }
-        Unpacked::Absent(locale) => {
-            let locale = printed_name(locale);
-            format!(in alloc; "{file}: no messages of {locale}")
+        MessagesFault::AbsentLocale => format!(in alloc; "{file}: no messages of {locale}"),
+        MessagesFault::CardinalForms => {
+            format!(in alloc; "{file}: {locale} cardinal: forms can't be packed: write patterns")
         }
-        Unpacked::Forms(locale, part) => {
-            let locale = printed_name(locale);
-            format!(in alloc; "{file}: {locale} {part}: forms can't be packed: write patterns")
+        MessagesFault::OrdinalForms => {
+            format!(in alloc; "{file}: {locale} ordinal: forms can't be packed: write patterns")
         }
-        Unpacked::NoPatterns(locale) => {
-            let locale = printed_name(locale);
-            format!(in alloc; "{file}: {locale}: no patterns")
-        }
+        MessagesFault::NoPatterns => format!(in alloc; "{file}: {locale}: no patterns"),
     })
 }
 

@@ -72,6 +72,10 @@ mod raw {
             cardinal: *const u8, cardinal_len: usize, ordinal: *const u8, ordinal_len: usize, block: *const u8, block_len: usize,
             arguments: *const Argument, arguments_len: usize, out: *mut u8, out_len: usize,
         ) -> i64;
+        #[rustfmt::skip]
+        pub fn plurals_catalog_pack(
+            json: *const u8, json_len: usize, locale: *const u8, locale_len: usize, out: *mut u8, out_len: usize,
+        ) -> i64;
         pub fn plurals_catalog_check(catalog: *const u8, catalog_len: usize) -> i32;
         #[rustfmt::skip]
         pub fn plurals_catalog_say(
@@ -259,6 +263,13 @@ pub fn packed_format(cardinal: &[u8], ordinal: &[u8], block: &[u8], given: &[Arg
         )
     });
     found
+}
+
+pub fn catalog_pack(json: &str, locale: &str) -> Result<Vec<u8>, PluralsError> {
+    written(|out| unsafe {
+        let (json, json_len) = (json.as_ptr(), json.len());
+        raw::plurals_catalog_pack(json, json_len, locale.as_ptr(), locale.len(), out.as_mut_ptr(), out.len())
+    })
 }
 
 pub fn catalog_check(catalog: &[u8]) -> Result<(), PluralsError> {

@@ -451,6 +451,23 @@ pub struct Catalog<'a> {
 }
 
 impl<'a> Catalog<'a> {
+    /// The bytes of the catalogue of the patterns that a JSON document of messages has for a locale, which is compared byte by byte; an
+    /// empty one is its only one.
+    ///
+    /// ```
+    /// use plurals::{Catalog, PluralRules, CLDR};
+    /// let rules = PluralRules::try_new_cardinal(CLDR, "en")?;
+    /// let messages = r#"{"en": {"patterns": {"files": "{n, plural, one {# file} other {# files}}"}}}"#;
+    /// let bytes = Catalog::pack(messages, "en")?;
+    /// let said = Catalog::from_bytes(&bytes)?.say("files", &[plurals::Argument { name: "n", value: plurals::Value::Number("1") }], &rules, &rules)?;
+    /// assert_eq!(said, "1 file");
+    /// assert_eq!(Catalog::pack(messages, "ru").unwrap_err().to_string(), "the document has no messages for the locale");
+    /// # Ok::<(), plurals::PluralsError>(())
+    /// ```
+    pub fn pack(messages: &str, locale: &str) -> Result<Vec<u8>, PluralsError> {
+        ffi::catalog_pack(messages, locale)
+    }
+
     /// The catalogue of bytes that are one.
     pub fn from_bytes(bytes: &'a [u8]) -> Result<Catalog<'a>, PluralsError> {
         ffi::catalog_check(bytes)?;

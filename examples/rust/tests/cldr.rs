@@ -1,7 +1,7 @@
 //! Categories, operands and values by category, over the document of CLDR 48. What is expected comes from UTS 35 and CLDR's samples.
 use plurals::PluralCategory::{self, *};
 use plurals::{CategoryTable, PluralElements, PluralOperands, PluralRuleType, PluralRules, PluralRulesOptions, PluralRulesWithRanges, CLDR};
-use plurals::{find_locale, format_pattern, Argument, Part, RawPluralOperands, Value};
+use plurals::{find_locale, format_pattern, Argument, Catalog, Part, RawPluralOperands, Value};
 
 fn cardinal(locale: &str) -> PluralRules {
     PluralRules::try_new_cardinal(CLDR, locale).unwrap()
@@ -256,6 +256,18 @@ fn patterns_say_what_their_arguments_choose() {
     assert_eq!(said("{m}", Value::Text("a")).unwrap_err().number(), -110);
     assert_eq!(said("{n, number}", Value::Text("a")).unwrap_err().number(), -95);
     assert_eq!(format_pattern("", &[], &cardinal, &ordinal).unwrap(), "");
+}
+
+#[test]
+fn a_document_of_messages_is_packed() {
+    let text = r#"{"en": {"patterns": {"hi": "hello"}}, "ru": {"cardinal": {"hi": {}}}}"#;
+    let bytes = Catalog::pack(text, "en").unwrap();
+    assert_eq!(bytes, b"\x01\0\0\0\x02\0\0\0\x0b\0\0\0hi\x01\0\0\0hello");
+    assert_eq!(Catalog::from_bytes(&bytes).unwrap().say("hi", &[], &cardinal("en"), &cardinal("en")).unwrap(), "hello");
+    let faults = [("{", "", -70), ("5", "", -150), (text, "", -151), (text, "en-US", -152), (text, "ru", -153), (r#"{"a":{}}"#, "", -155)];
+    for (document, locale, number) in faults {
+        assert_eq!(Catalog::pack(document, locale).unwrap_err().number(), number, "{document} {locale}");
+    }
 }
 
 #[test]

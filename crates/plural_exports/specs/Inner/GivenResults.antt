@@ -1,13 +1,10 @@
 -- Not a definition of the subject: what private calls return.
-use Rattle.std.specs.Prelude.{◌≡◌, ℕ, ℤ, List, Option, Result, Ok, Err}
+use Rattle.std.specs.Prelude.{◌≡◌, ℕ, ℤ, List, Result, Ok, Err}
 use Rattle.std.specs.Borrow.{Bor}
-use Rattle.std.specs.Str.{IsUtf8}
 use Rattle.icu_plurals.specs.declared.Five.{Five}
 use Rattle.icu_plurals.specs.FiveRules.{five}
-use Rattle.plural_exports.specs.GivenTexts.{text_given}
 use Rattle.plural_exports.specs.Results.{IsToldWritten}
 use Rattle.plural_exports.specs.declared.fault.Fault.{Fault}
-use Rattle.plural_exports.specs.declared.fault.Fault.TheVariants.{Utf8}
 use Rattle.plural_exports.specs.declared.element_texts.EightTexts.{EightTexts as Lent}
 use Rattle.plural_exports.specs.GivenElements.{Eight, eight}
 
@@ -15,11 +12,6 @@ use Rattle.plural_exports.specs.GivenElements.{Eight, eight}
 abbrev pub GivesSeen : {A B : Type 0} → (A → B) → (Result B Fault → Type 0) → Result A Fault → Type 0
 GivesSeen seen Is (Ok x) = Is (Ok (seen x))
 GivesSeen seen Is (Err fault) = Is (Err fault)
-
--- the text of a rule, if it has any byte, or the fault of bytes that aren't UTF-8
-abbrev pub ReadsGiven : List ℕ → Result (Option (List ℕ)) Fault → Type 0
-ReadsGiven bytes (Ok text) = IsUtf8 bytes × (text ≡ text_given bytes)
-ReadsGiven bytes (Err fault) = (fault ≡ Utf8) × ¬ (IsUtf8 bytes)
 
 -- the bytes of five references
 abbrev pub lent_bytes : Five (Bor (List ℕ)) → Five (List ℕ)

@@ -22,6 +22,7 @@ pub fn make(kind: &str, call: &mut Call) -> bool {
         "exported_pattern" => pattern(call),
         "exported_pack" => pack(call),
         "exported_packed" => packed(call),
+        "exported_messages" => messages(call),
         "exported_say" => say(call),
         _ => return false,
     }
@@ -252,6 +253,15 @@ fn packed(call: &mut Call) {
         call.alloc, &cardinal, &ordinal, &block, &arguments, &mut room,
     );
     print_text(call, told, &room);
+}
+
+// The catalogue of a document's patterns.
+fn messages(call: &mut Call) {
+    let json = next_given(call);
+    let locale = next_given(call);
+    let mut room = next_room(call);
+    let told = plural_exports::catalog_pack(call.alloc, &json, &locale, &mut room);
+    print_bytes(call, told, &room);
 }
 
 // What the message under a key says.
