@@ -5,6 +5,7 @@ ghost use Rattle.std.specs.Option.{option_copied};
 ghost use Rattle.std.specs.Result.{result_map_both};
 ghost use Rattle.catalog_commands.specs.LocaleMessages.{has_members, has_messages, member_named, messages_in, only_member, patterns_in};
 ghost use Rattle.catalog_commands.specs.Inner.LocaleViews.{locale_view, value_view};
+ghost use Rattle.serde_json.specs.Find.{as_object};
 ghost use Rattle.serde_json.specs.View.{members_view, view};
 
 use serde_json::{Map, Value};
@@ -94,10 +95,17 @@ fn has_messages(part: Option<&Value>) -> bool
     ensures { result ≡ has_messages (option_map value_view part.entry) }
 {
     match part {
-        Some(part) => match part.as_object() {
-            Some(members) => !members.is_empty(),
-            None => true,
-        },
+        Some(part) => has_members(part),
         None => false,
+    }
+}
+
+// Whether a part is something else than an object without members.
+fn has_members(part: &Value) -> bool
+    ensures { result ≡ has_members (as_object (view part.now)) }
+{
+    match part.as_object() {
+        Some(members) => !members.is_empty(),
+        None => true,
     }
 }

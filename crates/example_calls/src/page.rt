@@ -57,10 +57,7 @@ fn print_page(
         ("footer", &[]),
     ];
     for (key, arguments) in page {
-        let said = match catalog.say(alloc, key.as_bytes(), arguments, &rules) {
-            Ok(said) => said,
-            Err(error) => anyhow::bail!(in alloc; "{key}: {error}"),
-        };
+        let said = catalog.say(alloc, key.as_bytes(), arguments, &rules)?;
         println!(rt; "{}", str::from_utf8(&said)?)?;
     }
     Ok(())

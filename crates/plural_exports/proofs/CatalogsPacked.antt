@@ -13,28 +13,28 @@ use Rattle.plural_exports.proofs.Texts.{Block, bytes_of}
 use Rattle.serde_json.specs.Data.{Data}
 
 -- the fault of patterns, if it isn't out of memory
-fault_refused : (data : Data) (reason : PatternsFault) (r : Block) → r ≡ Err (patterns_fault reason) → HasPatternsFault data reason
-    → GivesSeen bytes_of (PacksPatterns data) r
-fault_refused data patterns.NoObject r is has = rw is (inl has)
-fault_refused data (patterns.NoText key) r is has = rw is (inr (key, has))
-fault_refused data (patterns.Message key (text.Text kind place)) r is has = rw is (key, place, has)
-fault_refused data (patterns.Message key (text.Pattern packing.CountLimit)) r is has = rw is (key, has)
-fault_refused data (patterns.Message key (text.Pattern (packing.Part place))) r is has = rw is (key, has)
-fault_refused data (patterns.Message key (text.Pattern (packing.Order place))) r is has = rw is (key, has)
-fault_refused data (patterns.Message key (text.Pattern packing.StartLimit)) r is has = rw is (key, has)
-fault_refused data (patterns.Message key (text.Pattern packing.Memory)) r is has = rw is (record {})
-fault_refused data (patterns.Catalog entries.TooMany) r is has = rw is has
-fault_refused data (patterns.Catalog (entries.Order place)) r is has = rw is has
-fault_refused data (patterns.Catalog entries.TooLong) r is has = rw is has
-fault_refused data (patterns.Catalog entries.Memory) r is has = rw is (record {})
-fault_refused data patterns.Memory r is has = rw is (record {})
+fault_refused : (value : Data) (reason : PatternsFault) (r : Block) → r ≡ Err (patterns_fault reason) → HasPatternsFault value reason
+    → GivesSeen bytes_of (PacksPatterns value) r
+fault_refused value patterns.NoObject r is has = rw is (inl has)
+fault_refused value (patterns.NoText key) r is has = rw is (inr (key, has))
+fault_refused value (patterns.Message key (text.Text kind place)) r is has = rw is (key, place, has)
+fault_refused value (patterns.Message key (text.Pattern packing.CountLimit)) r is has = rw is (key, has)
+fault_refused value (patterns.Message key (text.Pattern (packing.Part place))) r is has = rw is (key, has)
+fault_refused value (patterns.Message key (text.Pattern (packing.Order place))) r is has = rw is (key, has)
+fault_refused value (patterns.Message key (text.Pattern packing.StartLimit)) r is has = rw is (key, has)
+fault_refused value (patterns.Message key (text.Pattern packing.Memory)) r is has = rw is (record {})
+fault_refused value (patterns.Catalog entries.TooMany) r is has = rw is has
+fault_refused value (patterns.Catalog (entries.Order place)) r is has = rw is has
+fault_refused value (patterns.Catalog entries.TooLong) r is has = rw is has
+fault_refused value (patterns.Catalog entries.Memory) r is has = rw is (record {})
+fault_refused value patterns.Memory r is has = rw is (record {})
 
 -- the fault of patterns, or out of memory
-pub patterns_refused : (data : Data) (reason : PatternsFault) (r : Block) → r ≡ Err (patterns_fault reason)
-    → TellsPatternsFault data reason → GivesSeen bytes_of (PacksPatterns data) r
-patterns_refused data patterns.Memory r is (inl same) = rw is (record {})
-patterns_refused data patterns.NoObject r is (inl same) = absurd cc
-patterns_refused data (patterns.NoText key) r is (inl same) = absurd cc
-patterns_refused data (patterns.Message key fault) r is (inl same) = absurd cc
-patterns_refused data (patterns.Catalog reason) r is (inl same) = absurd cc
-patterns_refused data reason r is (inr has) = fault_refused data reason r is has
+pub patterns_refused : (value : Data) (reason : PatternsFault) (r : Block) → r ≡ Err (patterns_fault reason)
+    → TellsPatternsFault value reason → GivesSeen bytes_of (PacksPatterns value) r
+patterns_refused value patterns.Memory r is (inl same) = rw is (record {})
+patterns_refused value patterns.NoObject r is (inl same) = absurd cc
+patterns_refused value (patterns.NoText key) r is (inl same) = absurd cc
+patterns_refused value (patterns.Message key fault) r is (inl same) = absurd cc
+patterns_refused value (patterns.Catalog reason) r is (inl same) = absurd cc
+patterns_refused value reason r is (inr has) = fault_refused value reason r is has
