@@ -226,34 +226,25 @@ impl Gathered {
     fn parts(&mut self) -> Result<Map<String, Value>, AllocError> {
         let alloc = self.alloc;
         let mut parts = Map::new(alloc);
-        put(
-            &mut parts,
-            alloc,
-            "cardinal",
-            taken(alloc, &mut self.cardinal),
-        )?;
-        put(
-            &mut parts,
-            alloc,
-            "ordinal",
-            taken(alloc, &mut self.ordinal),
-        )?;
+        put_part(alloc, &mut parts, "cardinal", &mut self.cardinal)?;
+        put_part(alloc, &mut parts, "ordinal", &mut self.ordinal)?;
         if !self.source.is_empty() {
-            put(&mut parts, alloc, "source", taken(alloc, &mut self.source))?;
+            put_part(alloc, &mut parts, "source", &mut self.source)?;
         }
         if !self.patterns.is_empty() {
-            put(
-                &mut parts,
-                alloc,
-                "patterns",
-                taken(alloc, &mut self.patterns),
-            )?;
+            put_part(alloc, &mut parts, "patterns", &mut self.patterns)?;
         }
         Ok(parts)
     }
 }
 
-// The object of members, which are taken.
-fn taken(alloc: Global, members: &mut Map<String, Value>) -> Value {
-    Value::Object(mem::replace(members, Map::new(alloc)))
+// Puts a part, with the members, which are taken.
+fn put_part(
+    alloc: Global,
+    parts: &mut Map<String, Value>,
+    key: &str,
+    members: &mut Map<String, Value>,
+) -> Result<(), AllocError> {
+    let members = mem::replace(members, Map::new(alloc));
+    put(parts, alloc, key, Value::Object(members))
 }
