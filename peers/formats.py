@@ -17,7 +17,7 @@ sys.set_int_max_str_digits(0)
 WRITTEN = "numbers are written anew"
 MISSING = "a missing argument"
 DOUBLES = "values are doubles"
-CHANGES = (WRITTEN, MISSING, DOUBLES)
+CHANGES = (WRITTEN, MISSING, DOUBLES, patterns.NUMBERS)
 PATTERN = "Pattern"
 PLACES = 3
 DOUBLE_DIGITS = 17
@@ -67,7 +67,7 @@ class Number:
             return None
         if exponent:
             return "CompactOffset"
-        return "OverLimit" if len(offset) > MOST_PLACES or abs(self.value() - int(offset)) >= 10**MOST_PLACES else None
+        return "OverLimit" if len(offset) > MOST_PLACES or abs(self.value() - value_of(offset)) >= 10**MOST_PLACES else None
 
 
 def digits_text(value, places):
@@ -78,14 +78,19 @@ def digits_text(value, places):
     return ("-" if value < 0 else "") + digits[:point] + ("." + digits[point:] if places else "")
 
 
+def value_of(offset):
+    """Returns the value of an offset; ICU4C's may have an exponent."""
+    return int(Fraction(offset))
+
+
 def less(number, offset, changes):
     """Returns a number less an offset, or the number itself if there is none."""
-    if offset is None or DOUBLES in changes and not int(offset):
+    if offset is None or DOUBLES in changes and not value_of(offset):
         return number
     if DOUBLES in changes:
         value = Fraction(float(number.value()) - float(offset))
         return Number(shortest(float(value)))
-    return Number(digits_text(number.value() - int(offset), number.places()))
+    return Number(digits_text(number.value() - value_of(offset), number.places()))
 
 
 def shortest(value):
@@ -213,7 +218,7 @@ def first(branches, word):
 
 def spoken(text, arguments, language, changes=()):
     """Returns what a pattern says; fails by Refused."""
-    parts, fault = patterns.read(text)
+    parts, fault = patterns.read(text, changes)
     if fault:
         raise Refused(PATTERN, "")
     return Speaker(parts, arguments, language, changes).message(0, 0, "#")

@@ -56,9 +56,8 @@ def number(random):
     return Number(("-" if random.random() < 0.1 else "") + text)
 
 
-def aimed(random, text):
-    """Returns a number near one that stands in a pattern."""
-    parts, _ = patterns.read(text)
+def aimed(random, parts):
+    """Returns a number near one that stands in a pattern, which is given by its parts."""
     found = [it[1] for _, it in parts if isinstance(it, tuple) and it[0] == "exactly"]
     offsets = [it[3] for _, it in parts if isinstance(it, tuple) and it[0] == "begin" and it[3]]
     if not found:
@@ -67,23 +66,28 @@ def aimed(random, text):
     return Number(chosen if random.random() < 0.6 or "." in chosen else str(int(chosen) + int(random.choice(offsets or ("1",)))))
 
 
+def wanted(random, parts):
+    """Returns the names of a pattern's arguments, and whether each is wanted as a text."""
+    found = {}
+    for _, piece in parts:
+        if isinstance(piece, tuple) and piece[0] == "begin":
+            found.setdefault(piece[2], piece[1] == "select")
+        elif isinstance(piece, tuple) and piece[0] == "argument":
+            found.setdefault(piece[1], random.random() < 0.5)
+    return found
+
+
 def arguments(random, text):
     """Returns random arguments for the names of a pattern: mostly of the kind that is wanted, sometimes another or none."""
     parts, _ = patterns.read(text)
-    wanted = {}
-    for _, piece in parts:
-        if isinstance(piece, tuple) and piece[0] == "begin":
-            wanted.setdefault(piece[2], piece[1] == "select")
-        elif isinstance(piece, tuple) and piece[0] == "argument":
-            wanted.setdefault(piece[1], random.random() < 0.5)
     found = {}
-    for name, is_text in wanted.items():
+    for name, is_text in wanted(random, parts).items():
         kind = random.randrange(100)
         if kind == 0:
             continue
         if kind == 1:
             is_text = not is_text
-        found[name] = random.choice(TEXTS) if is_text else aimed(random, text) if kind < 30 else number(random)
+        found[name] = random.choice(TEXTS) if is_text else aimed(random, parts) if kind < 30 else number(random)
     return found
 
 
@@ -131,6 +135,13 @@ def shown(text, values, language, theirs):
     return f"{text!r} | {listed} | {language} | {theirs!r}"
 
 
+def message_row(text, pairs, rules, result):
+    """Returns the row that wants this result of the library for a message, said from its text and packed."""
+    numbers = [word for name, it in pairs if isinstance(it, Number) for word in (name, it.text)]
+    texts = [word for name, it in pairs if not isinstance(it, Number) for word in (name, it)]
+    return cases_program.row(KIND, ", ".join(map(json.dumps, (text, numbers, texts, *rules))), result)
+
+
 class Comparison:
     """Counts of messages and of differences by class, and the shortest message of each."""
 
@@ -157,10 +168,7 @@ class Comparison:
 
     def row(self, text, values, language):
         """Returns the row that wants of the library what docs/PATTERNS.md says of a message."""
-        numbers = [word for name, it in values.items() if isinstance(it, Number) for word in (name, it.text)]
-        texts = [word for name, it in values.items() if not isinstance(it, Number) for word in (name, it)]
-        given = ", ".join(map(json.dumps, (text, numbers, texts, *self.texts[language])))
-        return cases_program.row(KIND, given, formats.row_result(text, values, self.languages[language]))
+        return message_row(text, values.items(), self.texts[language], formats.row_result(text, values, self.languages[language]))
 
 
 def compare(cases, seed, count, say):

@@ -6,6 +6,8 @@ KEYWORDS = ("zero", "one", "two", "few", "many", "one", "few", "ones", "ONE", "o
 SELECTORS = ("female", "male", "a", "b", "1", "other1", "да", "offset", "one")
 NUMBERS = ("0", "1", "2", "5", "10", "01", "-1", "1.0", "1.5", "0.25", "-0", "100000", "18446744073709551616")
 OFFSETS = ("1", "1", "2", "0", "10", "007", "99999")
+# Keywords that ICU4C takes for a part of the offset that they stand behind, with no blank between.
+GLUED = ("e2x", "e1", "E0few", "e", "E", "ex", "e3other")
 TYPES = ("plural", "plural", "plural", "selectordinal", "select", "select", "Plural", "SELECT", "selectOrdinal")
 BLANKS = ("", "", "", "", " ", " ", "  ", "\n", "\t", "\r\n")
 BLANKS_ABOVE_ASCII = ("\u2028", "\u2029", "\u200e", "\u200f", "\x85")
@@ -89,10 +91,16 @@ class Made:
     def choice(self, depth):
         kind = self.pick(TYPES)
         is_select = kind.lower() == "select"
-        offset = "" if is_select or self.random.random() < 0.7 else f"{self.blank()}offset:{self.wide_blank()}{self.pick(OFFSETS, ODD_NUMBERS)} "
+        offset = "" if is_select or self.random.random() < 0.7 else self.offset(depth)
         branches = [self.branch(self.selector(is_select), depth) for _ in range(self.random.choice((0, 1, 1, 2, 3)))]
         branches.insert(self.random.randrange(len(branches) + 1), self.branch("other", depth))
         return f"{self.head()},{self.wide_blank()}{kind}{self.wide_blank()},{offset}{''.join(branches)}{self.wide_blank()}}}"
+
+    def offset(self, depth):
+        """Returns an offset, behind which a blank, nothing, or a branch with a glued keyword stands."""
+        behind = self.random.random()
+        glued = f"{self.pick(GLUED)}{self.blank_after_name()}{{{self.message(depth + 1)}}}" if behind < 0.05 else "" if behind < 0.15 else " "
+        return f"{self.blank()}offset:{self.wide_blank()}{self.pick(OFFSETS, ODD_NUMBERS)}{glued}"
 
     def selector(self, is_select):
         if is_select:

@@ -10,6 +10,7 @@ use message_report::Severity;
 use plural_documents::name_text;
 use serde_json::{Map, Value, put};
 use std::alloc::{AllocError, Global};
+use std::mem;
 
 // A message as it goes into a document.
 #[derive(Drop)]
@@ -34,6 +35,8 @@ pub(crate) struct Note {
 #[derive(Drop)]
 pub(crate) struct Gathered {
     pub(crate) alloc: Global,
+    // The name of the file, if that is another one than was read.
+    name: Option<String>,
     pub(crate) locale: String,
     cardinal: Map<String, Value>,
     ordinal: Map<String, Value>,
@@ -49,6 +52,7 @@ impl Gathered {
     pub(crate) fn new(alloc: Global) -> Gathered {
         Gathered {
             alloc,
+            name: None,
             locale: String::new(alloc),
             cardinal: Map::new(alloc),
             ordinal: Map::new(alloc),
@@ -58,6 +62,12 @@ impl Gathered {
             notices: Vec::new(alloc),
             counts: FileCounts::none(),
         }
+    }
+
+    // Keeps the name of the file.
+    pub(crate) fn keep_name(&mut self, name: &str) -> Result<(), AllocError> {
+        self.name = Some(String::from_str(self.alloc, name)?);
+        Ok(())
     }
 
     // Tells what is wrong.
@@ -92,6 +102,12 @@ impl Gathered {
             text,
         })?;
         Ok(())
+    }
+
+    // Tells that a file isn't read.
+    pub(crate) fn tell_not_read(&mut self, text: &str) -> Result<(), AllocError> {
+        let text = String::from_str(self.alloc, text)?;
+        self.tell(None, NoticeCode::NotRead, text)
     }
 
     // Tells that a file has no messages.
@@ -185,46 +201,50 @@ impl Gathered {
     }
 
     // What was gathered.
-    pub(crate) fn finish(self) -> Result<FileMessages, AllocError> {
-        let Gathered {
-            alloc,
-            locale,
-            cardinal,
-            ordinal,
-            patterns,
-            source,
-            places,
-            notices,
-            counts,
-        } = self;
-        let mut document = Map::new(alloc);
-        if !cardinal.is_empty() || !ordinal.is_empty() || !patterns.is_empty() {
-            let mut parts = Map::new(alloc);
-            put(&mut parts, alloc, "cardinal", Value::Object(cardinal))?;
-            put(&mut parts, alloc, "ordinal", Value::Object(ordinal))?;
-            put_unless_empty(alloc, &mut parts, "source", source)?;
-            put_unless_empty(alloc, &mut parts, "patterns", patterns)?;
-            put(&mut document, alloc, locale.as_str(), Value::Object(parts))?;
-        }
+    pub(crate) fn finish(mut self) -> Result<FileMessages, AllocError> {
+        let document = self.document()?;
         Ok(FileMessages {
-            name: None,
-            document: Value::Object(document),
-            places,
-            notices,
-            counts,
+            name: self.name,
+            document,
+            places: self.places,
+            notices: self.notices,
+            counts: self.counts,
         })
+    }
+
+    // The document of the messages, which go into it.
+    fn document(&mut self) -> Result<Value, AllocError> {
+        let mut document = Map::new(self.alloc);
+        if !self.cardinal.is_empty() || !self.ordinal.is_empty() || !self.patterns.is_empty() {
+            let parts = Value::Object(self.parts()?);
+            put(&mut document, self.alloc, self.locale.as_str(), parts)?;
+        }
+        Ok(Value::Object(document))
+    }
+
+    // The parts of the locale, with the messages.
+    fn parts(&mut self) -> Result<Map<String, Value>, AllocError> {
+        let alloc = self.alloc;
+        let mut parts = Map::new(alloc);
+        put_part(alloc, &mut parts, "cardinal", &mut self.cardinal)?;
+        put_part(alloc, &mut parts, "ordinal", &mut self.ordinal)?;
+        if !self.source.is_empty() {
+            put_part(alloc, &mut parts, "source", &mut self.source)?;
+        }
+        if !self.patterns.is_empty() {
+            put_part(alloc, &mut parts, "patterns", &mut self.patterns)?;
+        }
+        Ok(parts)
     }
 }
 
-// Puts a part, if it has members.
-fn put_unless_empty(
+// Puts a part, with the members, which are taken.
+fn put_part(
     alloc: Global,
     parts: &mut Map<String, Value>,
     key: &str,
-    members: Map<String, Value>,
+    members: &mut Map<String, Value>,
 ) -> Result<(), AllocError> {
-    if members.is_empty() {
-        return Ok(());
-    }
+    let members = mem::replace(members, Map::new(alloc));
     put(parts, alloc, key, Value::Object(members))
 }

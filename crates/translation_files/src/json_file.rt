@@ -28,8 +28,8 @@ use crate::code::NoticeCode;
 use crate::counts::{Fate, FileCounts};
 use crate::file_messages::FileMessages;
 use crate::gathered::Gathered;
-use crate::locale_name::{Said, locale_of};
-use crate::po::read_po;
+use crate::locale_name::{Said, locale_of, text_of};
+use crate::po::gather_po;
 use arb_locale::locale_of_name;
 use document_places::{PlacesFound, places_of_document};
 use fault::tell_fault;
@@ -37,11 +37,10 @@ use found_messages::{add_found, messages_in, tell_repeated};
 use icu_plurals::{PluralCategory, PluralRuleType};
 use json::Scratch;
 use message_report::RulesOfLocales;
-use serde_json::{Map, Value};
+use serde_json::{Error, Map, Value};
 use std::alloc::{AllocError, Global};
-use std::str;
 use texts::{JsonTexts, json_texts};
-use told::{ToldCatalog, ToldFile, add_notices, add_told, told_catalog, told_file};
+use told::{ToldFile, add_notices, add_told, told_catalog, told_file};
 
 /// Reads a JSON file of messages.
 ///
@@ -64,11 +63,11 @@ pub fn read_json<S: RulesOfLocales>(
 ) -> Result<FileMessages, AllocError> {
     let bytes = without_mark(bytes);
     match Value::from_slice(alloc, bytes) {
-        Ok(value) => read_value(alloc, name, bytes, value, rules, locale),
-        Err(fault) if fault.is_memory() => Err(AllocError),
-        Err(fault) => {
+        Ok(value) if is_document(&value) => placed_document(alloc, text_of(bytes), value),
+        read => {
             let mut gathered = Gathered::new(alloc);
-            tell_fault(&mut gathered, bytes, &fault)?;
+            gather(&mut gathered, name, bytes, &read, rules, locale)?;
+            drop(read);
             gathered.finish()
         }
     }
@@ -194,41 +193,11 @@ fn has_zero<S: RulesOfLocales>(rules: &S, locale: &str) -> bool {
     }
 }
 
-// Reads a file, given its bytes and its value.
-fn read_value<S: RulesOfLocales>(
-    alloc: Global,
-    name: &str,
-    bytes: &[u8],
-    value: Value,
-    rules: &S,
-    locale: Option<&str>,
-) -> Result<FileMessages, AllocError> {
-    let Ok(text) = str::from_utf8(bytes) else {
-        return Gathered::new(alloc).finish();
-    };
-    let mut scratch = Scratch::new(alloc);
-    if is_document(&value) {
-        let found = places_of_document(alloc, text, &mut scratch)?;
-        return placed_document(alloc, value, found);
-    }
-    if let Some(told) = told_file(&value) {
-        return read_told(alloc, &value, told, rules, locale);
-    }
-    if let Some(told) = told_catalog(&value) {
-        return read_told_catalog(alloc, told, rules, locale);
-    }
-    let texts = json_texts(alloc, text, &mut scratch)?;
-    read_texts(alloc, name, &texts, rules, locale)
-}
-
 // A document with the places of its messages.
-fn placed_document(
-    alloc: Global,
-    document: Value,
-    found: PlacesFound,
-) -> Result<FileMessages, AllocError> {
+fn placed_document(alloc: Global, text: &str, document: Value) -> Result<FileMessages, AllocError> {
+    let mut scratch = Scratch::new(alloc);
+    let PlacesFound { places, count } = places_of_document(alloc, text, &mut scratch)?;
     let mut counts = FileCounts::none();
-    let PlacesFound { places, count } = found;
     counts.add(Fate::Checked, count)?;
     Ok(FileMessages {
         name: None,
@@ -239,56 +208,80 @@ fn placed_document(
     })
 }
 
-// Reads what a tool tells of a file.
-fn read_told<S: RulesOfLocales>(
-    alloc: Global,
+// Gathers what is in a file that is no document, given what is read of its bytes.
+fn gather<S: RulesOfLocales>(
+    gathered: &mut Gathered,
+    name: &str,
+    bytes: &[u8],
+    read: &Result<Value, Error>,
+    rules: &S,
+    locale: Option<&str>,
+) -> Result<(), AllocError> {
+    match read {
+        Ok(value) => {
+            if let Some(told) = told_file(value) {
+                return gather_told(gathered, value, told, rules, locale);
+            }
+            if let Some(told) = told_catalog(value) {
+                gathered.keep_name(told.name)?;
+                return gather_po(gathered, told.name, told.text.as_bytes(), rules, locale);
+            }
+            gather_texts(gathered, name, text_of(bytes), rules, locale)
+        }
+        Err(fault) if fault.is_memory() => Err(AllocError),
+        Err(fault) => tell_fault(gathered, bytes, fault),
+    }
+}
+
+// Gathers what a tool tells of a file.
+fn gather_told<S: RulesOfLocales>(
+    gathered: &mut Gathered,
     value: &Value,
     told: ToldFile<'_>,
     rules: &S,
     locale: Option<&str>,
-) -> Result<FileMessages, AllocError> {
-    let mut gathered = Gathered::new(alloc);
-    add_notices(&mut gathered, value)?;
+) -> Result<(), AllocError> {
+    gathered.keep_name(told.name)?;
+    add_notices(gathered, value)?;
     let named = locale.or(told.locale);
     let count = told.messages.len() as u64;
-    if count > 0 && keep_locale(&mut gathered, rules, named, told.name, count)? {
-        add_told(&mut gathered, told.messages)?;
+    if count > 0 && keep_locale(gathered, rules, named, told.name, count)? {
+        add_told(gathered, told.messages)?;
     }
-    let mut messages = gathered.finish()?;
-    messages.name = Some(String::from_str(alloc, told.name)?);
-    Ok(messages)
+    Ok(())
 }
 
-// Reads a catalog that a tool tells.
-fn read_told_catalog<S: RulesOfLocales>(
-    alloc: Global,
-    told: ToldCatalog<'_>,
+// Gathers the texts of a file.
+fn gather_texts<S: RulesOfLocales>(
+    gathered: &mut Gathered,
+    name: &str,
+    text: &str,
     rules: &S,
     locale: Option<&str>,
-) -> Result<FileMessages, AllocError> {
-    let mut messages = read_po(alloc, told.name, told.text.as_bytes(), rules, locale)?;
-    messages.name = Some(String::from_str(alloc, told.name)?);
-    Ok(messages)
+) -> Result<(), AllocError> {
+    let mut scratch = Scratch::new(gathered.alloc);
+    let texts = json_texts(gathered.alloc, text, &mut scratch)?;
+    tell_repeated(gathered, &texts.keys, &texts.repeated)?;
+    let named = locale.or(texts.locale).or(locale_of_name(name, rules));
+    add_texts(gathered, name, &texts, rules, named)
 }
 
-// Reads the texts of a file.
-fn read_texts<S: RulesOfLocales>(
-    alloc: Global,
+// Adds the messages in the texts of a file.
+fn add_texts<S: RulesOfLocales>(
+    gathered: &mut Gathered,
     name: &str,
     texts: &JsonTexts<'_>,
     rules: &S,
-    locale: Option<&str>,
-) -> Result<FileMessages, AllocError> {
-    let found = messages_in(alloc, texts)?;
-    let mut gathered = Gathered::new(alloc);
-    tell_repeated(&mut gathered, &texts.keys, &texts.repeated)?;
-    let named = locale.or(texts.locale).or(locale_of_name(name, rules));
+    named: Option<&str>,
+) -> Result<(), AllocError> {
+    let found = messages_in(gathered.alloc, texts)?;
     let count = found.count();
     if count == 0 {
-        gathered.note_no_messages()?;
-    } else if keep_locale(&mut gathered, rules, named, name, count)? {
-        let has_zero = has_zero(rules, gathered.locale.as_str());
-        add_found(&mut gathered, &texts.keys, &found, has_zero)?;
+        return gathered.note_no_messages();
     }
-    gathered.finish()
+    if keep_locale(gathered, rules, named, name, count)? {
+        let has_zero = has_zero(rules, gathered.locale.as_str());
+        add_found(gathered, &texts.keys, &found, has_zero)?;
+    }
+    Ok(())
 }

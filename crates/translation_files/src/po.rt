@@ -10,6 +10,7 @@ mod message;
 mod mistakes;
 mod numbers;
 mod read_text;
+mod refusal;
 mod source_number;
 mod standing;
 mod text_format;
@@ -17,13 +18,13 @@ mod text_format;
 use crate::code::NoticeCode;
 use crate::counts::Fate;
 use crate::file_messages::FileMessages;
-use crate::gathered::{Gathered, Note};
+use crate::gathered::Gathered;
 use faults::{other_charset, tell_faults};
-use header::{Found, forms_of_file};
-use message::{add_messages, compare_messages};
+use header::{PoFile, read_messages};
 use message_report::RulesOfLocales;
 use plural_documents::name_text;
 use po_catalog::Catalog;
+use refusal::{left_out, line_of_header};
 use standing::{Standings, standings_of};
 use std::alloc::{AllocError, Global};
 
@@ -39,18 +40,29 @@ pub fn read_po<S: RulesOfLocales>(
     rules: &S,
     locale: Option<&str>,
 ) -> Result<FileMessages, AllocError> {
-    let mut catalog = Catalog::read(alloc, bytes)?;
-    catalog.faults.sort_by_key(|it| it.line)?;
     let mut gathered = Gathered::new(alloc);
+    gather_po(&mut gathered, name, bytes, rules, locale)?;
+    gathered.finish()
+}
+
+// Gathers what is in a catalog.
+pub(crate) fn gather_po<S: RulesOfLocales>(
+    gathered: &mut Gathered,
+    name: &str,
+    bytes: &[u8],
+    rules: &S,
+    locale: Option<&str>,
+) -> Result<(), AllocError> {
+    let mut catalog = Catalog::read(gathered.alloc, bytes)?;
+    catalog.faults.sort_by_key(|it| it.line)?;
     if catalog.entries.is_empty() {
         let text = "it is no file of messages: name a file of gettext, i18next or ARB";
-        gathered.tell(None, NoticeCode::NotRead, String::from_str(alloc, text)?)?;
-    } else if let Some(charset) = other_charset(&catalog) {
-        refuse_charset(&mut gathered, &catalog, charset)?;
-    } else {
-        read_catalog(&mut gathered, &catalog, name, rules, locale)?;
+        return gathered.tell_not_read(text);
     }
-    gathered.finish()
+    if let Some(charset) = other_charset(&catalog) {
+        return refuse_charset(gathered, &catalog, charset);
+    }
+    read_catalog(gathered, &catalog, name, rules, locale)
 }
 
 // Tells that the file is to be converted.
@@ -70,22 +82,6 @@ fn refuse_charset(
     gathered.count(Fate::LeftOut, count)
 }
 
-// How many messages are left out, in words.
-fn left_out(alloc: Global, count: u64) -> Result<String, AllocError> {
-    if count == 1 {
-        return String::from_str(alloc, "1 message is left out");
-    }
-    format!(in alloc; "{count} messages are left out")
-}
-
-// The line of the header, if there is one.
-fn line_of_header(catalog: &Catalog) -> Option<u64> {
-    match catalog.header() {
-        Some(header) => Some(header.line as u64),
-        None => None,
-    }
-}
-
 // Reads the messages of a catalog.
 fn read_catalog<S: RulesOfLocales>(
     gathered: &mut Gathered,
@@ -103,44 +99,13 @@ fn read_catalog<S: RulesOfLocales>(
     if standings.whole == 0 {
         return Ok(());
     }
-    let Found { forms, indices } = forms_of_file(gathered, catalog, name, rules, locale)?;
-    match forms {
-        Ok(forms) => add_messages(gathered, catalog, forms),
-        Err(refusal) => {
-            let has_indices = indices.is_some();
-            tell_refusal(gathered, catalog, refusal, has_indices, standings.whole)?;
-            compare_messages(gathered, catalog, indices)
-        }
-    }
-}
-
-// Tells why so many messages aren't checked by the rules: they are checked by the file's own rule, or
-// left out, if that has no indices.
-fn tell_refusal(
-    gathered: &mut Gathered,
-    catalog: &Catalog,
-    refusal: Note,
-    has_indices: bool,
-    count: u64,
-) -> Result<(), AllocError> {
-    let alloc = gathered.alloc;
-    let (fate, left) = if has_indices {
-        (Fate::Noted, checked_alone(alloc, count)?)
-    } else {
-        (Fate::LeftOut, left_out(alloc, count)?)
+    let file = PoFile {
+        catalog,
+        name,
+        rules,
+        locale,
     };
-    let Note { code, text } = refusal;
-    let text = format!(in alloc; "{text}; {left}")?;
-    gathered.tell(line_of_header(catalog), code, text)?;
-    gathered.count(fate, count)
-}
-
-// How many messages are checked without the rules, in words.
-fn checked_alone(alloc: Global, count: u64) -> Result<String, AllocError> {
-    if count == 1 {
-        return String::from_str(alloc, "1 message is checked by the file's own rule");
-    }
-    format!(in alloc; "{count} messages are checked by the file's own rule")
+    read_messages(gathered, &file)
 }
 
 // Tells how many messages need no check.

@@ -1,6 +1,5 @@
 //! A file of any kind that is read.
 
-use crate::code::NoticeCode;
 use crate::file_messages::FileMessages;
 use crate::gathered::Gathered;
 use crate::json_file::read_json;
@@ -45,7 +44,7 @@ pub fn read_messages<S: RulesOfLocales>(
 /// Returns what is told of a file that isn't read, and no messages.
 pub fn no_messages(alloc: Global, text: &str) -> Result<FileMessages, AllocError> {
     let mut gathered = Gathered::new(alloc);
-    gathered.tell(None, NoticeCode::NotRead, String::from_str(alloc, text)?)?;
+    gathered.tell_not_read(text)?;
     gathered.finish()
 }
 

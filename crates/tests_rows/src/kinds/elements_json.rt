@@ -53,14 +53,18 @@ fn print_written(call: &mut Call, packed: &PluralElementsPackedCow<'_>) {
 // Whether the elements that are read from what was written are the same.
 fn elements_through_json(call: &mut Call) {
     let source = Source::next(call);
-    let Some(packed) = source.packed(call) else {
-        return;
-    };
+    if let Some(packed) = source.packed(call) {
+        print_through_json(call, &packed);
+    }
+}
+
+// Prints whether what is read from the value that is written for elements equals them.
+fn print_through_json(call: &mut Call, packed: &PluralElementsPackedCow<'_>) {
     let Ok(value) = packed.to_json(call.alloc) else {
         return call.out_of_memory();
     };
     match PluralElementsPackedCow::from_json(call.alloc, &value) {
-        Ok(again) => call.print_truth(again == packed),
+        Ok(again) => call.print_truth(again == *packed),
         Err(fault) => call.print_error(&fault),
     }
 }

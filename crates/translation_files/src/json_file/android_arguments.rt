@@ -6,7 +6,7 @@ use crate::json_file::text_bytes::{Class, after_byte, behind_run, is_in, split_r
 use std::alloc::{AllocError, Global};
 
 // What an argument converts.
-#[derive(Clone, Copy, Debug, PartialEq, Eq)]
+#[derive(Clone, Copy, PartialEq, Eq)]
 pub(crate) enum AndroidKind {
     Integer,
     Unsigned,

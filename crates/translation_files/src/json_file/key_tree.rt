@@ -10,7 +10,7 @@ const MOST_CUTS: usize = 262_144;
 pub(crate) const ROOT: usize = 0;
 
 // A piece of a key, below the place that the pieces before it lead to.
-#[derive(Clone, Copy, Debug, PartialEq, Eq, PartialOrd, Ord)]
+#[derive(Clone, Copy, PartialEq, Eq, PartialOrd, Ord)]
 pub(crate) struct Piece<'a> {
     pub(crate) parent: usize,
     pub(crate) name: &'a str,

@@ -100,21 +100,16 @@ pub(crate) fn compare(
     if let TextFormat::Unread = format {
         return Ok(Ok(unread(alloc, entry)?));
     }
-    let texts = read_texts(alloc, entry, format, source)?;
-    let is_told = matches!(format, TextFormat::Flagged(_)) && texts.is_source_whole();
-    if is_told {
-        let compared = Compared {
-            singular: &texts.singular,
-            plural: &texts.plural,
-            number: if is_number_checked {
-                texts.number
-            } else {
-                None
-            },
-        };
-        tell_mistakes(gathered, entry, &compared, texts.forms.as_slice(), times)?;
-    }
-    Ok(Ok(sides_of(alloc, &texts, is_told)?))
+    let singular = read_text(alloc, format, source.singular)?;
+    let plural = read_text(alloc, format, source.plural)?;
+    let forms = read_forms(alloc, entry, format)?;
+    let texts = Texts {
+        format,
+        singular: &singular,
+        plural: &plural,
+        forms: forms.as_slice(),
+    };
+    Ok(Ok(compare_texts(gathered, entry, texts, times, is_number_checked)?))
 }
 
 // Whether a form has more arguments than are read.
@@ -126,59 +121,80 @@ fn forms_have_too_many(entry: &Entry) -> bool {
 }
 
 // The texts of a message, and their arguments.
-#[derive(Drop)]
-struct Texts<'e> {
-    singular: Read<'e>,
-    plural: Read<'e>,
-    forms: Vec<Read<'e>>,
-    // The arguments of the plural that are some.
-    kept: Vec<Argument<'e>>,
-    number: Option<Name<'e>>,
+#[derive(Clone, Copy)]
+struct Texts<'a, 'e> {
+    format: TextFormat,
+    singular: &'a Read<'e>,
+    plural: &'a Read<'e>,
+    forms: &'a [Read<'e>],
 }
 
-impl Texts<'_> {
-    // Whether no sign in the source begins an argument and is none.
-    fn is_source_whole(&self) -> bool {
-        self.singular.fault.is_none() && self.plural.fault.is_none()
+impl<'e> Texts<'_, 'e> {
+    // Whether mistakes are told: a flag names the format, and no sign in the source begins an argument
+    // and is none.
+    fn are_told(&self) -> bool {
+        matches!(self.format, TextFormat::Flagged(_))
+            && self.singular.fault.is_none()
+            && self.plural.fault.is_none()
+    }
+
+    // The arguments of the plural that are some: without a flag, those that forms have, too.
+    fn kept(&self, alloc: Global) -> Result<Vec<Argument<'e>>, AllocError> {
+        let plural = self.plural.items.as_slice();
+        match self.format {
+            TextFormat::Unflagged => shared(alloc, plural, self.forms),
+            _ => unshared(alloc, plural),
+        }
     }
 }
 
-// Reads the texts of a message.
-fn read_texts<'e>(
+// Reads the forms of a message.
+fn read_forms<'e>(
     alloc: Global,
     entry: &'e Entry,
     format: TextFormat,
-    source: Source<'e>,
-) -> Result<Texts<'e>, AllocError> {
-    let singular = read_text(alloc, format, source.singular)?;
-    let plural = read_text(alloc, format, source.plural)?;
+) -> Result<Vec<Read<'e>>, AllocError> {
     let mut forms = Vec::new(alloc);
     for it in entry.forms.iter() {
         forms.push(read_text(alloc, format, it.bytes.as_slice())?)?;
     }
-    let kept = match format {
-        TextFormat::Unflagged => shared(alloc, plural.items.as_slice(), forms.as_slice())?,
-        _ => unshared(alloc, plural.items.as_slice())?,
-    };
-    let number = number_in(alloc, kept.as_slice(), &plural, &singular)?;
-    Ok(Texts {
-        singular,
-        plural,
-        forms,
-        kept,
-        number,
-    })
+    Ok(forms)
 }
 
-// What goes into the document of a message's texts, whose mistakes are told or not.
-fn sides_of(alloc: Global, texts: &Texts<'_>, is_told: bool) -> Result<Sides, AllocError> {
-    let kept = texts.kept.as_slice();
-    let number = texts.number;
+// Compares the texts of a message.
+fn compare_texts(
+    gathered: &mut Gathered,
+    entry: &Entry,
+    texts: Texts<'_, '_>,
+    times: Times<'_>,
+    is_number_checked: bool,
+) -> Result<Sides, AllocError> {
+    let alloc = gathered.alloc;
+    let kept = texts.kept(alloc)?;
+    let number = number_in(alloc, kept.as_slice(), texts.plural, texts.singular)?;
+    if texts.are_told() {
+        let compared = Compared {
+            singular: texts.singular,
+            plural: texts.plural,
+            number: if is_number_checked { number } else { None },
+        };
+        tell_mistakes(gathered, entry, &compared, texts.forms, times)?;
+    }
+    sides_of(alloc, texts, kept.as_slice(), number)
+}
+
+// What goes into the document of a message's texts.
+fn sides_of(
+    alloc: Global,
+    texts: Texts<'_, '_>,
+    kept: &[Argument<'_>],
+    number: Option<Name<'_>>,
+) -> Result<Sides, AllocError> {
     Ok(Sides {
-        texts: marked_texts(alloc, texts.forms.as_slice(), kept, number, is_told)?,
-        source: source_value(alloc, &texts.plural, kept, number)?,
-        placeholder: placeholder_of(alloc, &texts.plural, kept, number)?,
-        note: note_of(alloc, &texts.plural, kept, number)?,
+        texts: marked_texts(alloc, texts.forms, kept, number, texts.are_told())?,
+        source: source_value(alloc, texts.plural, kept, number)?,
+        placeholder: placeholder_of(alloc, texts.plural, kept, number)?,
+        note: note_of(alloc, texts.plural, kept, number)?,
     })
 }
 

@@ -1,14 +1,14 @@
-//! The forms of a catalog, by its header.
+//! The messages of a catalog, read by its header.
 
 use crate::code::NoticeCode;
-use crate::gathered::{Gathered, Note};
+use crate::gathered::Gathered;
 use crate::locale_name::{Said, locale_of};
 use crate::po::indices::{Indices, Read, indices_of};
-use crate::po::laid::{Clash, Laid, lay};
-use icu_plurals::provider::RawPluralCategory;
+use crate::po::laid::lay;
+use crate::po::message::{Forms, add_messages};
+use crate::po::refusal::{line_of_header, refuse, refuse_clash, refuse_language};
 use icu_plurals::{PluralRuleType, PluralRules};
 use message_report::RulesOfLocales;
-use plural_documents::name_text;
 use po_catalog::Catalog;
 use std::alloc::{AllocError, Global};
 use std::fmt::Write;
@@ -17,62 +17,62 @@ use std::str;
 // How many numbers a notice names.
 const MOST_NAMED: usize = 3;
 
-// The forms of a catalog.
+// A catalog of this name, the rules of locales, and the locale that is asked for.
 #[derive(Drop)]
-pub(crate) struct Forms {
-    pub(crate) indices: Indices,
-    pub(crate) laid: Laid,
+pub(crate) struct PoFile<'a, S> {
+    pub(crate) catalog: &'a Catalog,
+    pub(crate) name: &'a str,
+    pub(crate) rules: &'a S,
+    pub(crate) locale: Option<&'a str>,
 }
 
-// The forms of a catalog, or why they aren't known, and what is known of its indices then.
-#[derive(Drop)]
-pub(crate) struct Found {
-    pub(crate) forms: Result<Forms, Note>,
-    pub(crate) indices: Option<Indices>,
-}
-
-// Why the forms aren't known, and what is known of the indices.
-fn refused(code: NoticeCode, text: String, indices: Option<Indices>) -> Found {
-    Found {
-        forms: Err(Note { code, text }),
-        indices,
-    }
-}
-
-// The forms of a catalog under the locale that is known then, and notices of how they are taken.
-pub(crate) fn forms_of_file<S: RulesOfLocales>(
+// Reads the messages by the header.
+pub(crate) fn read_messages<S: RulesOfLocales>(
     gathered: &mut Gathered,
-    catalog: &Catalog,
-    name: &str,
-    rules: &S,
-    locale: Option<&str>,
-) -> Result<Found, AllocError> {
-    let alloc = gathered.alloc;
-    let Some(header) = catalog.header() else {
+    file: &PoFile<'_, S>,
+) -> Result<(), AllocError> {
+    if file.catalog.header().is_none() {
         let text = "it has no header, with Language and Plural-Forms: write one (msginit makes it)";
-        let text = String::from_str(alloc, text)?;
-        return Ok(refused(NoticeCode::Header, text, None));
-    };
-    let line = header.line as u64;
-    let text = catalog.header_field(b"Plural-Forms").unwrap_or(b"");
-    let indices = match indices_of(alloc, text)? {
-        Read::Indices(indices) => indices,
-        Read::Fault(text) => return Ok(refused(NoticeCode::PluralForms, text, None)),
-    };
-    let said = match locale {
-        Some(locale) => locale_of(alloc, Some(locale), name, rules)?,
-        None => locale_of(alloc, language_of(catalog), name, rules)?,
-    };
-    let own = match said {
-        Said::Locale(own) => own,
-        Said::Fault(text) => return Ok(refused(NoticeCode::Language, text, Some(indices))),
-    };
-    if locale.is_none() && own.as_str() == "pt" && is_portugals(&indices) {
-        tell_portugals(gathered, line)?;
-        let own = String::from_str(alloc, "pt-PT")?;
-        return forms_under(gathered, line, own, rules, indices);
+        return refuse(gathered, file.catalog, NoticeCode::Header, text, None);
     }
-    forms_under(gathered, line, own, rules, indices)
+    let text = file.catalog.header_field(b"Plural-Forms").unwrap_or(b"");
+    match indices_of(gathered.alloc, text)? {
+        Read::Indices(indices) => read_indexed(gathered, file, &indices),
+        Read::Fault(text) => {
+            let code = NoticeCode::PluralForms;
+            refuse(gathered, file.catalog, code, text.as_str(), None)
+        }
+    }
+}
+
+// Reads the messages whose forms have these indices.
+fn read_indexed<S: RulesOfLocales>(
+    gathered: &mut Gathered,
+    file: &PoFile<'_, S>,
+    indices: &Indices,
+) -> Result<(), AllocError> {
+    let named = file.locale.or(language_of(file.catalog));
+    match locale_of(gathered.alloc, named, file.name, file.rules)? {
+        Said::Locale(locale) => read_said(gathered, file, locale.as_str(), indices),
+        Said::Fault(text) => {
+            let code = NoticeCode::Language;
+            refuse(gathered, file.catalog, code, text.as_str(), Some(indices))
+        }
+    }
+}
+
+// Reads the messages of a file in the locale that is asked for, or that it says.
+fn read_said<S: RulesOfLocales>(
+    gathered: &mut Gathered,
+    file: &PoFile<'_, S>,
+    locale: &str,
+    indices: &Indices,
+) -> Result<(), AllocError> {
+    if file.locale.is_none() && locale == "pt" && is_portugals(indices) {
+        tell_portugals(gathered, file.catalog)?;
+        return read_under(gathered, file, "pt-PT", indices);
+    }
+    read_under(gathered, file, locale, indices)
 }
 
 // The language that a header names.
@@ -91,61 +91,53 @@ fn is_portugals(indices: &Indices) -> bool {
 }
 
 // Tells that a catalog is taken as one of Portugal.
-fn tell_portugals(gathered: &mut Gathered, line: u64) -> Result<(), AllocError> {
+fn tell_portugals(gathered: &mut Gathered, catalog: &Catalog) -> Result<(), AllocError> {
     let text =
         "its Plural-Forms is Portugal's, so it is taken as pt-PT: write that as its Language, or name another by --locale";
     let text = String::from_str(gathered.alloc, text)?;
-    gathered.note(Some(line), NoticeCode::TakenAs, text)
+    gathered.note(line_of_header(catalog), NoticeCode::TakenAs, text)
 }
 
-// The forms under the rules of a locale.
-fn forms_under<S: RulesOfLocales>(
+// Reads the messages under the rules of a locale.
+fn read_under<S: RulesOfLocales>(
     gathered: &mut Gathered,
-    line: u64,
-    locale: String,
-    rules: &S,
-    indices: Indices,
-) -> Result<Found, AllocError> {
-    let alloc = gathered.alloc;
-    let Some(data) = rules.rules_of(PluralRuleType::Cardinal, locale.as_str()) else {
-        let shown = name_text(alloc, locale.as_str())?;
-        let text = format!(in alloc;
-            "the rules have no language '{shown}': name one that has the same forms by --locale"
-        )?;
-        return Ok(refused(NoticeCode::Language, text, Some(indices)));
-    };
-    let forms = match lay(alloc, &indices, &PluralRules::from_data(data))? {
-        Ok(laid) => {
-            tell_differing(gathered, line, locale.as_str(), laid.differing.as_slice())?;
-            Found {
-                forms: Ok(Forms { indices, laid }),
-                indices: None,
-            }
+    file: &PoFile<'_, S>,
+    locale: &str,
+    indices: &Indices,
+) -> Result<(), AllocError> {
+    match file.rules.rules_of(PluralRuleType::Cardinal, locale) {
+        Some(rules) => {
+            let rules = PluralRules::from_data(rules);
+            let read = read_by(gathered, file, locale, indices, &rules);
+            drop(rules);
+            read
         }
-        Err(clash) => {
-            let text = clash_text(alloc, locale.as_str(), clash)?;
-            refused(NoticeCode::PluralForms, text, Some(indices))
-        }
-    };
-    gathered.locale = locale;
-    Ok(forms)
+        None => refuse_language(gathered, file.catalog, locale, indices),
+    }
 }
 
-// What is told of two numbers of one category that have two indices.
-fn clash_text(alloc: Global, locale: &str, clash: Clash) -> Result<String, AllocError> {
-    let category = RawPluralCategory::from(clash.category).as_str();
-    let Clash { first, second, .. } = clash;
-    let (one, other) = (first.number, second.number);
-    let (left, right) = (first.index, second.index);
-    format!(in alloc;
-        "{one} and {other} have one form in {locale} ({category}), and by its Plural-Forms two, {left} and {right}: correct it (plural_forms gettext {locale} prints one)"
-    )
+// Reads the messages under these rules.
+fn read_by<S>(
+    gathered: &mut Gathered,
+    file: &PoFile<'_, S>,
+    locale: &str,
+    indices: &Indices,
+    rules: &PluralRules<'_>,
+) -> Result<(), AllocError> {
+    let laid = match lay(gathered.alloc, indices, rules)? {
+        Ok(laid) => laid,
+        Err(clash) => return refuse_clash(gathered, file.catalog, locale, indices, clash),
+    };
+    tell_differing(gathered, file.catalog, locale, laid.differing.as_slice())?;
+    gathered.locale = String::from_str(gathered.alloc, locale)?;
+    let laid = &laid;
+    add_messages(gathered, file.catalog, Forms { indices, laid })
 }
 
 // Tells for which numbers a catalog and the rules differ.
 fn tell_differing(
     gathered: &mut Gathered,
-    line: u64,
+    catalog: &Catalog,
     locale: &str,
     differing: &[u64],
 ) -> Result<(), AllocError> {
@@ -157,7 +149,7 @@ fn tell_differing(
     let text = format!(in alloc;
         "its Plural-Forms and CLDR's rules of {locale} differ for {numbers}, where the file's are taken: compare it with what plural_forms gettext {locale} prints"
     )?;
-    gathered.note(Some(line), NoticeCode::RulesDiffer, text)
+    gathered.note(line_of_header(catalog), NoticeCode::RulesDiffer, text)
 }
 
 // The first of some numbers, and whether there are more.

@@ -5,24 +5,30 @@ use crate::counts::Fate;
 use crate::gathered::{Gathered, Message, Note};
 use crate::lines::{FormLine, MessageKind, MessageLines};
 use crate::po::compared::{Sides, Times, compare, line_of};
-use crate::po::header::Forms;
 use crate::po::indices::Indices;
-use crate::po::laid::FormIndex;
+use crate::po::laid::{FormIndex, Laid};
 use crate::po::standing::{Standing, standing_of};
 use message_report::Form;
 use po_catalog::{Catalog, Entry, Text};
 use serde_json::{Map, Value, put};
 use std::alloc::{AllocError, Global};
 
+// The forms of a catalog: their indices, and these laid beside the categories.
+#[derive(Clone, Copy)]
+pub(crate) struct Forms<'a> {
+    pub(crate) indices: &'a Indices,
+    pub(crate) laid: &'a Laid,
+}
+
 // Adds the messages of a catalog.
 pub(crate) fn add_messages(
     gathered: &mut Gathered,
     catalog: &Catalog,
-    forms: Forms,
+    forms: Forms<'_>,
 ) -> Result<(), AllocError> {
     for entry in catalog.entries.iter() {
         if let Standing::Whole = standing_of(entry) {
-            add_message(gathered, entry, &forms)?;
+            add_message(gathered, entry, forms)?;
         }
     }
     Ok(())
@@ -32,11 +38,11 @@ pub(crate) fn add_messages(
 pub(crate) fn compare_messages(
     gathered: &mut Gathered,
     catalog: &Catalog,
-    indices: Option<Indices>,
+    indices: Option<&Indices>,
 ) -> Result<(), AllocError> {
     for entry in catalog.entries.iter() {
         if let Standing::Whole = standing_of(entry) {
-            compare_alone(gathered, entry, &indices)?;
+            compare_alone(gathered, entry, indices)?;
         }
     }
     Ok(())
@@ -61,7 +67,7 @@ fn tell_too_many_forms(
 fn compare_alone(
     gathered: &mut Gathered,
     entry: &Entry,
-    indices: &Option<Indices>,
+    indices: Option<&Indices>,
 ) -> Result<(), AllocError> {
     let times = match indices {
         Some(indices) => {
@@ -86,12 +92,12 @@ fn tell_missing(
     entry: &Entry,
     sides: &Sides,
     times: &[u64],
-    of_categories: &[u64],
+    forms: &[FormIndex],
 ) -> Result<(), AllocError> {
     for (index, count) in times.iter().enumerate() {
         let index = index as u64;
         let is_missing = *count > 0 && text_at(sides.texts.as_slice(), index).is_empty();
-        if is_missing && !of_categories.contains(&index) {
+        if is_missing && !has_category(forms, index) {
             let text = format!(in gathered.alloc; "msgstr[{index}] has no text: translate it")?;
             return gathered.tell(
                 line_of(entry, index as usize),
@@ -103,54 +109,61 @@ fn tell_missing(
     Ok(())
 }
 
+// Whether one of these forms is that of a category, and has this index.
+fn has_category(forms: &[FormIndex], index: u64) -> bool {
+    forms.iter().any(|it| it.index == index && matches!(it.form, Form::Category(_)))
+}
+
 // Adds a message, or tells why it is left out.
-fn add_message(gathered: &mut Gathered, entry: &Entry, forms: &Forms) -> Result<(), AllocError> {
-    let alloc = gathered.alloc;
+fn add_message(gathered: &mut Gathered, entry: &Entry, forms: Forms<'_>) -> Result<(), AllocError> {
     tell_too_many_forms(gathered, entry, forms.indices.count)?;
+    let times = Times::Known(forms.indices.times.as_slice());
+    match compare(gathered, entry, times, true)? {
+        Ok(sides) => add_compared(gathered, entry, forms, sides),
+        Err(note) => leave_out(gathered, entry, note),
+    }
+}
+
+// Adds a message, given its texts.
+fn add_compared(
+    gathered: &mut Gathered,
+    entry: &Entry,
+    forms: Forms<'_>,
+    sides: Sides,
+) -> Result<(), AllocError> {
     let times = forms.indices.times.as_slice();
-    let sides = match compare(gathered, entry, Times::Known(times), true)? {
-        Ok(sides) => sides,
-        Err(note) => return leave_out(gathered, entry, note),
-    };
-    let of_categories = indices_of_categories(alloc, forms)?;
-    tell_missing(gathered, entry, &sides, times, of_categories.as_slice())?;
-    let key = key_of(alloc, entry)?;
-    let Sides {
-        texts,
-        source,
-        placeholder,
-        note,
-    } = sides;
-    let has_number = placeholder.is_some();
-    let lines = MessageLines {
-        line: entry.line as u64,
-        forms: lines_of(alloc, entry, forms)?,
-        placeholder,
-    };
-    let message = Message {
-        value: forms_value(alloc, forms, texts.as_slice(), has_number)?,
-        source: Some(source),
-        lines,
-        note,
-    };
+    tell_missing(gathered, entry, &sides, times, forms.laid.forms.as_slice())?;
+    let message = message_of(gathered.alloc, entry, forms, sides)?;
+    let key = key_of(gathered.alloc, entry)?;
     gathered.add(MessageKind::Cardinal, key.as_str(), message)
+}
+
+// The message of these texts.
+fn message_of(
+    alloc: Global,
+    entry: &Entry,
+    forms: Forms<'_>,
+    sides: Sides,
+) -> Result<Message, AllocError> {
+    let has_number = sides.placeholder.is_some();
+    let value = forms_value(alloc, forms, sides.texts.as_slice(), has_number)?;
+    let lines = lines_of(alloc, entry, forms)?;
+    Ok(Message {
+        value,
+        source: Some(sides.source),
+        lines: MessageLines {
+            line: entry.line as u64,
+            forms: lines,
+            placeholder: sides.placeholder,
+        },
+        note: sides.note,
+    })
 }
 
 // Tells why a message is left out.
 fn leave_out(gathered: &mut Gathered, entry: &Entry, note: Note) -> Result<(), AllocError> {
     gathered.tell(Some(entry.line as u64), note.code, note.text)?;
     gathered.count(Fate::LeftOut, 1)
-}
-
-// The indices of the forms of categories.
-fn indices_of_categories(alloc: Global, forms: &Forms) -> Result<Vec<u64>, AllocError> {
-    let mut indices = Vec::new(alloc);
-    for it in forms.laid.forms.iter() {
-        if let Form::Category(_) = it.form {
-            indices.push(it.index)?;
-        }
-    }
-    Ok(indices)
 }
 
 // The key of a message: its context and its id.
@@ -176,7 +189,7 @@ fn push_text(key: &mut String, text: &Text) -> Result<(), AllocError> {
 // last text: gettext's numbers are whole.
 fn forms_value(
     alloc: Global,
-    forms: &Forms,
+    forms: Forms<'_>,
     texts: &[String],
     has_number: bool,
 ) -> Result<Value, AllocError> {
@@ -232,7 +245,7 @@ fn last_text(texts: &[String]) -> &str {
 }
 
 // The lines of the forms of a message.
-fn lines_of(alloc: Global, entry: &Entry, forms: &Forms) -> Result<Vec<FormLine>, AllocError> {
+fn lines_of(alloc: Global, entry: &Entry, forms: Forms<'_>) -> Result<Vec<FormLine>, AllocError> {
     let mut lines = Vec::new(alloc);
     for it in forms.laid.forms.iter() {
         if let Some(text) = entry.forms.get(it.index as usize) {
