@@ -112,6 +112,9 @@ static void catalogs(void) {
     }
 }
 
+/* The length of the catalogue of a document's only locale, or the fault. */
+static int64_t packed(const char *json) { return plurals_catalog_pack(json, strlen(json), NULL, 0, NULL, 0); }
+
 /* The catalogue of a document, which is as above, and says what its patterns do. */
 static void packed_catalogs(void) {
     const char *json = "{\"en\":{\"cardinal\":{},\"patterns\":{\"hi\":\"hello\",\"n\":\"{n, plural, one {# file} other {# files}}\"}},\"ru\":{}}";
@@ -130,14 +133,14 @@ static void packed_catalogs(void) {
     CHECK(plurals_catalog_pack(one, strlen(one), NULL, 0, catalog, 23) == 23 && !memcmp(catalog, "\1\0\0\0\2\0\0\0\13\0\0\0hi\1\0\0\0hello", 23));
     CHECK(plurals_catalog_pack(NULL, 0, NULL, 0, NULL, 0) == PLURALS_JSON);
     CHECK(plurals_catalog_pack(NULL, 0, "\xff", 1, NULL, 0) == PLURALS_UTF8);
-    CHECK(plurals_catalog_pack("{}", 2, NULL, 0, NULL, 0) == PLURALS_MESSAGES_NO_LOCALE);
+    CHECK(packed("{}") == PLURALS_MESSAGES_NO_LOCALE);
     CHECK(plurals_catalog_pack(json, json_len, NULL, 0, NULL, 0) == PLURALS_MESSAGES_SEVERAL_LOCALES);
     CHECK(plurals_catalog_pack(json, json_len, "de", 2, NULL, 0) == PLURALS_MESSAGES_ABSENT_LOCALE);
     CHECK(plurals_catalog_pack(json, json_len, "ru", 2, NULL, 0) == PLURALS_MESSAGES_NO_PATTERNS);
-    CHECK(plurals_catalog_pack("{\"en\":{\"cardinal\":5}}", 23, NULL, 0, NULL, 0) == PLURALS_MESSAGES_CARDINAL_FORMS);
-    CHECK(plurals_catalog_pack("{\"en\":{\"ordinal\":5}}", 22, NULL, 0, NULL, 0) == PLURALS_MESSAGES_ORDINAL_FORMS);
-    CHECK(plurals_catalog_pack("{\"en\":{\"patterns\":5}}", 23, NULL, 0, NULL, 0) == PLURALS_DOCUMENT_SHAPE);
-    CHECK(plurals_catalog_pack("{\"en\":{\"patterns\":{\"a\":\"{\"}}}", 31, NULL, 0, NULL, 0) == PLURALS_PATTERN_UNCLOSED);
+    CHECK(packed("{\"en\":{\"cardinal\":5}}") == PLURALS_MESSAGES_CARDINAL_FORMS);
+    CHECK(packed("{\"en\":{\"ordinal\":5}}") == PLURALS_MESSAGES_ORDINAL_FORMS);
+    CHECK(packed("{\"en\":{\"patterns\":5}}") == PLURALS_DOCUMENT_SHAPE);
+    CHECK(packed("{\"en\":{\"patterns\":{\"a\":\"{\"}}}") == PLURALS_PATTERN_UNCLOSED);
 }
 
 static void pattern_of_the_page(void) {

@@ -1417,7 +1417,7 @@ static void try_catalogs(void) {
 
 /* The catalogue of one pattern, whose faults are its own; and documents without a locale that is named. */
 static void try_packed_catalogs(void) {
-    static char document[256];
+    static char document[MOST_BYTES];
     export = export_of("plurals_catalog_pack");
     for (int b = 0; b < BAD; b++) {
         if (bad[b].kind != PATTERN) continue;
@@ -1592,12 +1592,13 @@ static void try_limits(void) {
     run_limit(0);
 }
 
-/* Each fault of each export has a row, but -26 and -132, which no text has, and memory, which is refused to all. */
+/* Each fault of each export has a row, but -26 and -132, which no text has, those of 4 GB of messages, and memory, which is refused to
+ * all. */
 static void expect_each_fault(void) {
     for (size_t e = 0; e < EXPORTS; e++)
         for (size_t k = 0; k < FAULTS; k++) {
             bool is_reachable = (exports[e].faults & faults[k].group) && faults[k].number != PLURALS_TEXT_VALUE_TOO_LARGE
-                && faults[k].number != PLURALS_PACKING_ORDER && faults[k].number != PLURALS_MEMORY;
+                && faults[k].number != PLURALS_PACKING_ORDER && faults[k].group != OF_ENTRIES && faults[k].number != PLURALS_MEMORY;
             if (is_reachable == (faults[k].by_hand[e] > 0)) continue;
             printf("%s: %s has %s\n", exports[e].name, faults[k].name, is_reachable ? "no row" : "a row");
             exit(1);

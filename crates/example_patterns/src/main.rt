@@ -8,12 +8,12 @@ use message_pattern::Pattern;
 
 fn main(rt: HostRuntime) -> anyhow::Result<()> {
     let alloc = rt.alloc();
+    let text = "{n, plural, =0 {no items} one {# item} other {# items}}";
+    let pattern = Pattern::parse(alloc, text.as_bytes())?;
     let one = Some("i = 1 and v = 0");
     let data = PluralRulesData::from_texts(alloc, None, one, None, None, None)?;
     let cardinal = &PluralRules::from_data(data);
     let ordinal = cardinal;
-    let text = "{n, plural, =0 {no items} one {# item} other {# items}}";
-    let pattern = Pattern::parse(alloc, text.as_bytes())?;
     for number in ["0", "1", "1.0", "2"] {
         let name = "n";
         let value = Value::Number(number);
