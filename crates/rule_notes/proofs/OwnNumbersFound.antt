@@ -1,11 +1,13 @@
 -- Numbers that are found, or not.
-use Rattle.std.proofs.Common.{◌≡◌, ℕ, ◌≤◌, Bool, true, false, ◌&&◌, not, List, [], inl, inr, refl, subst, arith}
-use Rattle.std.proofs.lemmas.Bool.{cases_lt}
+use Rattle.std.proofs.Common.{◌≡◌, ℕ, ◌≤◌, ◌==◌, Bool, true, false, ◌&&◌, ◌||◌, not, List, [], ◌∷◌, length, map, inl, inr, refl, subst, sym, arith}
+use Rattle.std.proofs.lemmas.Bool.{cases_lt, eqb-true}
 use Rattle.std.specs.Prelude.{IsTrue, MatchBool}
 use Rattle.plural_operands.specs.Operands.{Operands, of_whole}
-use Rattle.plural_reference.specs.Truth.{tree_truth}
+use Rattle.plural_reference.specs.Truth.{is_true_of, tree_relation_truth, tree_truth}
+use Rattle.plural_reference.specs.declared.ast.AndCondition.{AndCondition}
+use Rattle.plural_reference.specs.declared.ast.Relation.{Relation}
 use Rattle.rule_notes.specs.EarlierRules.{IsTaken}
-use Rattle.rule_notes.specs.Inner.OwnNumbers.{HasOwn, HasOwnDecimal, HasOwnWhole, is_own, is_taken_at}
+use Rattle.rule_notes.specs.Inner.OwnNumbers.{HasOwn, HasOwnDecimal, HasOwnWhole, has_all, is_own, is_taken_at}
 use Rattle.rule_notes.specs.LookedAtNumbers.{IsLookedAt, IsWhole}
 use Rattle.rule_notes.specs.declared.category_rule.CategoryRule.{CategoryRule}
 
@@ -107,3 +109,29 @@ pub not_taken_if : (earlier : List CategoryRule) (rule : CategoryRule) (has : Bo
     → MatchBool has (HasOwn [] rule) (¬ (HasOwn [] rule)) → MatchBool has (IsTaken earlier rule) (¬ (IsTaken earlier rule))
 not_taken_if earlier rule true is some = absurd cc
 not_taken_if earlier rule false is none = none_not_taken earlier rule none
+
+-- ---- A rule that has all numbers
+
+true_without : (test : Relation → Bool) (groups : List AndCondition) → (length groups == 0) ≡ true
+    → is_true_of test (map (λ group. group.0) groups) ≡ true
+true_without test [] is = refl
+true_without test (group ∷ groups) is = let none : length (group ∷ groups) ≡ 0 = eqb-true _ _ is in absurd (omega arith)
+
+one_of : (all truth later taken : Bool) → (all ≡ true → truth ≡ true) → (later ≡ true → taken ≡ true) → (all || later) ≡ true
+    → (truth || taken) ≡ true
+one_of true truth later taken here there is = subst (λ (t : Bool). (t || taken) ≡ true) (sym (here refl)) refl
+one_of false true later taken here there is = refl
+one_of false false later taken here there is = there is
+
+-- some rule that has all numbers has this one
+taken_by_all : (earlier : List CategoryRule) (number : Operands) → has_all earlier ≡ true → is_taken_at earlier number ≡ true
+taken_by_all [] number is = absurd cc
+taken_by_all (rule ∷ rules) number is =
+    one_of (length rule.condition.0 == 0) (tree_truth number rule.condition) (has_all rules) (is_taken_at rules number)
+    (true_without (tree_relation_truth number) rule.condition.0) (taken_by_all rules number) is
+
+pub none_beside_all : (earlier : List CategoryRule) (rule : CategoryRule) → has_all earlier ≡ true → ¬ (HasOwn earlier rule)
+none_beside_all earlier rule is has =
+    let truth = tree_truth has.number rule.condition in
+    let isnt : is_taken_at earlier has.number ≡ false = second_of_both truth (is_taken_at earlier has.number) has.own in
+    let taken : is_taken_at earlier has.number ≡ true = taken_by_all earlier has.number is in absurd cc

@@ -1,7 +1,7 @@
 //! Numbers of rules among those that are looked at.
 
 ghost use Rattle.std.specs.Prelude.{◌≡◌, ◌^◌, ◌<◌, ◌≤◌, MatchBool};
-ghost use Rattle.rule_notes.specs.Inner.OwnNumbers.{HasOwn, HasOwnDecimal, HasOwnWhole, IsLeft, is_own, is_taken_at};
+ghost use Rattle.rule_notes.specs.Inner.OwnNumbers.{HasOwn, HasOwnDecimal, HasOwnWhole, IsLeft, has_all, is_own, is_taken_at};
 ghost use Rattle.rule_notes.specs.LookedAtNumbers.{HasDecimal};
 
 use crate::category_rule::CategoryRule;
@@ -12,6 +12,9 @@ use plural_reference::{PluralOperands, RawPluralOperands, test_condition};
 pub(crate) fn has_own(earlier: &[CategoryRule], rule: &CategoryRule) -> bool
     ensures { MatchBool result (HasOwn earlier.now rule.now) (¬ (HasOwn earlier.now rule.now)) }
 {
+    if has_all(earlier) {
+        return false;
+    }
     if has_whole(earlier, rule, 0, 100) {
         return true;
     }
@@ -22,6 +25,15 @@ pub(crate) fn has_own(earlier: &[CategoryRule], rule: &CategoryRule) -> bool
         return true;
     }
     has_whole(earlier, rule, 100, 10_000)
+}
+
+// Whether an earlier rule has no relation: it is true of all numbers.
+fn has_all(earlier: &[CategoryRule]) -> bool
+    ensures { result ≡ has_all earlier.now }
+{
+    earlier
+        .iter()
+        .any(|rule| rule.condition.0.as_slice().is_empty())
 }
 
 // Whether there is one among the whole numbers from a start on and before an end.

@@ -1,6 +1,6 @@
 -- Not a definition of the subject: numbers of rules that no earlier rule has, and the digits that are
 -- left of a fraction, for private contracts.
-use Rattle.std.specs.Prelude.{◌≡◌, ℕ, ◌-◌, ◌/◌, ◌^◌, ◌<◌, ◌≤◌, Bool, ◌&&◌, not, List, IsTrue}
+use Rattle.std.specs.Prelude.{◌≡◌, ℕ, ◌-◌, ◌/◌, ◌^◌, ◌<◌, ◌≤◌, ◌==◌, Bool, ◌&&◌, not, List, IsTrue, length}
 use Rattle.std.specs.Int.{◌∣◌}
 use Rattle.std.specs.List.{list_any}
 use Rattle.plural_operands.specs.Operands.{Operands, of_whole}
@@ -13,6 +13,10 @@ is_taken_at earlier number = list_any (λ rule. tree_truth number rule.condition
 
 abbrev pub is_own : List CategoryRule → CategoryRule → Operands → Bool
 is_own earlier rule number = tree_truth number rule.condition && not (is_taken_at earlier number)
+
+-- a condition has no relation, and is true of every number
+abbrev pub has_all : List CategoryRule → Bool
+has_all earlier = list_any (λ rule. length rule.condition.0 == 0) earlier
 
 pub record HasOwn (earlier : List CategoryRule) (rule : CategoryRule) : Type 0 where
   pub number : Operands
