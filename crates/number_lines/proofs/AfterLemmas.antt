@@ -16,7 +16,7 @@ use Rattle.number_lines.specs.declared.printed.NumberFault.{NumberFault}
 use Rattle.number_lines.specs.declared.printed.Place.{Place}
 use Rattle.number_lines.specs.declared.printed.Place.TheVariants.{Line}
 use Rattle.number_lines.specs.declared.stream.Lines.{Lines}
-use Rattle.number_lines.proofs.LineLemmas.{ended, kept_bound, kept_long, kept_more, kept_nothing, kept_whole, no_end_append, no_end_both, unended}
+use Rattle.number_lines.proofs.LineLemmas.{ended, kept_bound, kept_long, kept_more, kept_nothing, kept_whole, no_end_both, unended}
 use Rattle.number_lines.proofs.PrintedLemmas.{after_joined, answers_append, place_after_one}
 
 -- ---- The answer to a line of which not all is kept
@@ -34,23 +34,7 @@ kept_answer : (rules : FiveRules) (place : Place) (last kept : List ℕ) (printe
     → kept ≡ take (most_number_bytes + 1) last → IsAnswerAt rules place kept printed → IsAnswerAt rules place last printed
 kept_answer rules place last kept printed is answered = (answered.0, kept_category rules last kept answered.0 is answered.1, answered.2)
 
--- ---- One byte more
-
--- a byte that ends no line
-pub after_byte : (rules : FiveRules) (bytes text : List ℕ) (old new : Lines) (byte : ℕ) → byte ≢ 10
-    → new.place ≡ old.place → new.printed ≡ old.printed
-    → ((last : List ℕ) → old.line.items ≡ take (most_number_bytes + 1) last
-    → new.line.items ≡ take (most_number_bytes + 1) (last ++ byte ∷ []))
-    → IsAfter rules bytes text old → IsAfter rules (bytes ++ byte ∷ []) text new
-after_byte rules bytes text old new byte other place printed keeps a = record {
-  done = a.done;
-  last = a.last ++ byte ∷ [];
-  cut = λ rest. rw (append_assoc bytes (byte ∷ []) rest, append_assoc a.last (byte ∷ []) rest) (a.cut (byte ∷ rest));
-  no_end = no_end_append a.last byte a.no_end other;
-  kept = keeps a.last a.kept;
-  place = place ∙ a.place;
-  answered = subst (λ (p : PrintedText). AreLineAnswers rules a.done (after_text text p)) (sym printed) a.answered;
-}
+-- ---- More bytes
 
 -- bytes that end no line
 pub after_more : (rules : FiveRules) (bytes text more : List ℕ) (old new : Lines) → HasNoEnd more → KeepsBytes more old new

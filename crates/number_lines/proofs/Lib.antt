@@ -5,3 +5,5 @@ mod LineLemmas
 -- the state after some bytes
 mod AfterLemmas
 mod StreamLemmas
+-- lines of digits
+mod PlainLemmas

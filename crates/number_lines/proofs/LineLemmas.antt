@@ -1,10 +1,9 @@
 -- The lines of an input.
-use Rattle.std.proofs.Common.{append_assoc, lit<, Bor, Some, None, ◌∙◌, ◌≡◌, ◌-◌, min, ℕ, zero, suc, ap, get_or, ◌≤◌, ◌<◌, ◌+◌, List, [], ◌∷◌, ◌++◌, length, take, refl, sym, arith}
+use Rattle.std.proofs.Common.{◌∙◌, ◌≡◌, ◌-◌, min, ℕ, zero, suc, ap, get_or, drop, ◌==◌, true, ◌≤◌, ◌<◌, ◌+◌, List, [], ◌∷◌, ◌++◌, length, take, refl, sym, arith}
 use Rattle.std.specs.Prelude.{◌≢◌}
-use Rattle.std.proofs.lemmas.Bool.{ne_eqb}
-use Rattle.std.proofs.lemmas.List.{take_min, length-take, take-append-le, take_all, length-append}
+use Rattle.std.proofs.lemmas.Bool.{eq-eqb, ne_eqb}
+use Rattle.std.proofs.lemmas.List.{take_min, length-take, take-append-le, take_all, length-append, length-take-le, take-append-drop, drop_more, get_or-take}
 use Rattle.std.proofs.Math.Seq.{take-append-add}
-use Rattle.std.proofs.lemmas.Str.Pattern.{IsSplitOnceResult, split_parts}
 use Rattle.number_lines.specs.InputLines.{HasNoEnd, lines_of}
 
 -- ---- Ends of lines
@@ -19,10 +18,6 @@ pub unended : (byte : ℕ) (bytes : List ℕ) → HasNoEnd (byte ∷ bytes) → 
 unended byte [] none = rw (ne_eqb byte 10 none.0) refl
 unended byte (other ∷ bytes) none = rw (ne_eqb byte 10 none.0, unended other bytes none.1) refl
 
-pub no_end_append : (bytes : List ℕ) (byte : ℕ) → HasNoEnd bytes → byte ≢ 10 → HasNoEnd (bytes ++ byte ∷ [])
-no_end_append [] byte none other = (other, tt)
-no_end_append (first ∷ bytes) byte none other = (none.0, no_end_append bytes byte none.1 other)
-
 pub no_end_both : (bytes more : List ℕ) → HasNoEnd bytes → HasNoEnd more → HasNoEnd (bytes ++ more)
 no_end_both [] more none later = later
 no_end_both (byte ∷ bytes) more none later = (none.0, no_end_both bytes more none.1 later)
@@ -32,20 +27,20 @@ pub no_end_all : (bytes : List ℕ) → ((i : ℕ) → i < length bytes → get_
 no_end_all [] each = tt
 no_end_all (byte ∷ bytes) each = (each 0 (omega arith), no_end_all bytes (λ i below. each (suc i) (omega arith)))
 
--- a line that is cut off at a newline
-pub cut_line : (bytes : List ℕ) (line after : Bor (List ℕ)) → IsSplitOnceResult 10 bytes (Some (line, after))
-    → (bytes ≡ line.now ++ 10 ∷ after.now) × HasNoEnd line.now
-cut_line bytes line after cut =
-    let parts = split_parts 10 bytes (Some (line, after)) cut (lit< tt) in (parts.0, no_end_all line.now parts.1)
+-- a byte between those before it and those behind it
+pub at_byte : (bytes : List ℕ) (k byte : ℕ) → k < length bytes → get_or bytes k 0 ≡ byte → bytes ≡ take k bytes ++ byte ∷ drop (k + 1) bytes
+at_byte bytes k byte within is =
+    sym (take-append-drop k bytes)
+    ∙ ap (λ (l : List ℕ). take k bytes ++ l) (drop_more bytes k 0 within ∙ ap (λ (c : ℕ). c ∷ drop (k + 1) bytes) is)
 
--- bytes that have none
-pub uncut : (bytes : List ℕ) → IsSplitOnceResult 10 bytes None → HasNoEnd bytes
-uncut bytes cut = no_end_all bytes (split_parts 10 bytes None cut (lit< tt))
-
--- a line and its newline go before what follows them
-pub line_before : (front line after : List ℕ) → front ++ (line ++ 10 ∷ after) ≡ (front ++ (line ++ 10 ∷ [])) ++ after
-line_before front line after =
-    sym (append_assoc front (line ++ 10 ∷ []) after ∙ ap (λ (l : List ℕ). front ++ l) (append_assoc line (10 ∷ []) after))
+-- the bytes before the first newline
+pub no_end_before : (bytes : List ℕ) (end : ℕ) → end ≤ length bytes
+    → ((k : ℕ) → 0 ≤ k → k < end → ¬ ((get_or bytes k 0 == 10) ≡ true)) → HasNoEnd (take end bytes)
+no_end_before bytes end within each =
+    let size : length (take end bytes) ≡ end = length-take-le end bytes within in
+    no_end_all (take end bytes) (λ i below e.
+    let inside : i < end = omega (arith, size, below) in
+    each i (omega arith) inside (eq-eqb (get_or bytes i 0) 10 (sym (get_or-take end bytes i 0 inside) ∙ e)))
 
 -- ---- What is kept of a line: not more than n bytes
 
@@ -65,21 +60,6 @@ kept_with n kept more room =
     let whole : length kept + (n - length kept) ≡ n = omega arith in
     rw (take_min (n - length kept) more)
     (sym (take-append-add kept more (n - length kept)) ∙ ap (λ (k : ℕ). take k (kept ++ more)) whole)
-
--- a line with room for a byte
-pub kept_grows : (n : ℕ) (last : List ℕ) (byte : ℕ) → length (take (n + 1) last) ≤ n
-    → take (n + 1) last ++ byte ∷ [] ≡ take (n + 1) (last ++ byte ∷ [])
-kept_grows n last byte room =
-    let short : length last ≤ n = omega (arith, length-take (n + 1) last, room) in
-    let fits : length (last ++ byte ∷ []) ≤ n + 1 = rw (length-append last (byte ∷ [])) (omega arith) in
-    rw (take_all (n + 1) last (omega arith), take_all (n + 1) (last ++ byte ∷ []) fits) refl
-
--- a line without
-pub kept_stays : (n : ℕ) (last : List ℕ) (byte : ℕ) → n < length (take (n + 1) last)
-    → take (n + 1) last ≡ take (n + 1) (last ++ byte ∷ [])
-kept_stays n last byte full =
-    let long : n + 1 ≤ length last = omega (arith, length-take (n + 1) last, full) in
-    sym (take-append-le (n + 1) last (byte ∷ []) long)
 
 -- a line that is kept whole
 pub kept_whole : (n : ℕ) (last : List ℕ) → length (take (n + 1) last) ≤ n → take (n + 1) last ≡ last

@@ -3,6 +3,7 @@
 
 mod error;
 mod number;
+mod plain;
 mod printed;
 mod stream;
 

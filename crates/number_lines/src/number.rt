@@ -78,21 +78,6 @@ pub(crate) fn push_answer(
     push_line(alloc, place, answer, printed)
 }
 
-// Appends the line of a number as a text.
-#[inline]
-pub(crate) fn push_text_answer(
-    alloc: Global,
-    rules: &AskedRules<'_>,
-    place: Place,
-    number: &str,
-    printed: &mut Printed,
-) -> Result<(), AllocError>
-    ensures { OnOk result (AddsPrinted (IsAnswerAt rules.now place number.now) printed.old printed.new) }
-{
-    let answer = category_of_text(alloc, rules, number)?;
-    push_line(alloc, place, answer, printed)
-}
-
 // Appends the line of an answer.
 #[inline]
 fn push_line(
@@ -124,21 +109,6 @@ fn category_of(
         Ok(text) => category_of_short_text(alloc, rules, text),
         Err(_) => Ok(Err(NumberFault::NotText)),
     }
-}
-
-// The category of a number as a text, or why it has none.
-#[inline]
-fn category_of_text(
-    alloc: Global,
-    rules: &AskedRules<'_>,
-    text: &str,
-) -> Result<Result<PluralCategory, NumberFault>, AllocError>
-    ensures { IfOk result (λ answer. IsCategoryOf rules.now text.now answer) }
-{
-    if text.len() <= MOST_NUMBER_BYTES {
-        return category_of_short_text(alloc, rules, text);
-    }
-    Ok(Err(NumberFault::TooLong))
 }
 
 // The category of a number as a text that isn't too long, or why it has none.

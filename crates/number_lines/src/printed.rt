@@ -1,10 +1,9 @@
 //! What is printed for numbers.
 
-ghost use Rattle.std.specs.Prelude.{◌≡◌, ◌++◌, OnOk, codes, string_bytes};
+ghost use Rattle.std.specs.Prelude.{◌≡◌, OnOk, string_bytes};
 ghost use Rattle.number_lines.specs.AnsweredInputs.{WritesPrinted};
 ghost use Rattle.number_lines.specs.NumberAnswers.{category_answer, fault_answer};
 ghost use Rattle.number_lines.specs.PrintedTexts.{both_printed, nothing, only_text, without_text};
-ghost use Rattle.icu_plurals.specs.Categories.{name_of};
 
 use crate::error::LinesError;
 use icu_plurals::PluralCategory;
@@ -136,11 +135,19 @@ impl Printed {
         self.has_fault
     }
 
-    // Appends the line of a category.
+    // Appends the line of a category: in each case by a length that is known.
+    #[inline]
     pub(crate) fn push_category(&mut self, category: PluralCategory) -> Result<(), AllocError>
         ensures { OnOk result (self.new ≡ both_printed self.old (category_answer category)) }
     {
-        self.text.push_str(category_line(category))
+        match category {
+            PluralCategory::Zero => self.text.push_str("zero\n"),
+            PluralCategory::One => self.text.push_str("one\n"),
+            PluralCategory::Two => self.text.push_str("two\n"),
+            PluralCategory::Few => self.text.push_str("few\n"),
+            PluralCategory::Many => self.text.push_str("many\n"),
+            PluralCategory::Other => self.text.push_str("other\n"),
+        }
     }
 
     // Appends the line of a fault.
@@ -156,19 +163,5 @@ impl Printed {
         self.text.push_str(line.as_str())?;
         self.has_fault = true;
         Ok(())
-    }
-}
-
-// The line of a category.
-fn category_line(category: PluralCategory) -> &'static str
-    ensures { result.now ≡ name_of category ++ codes "\n" }
-{
-    match category {
-        PluralCategory::Zero => "zero\n",
-        PluralCategory::One => "one\n",
-        PluralCategory::Two => "two\n",
-        PluralCategory::Few => "few\n",
-        PluralCategory::Many => "many\n",
-        PluralCategory::Other => "other\n",
     }
 }

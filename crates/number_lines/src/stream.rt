@@ -1,21 +1,22 @@
 //! The lines of an input, answered as they are read.
 
-ghost use Rattle.std.specs.Prelude.{◌≡◌, ◌∷◌, ◌++◌, [], IfErr, OnOk};
+ghost use Rattle.std.specs.Prelude.{◌≡◌, ◌∷◌, ◌++◌, ◌<◌, [], IfErr, IfOk, OnOk, length};
 ghost use Rattle.std.specs.Io.KnownBytes.{Appends};
 ghost use Rattle.number_lines.specs.AnsweredInputs.{AnswersInput};
 ghost use Rattle.number_lines.specs.InputLines.{HasNoEnd};
-ghost use Rattle.number_lines.specs.Inner.LineSteps.{EndsLine, Forgets, KeepsBytes, TakesBytes};
+ghost use Rattle.number_lines.specs.Inner.LineSteps.{EndsByCategory, EndsLine, Forgets, KeepsBytes, TakesBytes, TakesFront};
 ghost use Rattle.number_lines.specs.Inner.StreamSteps.{FinishesLines, TakesAndWrites};
 ghost use Rattle.plural_documents.specs.Inputs.{IsPartWritten};
 
 use crate::error::LinesError;
-use crate::number::{MOST_NUMBER_BYTES, next_place, push_answer, push_text_answer};
+use crate::number::{MOST_NUMBER_BYTES, next_place, push_answer};
+use crate::plain::plain_line;
 use crate::printed::{Place, Printed};
-use icu_plurals::{AskedRules, PluralRules};
+use icu_plurals::{AskedRules, PluralCategory, PluralRules};
+use memchr::memchr;
 use plural_documents::write_output;
 use std::alloc::{AllocError, Global};
 use std::io::{ErrorKind, Read, Write};
-use std::str;
 
 // The bytes of the present line, as far as they are kept, its place, and what is printed and not
 // yet written.
@@ -140,7 +141,7 @@ fn last_line<W: Write>(
     }
 }
 
-// Takes bytes: those of a text line by line, others one after the other.
+// Takes bytes.
 fn take_bytes(
     alloc: Global,
     rules: &AskedRules<'_>,
@@ -149,35 +150,61 @@ fn take_bytes(
 ) -> Result<(), AllocError>
     ensures { OnOk result (TakesBytes rules.now bytes.now lines.old lines.new) }
 {
-    match str::from_utf8(bytes) {
-        Ok(text) => take_text(alloc, rules, text, lines),
-        Err(_) => take_each(alloc, rules, bytes, lines),
+    let mut rest = bytes;
+    while !rest.is_empty() {
+        rest = take_front(alloc, rules, rest, lines)?;
     }
+    Ok(())
 }
 
-// Takes a text, line by line.
-fn take_text(
+// Takes a line at the front, or the beginning of one, and returns the bytes behind it.
+#[inline(always)]
+fn take_front<'b>(
     alloc: Global,
     rules: &AskedRules<'_>,
-    text: &str,
+    bytes: &'b [u8],
     lines: &mut Lines,
-) -> Result<(), AllocError>
-    ensures { OnOk result (TakesBytes rules.now text.now lines.old lines.new) }
+) -> Result<&'b [u8], AllocError>
+    requires { 0 < length bytes.now }
+    ensures { IfOk result (λ rest. TakesFront rules.now bytes.now rest.now lines.old lines.new) }
 {
-    let mut rest = text;
-    while let Some((line, after)) = rest.split_once('\n') {
-        take_line(alloc, rules, line, lines)?;
-        rest = after;
+    if lines.line.is_empty()
+        && let Some((category, after)) = plain_line(rules, bytes)
+    {
+        lines.push_category(category)?;
+        return Ok(after);
     }
-    lines.keep(rest.as_bytes())
+    take_any(alloc, rules, bytes, lines)
+}
+
+// The same of any line.
+#[inline(never)]
+fn take_any<'b>(
+    alloc: Global,
+    rules: &AskedRules<'_>,
+    bytes: &'b [u8],
+    lines: &mut Lines,
+) -> Result<&'b [u8], AllocError>
+    requires { 0 < length bytes.now }
+    ensures { IfOk result (λ rest. TakesFront rules.now bytes.now rest.now lines.old lines.new) }
+{
+    match memchr(b'\n', bytes) {
+        Some(end) => {
+            take_line(alloc, rules, &bytes[..end], lines)?;
+            Ok(&bytes[end + 1..])
+        }
+        None => {
+            lines.keep(bytes)?;
+            Ok(&bytes[bytes.len()..])
+        }
+    }
 }
 
 // Takes the bytes of a line, and the newline after them.
-#[inline]
 fn take_line(
     alloc: Global,
     rules: &AskedRules<'_>,
-    line: &str,
+    line: &[u8],
     lines: &mut Lines,
 ) -> Result<(), AllocError>
     requires { HasNoEnd line.now }
@@ -186,43 +213,8 @@ fn take_line(
     if lines.line.is_empty() {
         return answer_line(alloc, rules, line, lines);
     }
-    lines.keep(line.as_bytes())?;
+    lines.keep(line)?;
     end_line(alloc, rules, lines)
-}
-
-// Takes bytes, one after the other.
-fn take_each(
-    alloc: Global,
-    rules: &AskedRules<'_>,
-    bytes: &[u8],
-    lines: &mut Lines,
-) -> Result<(), AllocError>
-    ensures { OnOk result (TakesBytes rules.now bytes.now lines.old lines.new) }
-{
-    for byte in bytes {
-        take_byte(alloc, rules, *byte, lines)?;
-    }
-    Ok(())
-}
-
-// Takes a byte: a newline ends the line. Of a line that is too long no more than one byte above the
-// limit is kept.
-fn take_byte(
-    alloc: Global,
-    rules: &AskedRules<'_>,
-    byte: u8,
-    lines: &mut Lines,
-) -> Result<(), AllocError>
-    ensures { OnOk result (TakesBytes rules.now (byte ∷ []) lines.old lines.new) }
-{
-    if byte == b'\n' {
-        return end_line(alloc, rules, lines);
-    }
-    if lines.line.len() > MOST_NUMBER_BYTES {
-        return Ok(());
-    }
-    lines.line.push(byte)?;
-    Ok(())
 }
 
 // Answers the present line, and begins the next one.
@@ -242,17 +234,16 @@ fn end_line(alloc: Global, rules: &AskedRules<'_>, lines: &mut Lines) -> Result<
 }
 
 // Answers a line of which nothing is kept, and begins the next one.
-#[inline]
 fn answer_line(
     alloc: Global,
     rules: &AskedRules<'_>,
-    line: &str,
+    line: &[u8],
     lines: &mut Lines,
 ) -> Result<(), AllocError>
     requires { lines.old.line.items ≡ [] }
     ensures { OnOk result (EndsLine rules.now line.now lines.old lines.new) }
 {
-    push_text_answer(alloc, rules, lines.place(), line, &mut lines.printed)?;
+    push_answer(alloc, rules, lines.place(), line, &mut lines.printed)?;
     lines.place = next_place(lines.place);
     Ok(())
 }
@@ -264,6 +255,16 @@ impl Lines {
         ensures { result ≡ Place.Line self.now.place }
     {
         Place::Line(self.place)
+    }
+
+    // Answers a line by its category, and begins the next one, of which nothing is kept as before.
+    #[inline(always)]
+    fn push_category(&mut self, category: PluralCategory) -> Result<(), AllocError>
+        ensures { OnOk result (EndsByCategory category self.old self.new) }
+    {
+        self.printed.push_category(category)?;
+        self.place = next_place(self.place);
+        Ok(())
     }
 
     // Keeps bytes of the present line, in which it doesn't end: of a line that is too long no more

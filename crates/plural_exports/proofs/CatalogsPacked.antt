@@ -1,5 +1,5 @@
 -- Catalogues that are packed from documents.
-use Rattle.std.proofs.Common.{◌≡◌, ◌⊎◌, inl, inr, Err}
+use Rattle.std.proofs.Common.{◌≡◌, inl, inr, Err}
 use Rattle.catalog_commands.specs.DocumentPatterns.{HasPatternsFault, TellsPatternsFault}
 use Rattle.catalog_commands.specs.declared.fault.PatternsFault.{PatternsFault}
 use Rattle.catalog_commands.specs.declared.fault.PatternsFault.TheVariants as patterns

@@ -1,8 +1,9 @@
 -- Not a definition of the subject: the state after some bytes of an input, and one step of it.
-use Rattle.std.specs.Prelude.{◌≡◌, ℕ, ◌+◌, ◌≤◌, List, [], ◌∷◌, ◌++◌, length, take}
+use Rattle.std.specs.Prelude.{◌≡◌, ℕ, ◌+◌, ◌<◌, ◌≤◌, List, [], ◌∷◌, ◌++◌, length, take}
 use Rattle.icu_plurals.specs.FiveRules.{FiveRules}
 use Rattle.number_lines.specs.InputLines.{HasNoEnd, lines_of}
-use Rattle.number_lines.specs.NumberAnswers.{AreLineAnswers, IsAnswerAt, most_number_bytes, next_place}
+use Rattle.icu_plurals.specs.declared.PluralCategory.{PluralCategory}
+use Rattle.number_lines.specs.NumberAnswers.{AreLineAnswers, IsAnswerAt, IsChosenFor, category_answer, most_number_bytes, next_place}
 use Rattle.number_lines.specs.PrintedTexts.{PrintedText, after_text, both_printed, without_text}
 use Rattle.number_lines.specs.declared.printed.Place.TheVariants.{Line}
 use Rattle.number_lines.specs.declared.stream.Lines.{Lines}
@@ -35,6 +36,13 @@ AddsPrinted Is old new = (more : PrintedText) × Is more × (new ≡ both_printe
 abbrev pub TakesBytes : FiveRules → List ℕ → Lines → Lines → Type 0
 TakesBytes rules more old new = (bytes text : List ℕ) → IsAfter rules bytes text old → IsAfter rules (bytes ++ more) text new
 
+-- bytes at the front are taken, and these are left
+pub record TakesFront (rules : FiveRules) (bytes rest : List ℕ) (old new : Lines) : Type 0 where
+  pub front : List ℕ
+  pub spelled : bytes ≡ front ++ rest
+  pub some : 0 < length front
+  pub takes : TakesBytes rules front old new
+
 -- the line is answered as a word, and a new one begins
 pub record EndsLine (rules : FiveRules) (word : List ℕ) (old new : Lines) : Type 0 where
   pub answer : PrintedText
@@ -42,6 +50,20 @@ pub record EndsLine (rules : FiveRules) (word : List ℕ) (old new : Lines) : Ty
   pub line : new.line.items ≡ []
   pub place : new.place ≡ next_place old.place
   pub printed : new.printed ≡ both_printed old.printed answer
+
+-- a line is answered by its category, and a new one begins
+pub record EndsByCategory (category : PluralCategory) (old new : Lines) : Type 0 where
+  pub line : new.line.items ≡ old.line.items
+  pub place : new.place ≡ next_place old.place
+  pub printed : new.printed ≡ both_printed old.printed (category_answer category)
+
+-- a line of a number with this category is at the front
+pub record BeginsWithLine (rules : FiveRules) (bytes : List ℕ) (category : PluralCategory) (after : List ℕ) : Type 0 where
+  pub line : List ℕ
+  pub none : HasNoEnd line
+  pub short : length line ≤ most_number_bytes
+  pub chosen : IsChosenFor rules line category
+  pub spelled : bytes ≡ line ++ 10 ∷ after
 
 -- bytes of the line are kept, up to one byte above the limit
 pub record KeepsBytes (more : List ℕ) (old new : Lines) : Type 0 where

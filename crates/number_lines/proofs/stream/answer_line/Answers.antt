@@ -5,7 +5,7 @@ use Rattle.number_lines.proofs.stream.answer_line.Goals as goal
 
 pub returns : goal.returns
 returns c =
-    let e = c.in_ok-push_text_answer.ensures in
+    let e = c.in_ok-push_answer.ensures in
     record {
       answer = e.0;
       answers = subst (λ (p : Place). IsAnswerAt c.args.rules.now p c.args.line.now e.0) c.place.ensures e.1;

@@ -1,4 +1,4 @@
-use Rattle.std.proofs.Common.{ℕ, List, subst, ◌≡◌, ◌++◌, ◌∷◌, [], length, vec_len, arith, sym, ◌∙◌}
+use Rattle.std.proofs.Common.{◌≡◌, ◌++◌, ◌∷◌, [], length, vec_len, arith, sym, ◌∙◌}
 use Rattle.std.proofs.lemmas.Bool.{eqb-true}
 use Rattle.number_lines.specs.Inner.LineSteps.{EndsLine, KeepsBytes, TakesBytes}
 use Rattle.number_lines.proofs.AfterLemmas.{after_kept, after_line}
@@ -30,7 +30,6 @@ returns c =
     let old = c.args.lines.now in
     let mid = c.keep.new.self in
     let new = c.end_line.new.lines in
-    let kept : KeepsBytes c.args.line.now old mid =
-    subst (λ (l : List ℕ). KeepsBytes l old mid) c.as_bytes.ensures.value c.in_ok-keep.ensures in
+    let kept : KeepsBytes c.args.line.now old mid = c.in_ok-keep.ensures in
     on_ok {P = EndsLine r mid.line.items mid new} {Q = TakesBytes r (c.args.line.now ++ 10 ∷ []) old new} c.end_line.result
     (λ e bytes text a. after_kept r bytes text c.args.line.now old mid new c.requires kept e a) c.end_line.ensures
