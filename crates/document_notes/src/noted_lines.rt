@@ -1,16 +1,19 @@
 //! The text of a report with notes.
 
-ghost use Rattle.std.specs.Prelude.{◌≡◌, ◌++◌, IfOk, OnOk, option_map, string_bytes};
+ghost use Rattle.std.specs.Prelude.{◌≡◌, ◌++◌, codes, IfOk, OnOk, option_map, string_bytes};
 ghost use Rattle.document_notes.specs.DocumentNotes as noted;
 ghost use Rattle.document_notes.specs.DocumentNotes.{note_view};
 ghost use Rattle.document_notes.specs.NotedText.{counts_with, line_in, name_in, note_line, noted_counts, noted_text, notes_text};
+ghost use Rattle.document_report.specs.DocumentCauses.{cause_text};
 ghost use Rattle.document_report.specs.DocumentFindings as listed;
 ghost use Rattle.document_report.specs.DocumentFindings.{finding_line, finding_view};
+ghost use Rattle.plural_documents.specs.FirstLines.{ended_line};
 
 use crate::document_note::{DocumentNote, DocumentNotes};
-use document_report::{Counts, Finding, Report};
-use plural_documents::{LinePrinter, push_lines};
+use document_report::{Cause, Counts, Finding, FindingPlace, Report};
+use plural_documents::{KeptPlace, LinePrinter, push_lines};
 use std::alloc::{AllocError, Global};
+use std::fmt::Write;
 
 /// Returns the text of a report with notes: a line for each finding, then one for each note, and one
 /// with the counts, which tells the notes if there are any. With the name of a file each line begins
@@ -24,25 +27,26 @@ pub fn noted_text(
     ensures { IfOk result (λ text. string_bytes text ≡ noted_text (option_map (λ name. name.now) file.entry) report.now notes.now) }
 {
     let mut text = String::new(alloc);
-    push_lines(
-        alloc,
-        &mut NamedLines { file },
-        report.findings(),
-        &mut text,
-    )?;
-    push_lines(alloc, &mut NamedLines { file }, notes.as_slice(), &mut text)?;
+    let mut found = NamedFindings {
+        file,
+        place: KeptPlace::new(alloc),
+    };
+    push_lines(alloc, &mut found, report.findings(), &mut text)?;
+    push_lines(alloc, &mut NamedNotes { file }, notes.as_slice(), &mut text)?;
     let counts = counts_text(alloc, report.counts(), notes.as_slice().len())?;
     push_line(file, counts.as_str(), &mut text)?;
     Ok(text)
 }
 
-// Lines after the name of a file, if there is one.
+// Lines of findings after the name of a file, if there is one, with what is printed for the place of
+// the last one.
 #[derive(Drop)]
-struct NamedLines<'f> {
+struct NamedFindings<'f, 'a> {
     file: Option<&'f str>,
+    place: KeptPlace<FindingPlace<'a>>,
 }
 
-impl<'f, 'a> LinePrinter<Finding<'a>> for NamedLines<'f> {
+impl<'f, 'a> LinePrinter<Finding<'a>> for NamedFindings<'f, 'a> {
     ghost Seen = { listed.Finding };
 
     ghost seen = { finding_view };
@@ -55,12 +59,29 @@ impl<'f, 'a> LinePrinter<Finding<'a>> for NamedLines<'f> {
         finding: &Finding<'a>,
         text: &mut String,
     ) -> Result<(), AllocError> {
-        let line = finding.line(alloc)?;
-        push_line(self.file, line.as_str(), text)
+        push_name(self.file, text)?;
+        let place = self.place.text(alloc, finding.place)?;
+        push_cause(place, &finding.cause, text)
     }
 }
 
-impl<'f, 'a> LinePrinter<DocumentNote<'a>> for NamedLines<'f> {
+// Appends what is wrong, behind what is printed for the place, and a newline.
+fn push_cause(place: &str, cause: &Cause, text: &mut String) -> Result<(), AllocError>
+    ensures { OnOk result (string_bytes text.new ≡ string_bytes text.old ++ ended_line (place.now ++ (codes ": " ++ cause_text cause.now))) }
+{
+    match write!(text, "{place}: {cause}\n") {
+        Ok(()) => Ok(()),
+        Err(_) => Err(AllocError),
+    }
+}
+
+// Lines of notes after the name of a file, if there is one.
+#[derive(Drop)]
+struct NamedNotes<'f> {
+    file: Option<&'f str>,
+}
+
+impl<'f, 'a> LinePrinter<DocumentNote<'a>> for NamedNotes<'f> {
     ghost Seen = { noted.NoteAt };
 
     ghost seen = { note_view };
