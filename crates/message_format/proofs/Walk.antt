@@ -1,5 +1,5 @@
 -- A walk over the parts of a message.
-use Rattle.std.proofs.Common.{◌≡◌, ◌∙◌, ◌++◌, ◌<◌, ◌≤◌, ℕ, List, [], ◌∷◌, Bor, length, arith, Option, Some, None, Err, refl, sym, ap, subst, inl, inr}
+use Rattle.std.proofs.Common.{◌≡◌, ◌∙◌, ◌++◌, ◌<◌, ◌≤◌, ℕ, List, [], ◌∷◌, Bor, drop, length, arith, Option, Some, None, Err, refl, sym, ap, subst, inl, inr}
 use Rattle.message_pattern.specs.declared.part.Part as parts
 use Rattle.message_pattern.specs.declared.part.ArgumentKind.{ArgumentKind}
 use Rattle.message_pattern.specs.declared.part.Piece as pieces
@@ -9,10 +9,10 @@ use Rattle.message_format.specs.declared.error.FormatError.{FormatError}
 use Rattle.message_format.specs.declared.error.FormatError.TheVariants as error
 use Rattle.message_format.specs.FormatArguments.{Argument, Value, value_named}
 use Rattle.message_format.specs.FormatBranches.{behind_end}
-use Rattle.message_format.specs.FormatParts.{branches_at}
+use Rattle.message_format.specs.FormatParts.{branches_at, first_depth, IsBegun}
 use Rattle.message_format.specs.FormatSteps.{Step, Stops, Prints, Chooses, TwoRules, IsChoice, IsStep}
 use Rattle.message_format.specs.FormatMeaning.{PatternOutcome, Said, Faulty, Says, ends, stops, prints, chooses, breaks, fails, PatternSays, SaysExactly}
-use Rattle.message_format.specs.Inner.FormatViews.{GivesFault, IsFaultOf, IsWithin, outcome_of}
+use Rattle.message_format.specs.Inner.FormatViews.{GivesFault, IsFaultOf, outcome_of}
 use Rattle.message_format.specs.FormatWalk.{GoesOn, GoesOnBehind}
 use Rattle.message_format.specs.declared.error.ArgumentFault.{ArgumentFault}
 use Rattle.message_format.proofs.OneSaying.{OneNumber, one_outcome}
@@ -35,6 +35,11 @@ begins arguments rules hash ps p rest kind name offset value s e is named h =
     does arguments rules hash p rest (piece.Begin kind name offset) s is
     (subst (λ (v : Option Value). IsChoice rules hash kind name.now (offset_view offset) (branches_of p.depth rest) v s) named
     (subst (λ (l : List Part). IsChoice rules hash kind name.now (offset_view offset) (branches_at l) value s) e h))
+
+-- an argument begins
+pub begun : (ps : List Part) (p : parts.Part) (rest : List Part) (kind : ArgumentKind) (name : Bor (List ℕ)) (offset : Option (Bor (List ℕ))) → ps ≡ part_view p ∷ rest
+    → p.piece ≡ piece.Begin kind name offset → IsBegun ps
+begun ps p rest kind name offset e is = subst (λ (l : List Part). IsBegun l) (sym e) (rw is tt)
 
 -- the parts end
 pub at_end : (arguments : List Argument) (rules : TwoRules) (hash before : List ℕ) (ps : List Part) → ps ≡ []
@@ -64,13 +69,12 @@ pub rest_fewer : (ps : List Part) (p : parts.Part) (rest : List Part) → ps ≡
 rest_fewer ps p rest e = subst (λ (l : List Part). length rest < length l) (sym e) (omega arith)
 
 -- a branch is chosen
-pub at_branch : (arguments : List Argument) (rules : TwoRules) (hash number before : List ℕ) (ps : List Part) (p : parts.Part) (rest branch left after : List Part)
-    → ps ≡ part_view p ∷ rest → PartIs arguments rules hash p rest (Chooses number branch) → IsWithin ps branch left
-    → after ≡ behind_end p.depth left
+pub at_branch : (arguments : List Argument) (rules : TwoRules) (hash number before : List ℕ) (ps : List Part) (p : parts.Part) (rest branch after : List Part)
+    → ps ≡ part_view p ∷ rest → PartIs arguments rules hash p rest (Chooses number branch)
+    → after ≡ behind_end (first_depth ps) (drop 1 ps)
     → GoesOnBehind arguments rules hash number before before ps branch after
-at_branch arguments rules hash number before ps p rest branch left after e h w a =
-    let within : IsWithin (part_view p ∷ rest) branch left = subst (λ (l : List Part). IsWithin l branch left) e w in
-    let n : after ≡ behind_end p.depth rest = a ∙ within.left.behind in
+at_branch arguments rules hash number before ps p rest branch after e h a =
+    let n : after ≡ behind_end p.depth rest = subst (λ (l : List Part). after ≡ behind_end (first_depth l) (drop 1 l)) e a in
     record {
       comes = λ said o j k.
           subst (λ (l : List Part). Says arguments rules hash before l o) (sym e)
@@ -81,11 +85,12 @@ at_branch arguments rules hash number before ps p rest branch left after e h w a
     }
 
 -- fewer follow then, and in the branch
-pub branch_fewer : (ps : List Part) (p : parts.Part) (rest branch left after : List Part) → ps ≡ part_view p ∷ rest → IsWithin ps branch left
-    → length after ≤ length left → (length after < length ps) × (length branch < length ps)
-branch_fewer ps p rest branch left after e w fewer =
-    let within : IsWithin (part_view p ∷ rest) branch left = subst (λ (l : List Part). IsWithin l branch left) e w in
-    subst (λ (l : List Part). (length after < length l) × (length branch < length l)) (sym e) (omega (arith, within.left.fewer, fewer), omega (arith, within.shorter))
+pub branch_fewer : (ps : List Part) (p : parts.Part) (rest branch after : List Part) → ps ≡ part_view p ∷ rest → length branch ≤ length (drop 1 ps)
+    → length after ≤ length (drop 1 ps) → (length after < length ps) × (length branch < length ps)
+branch_fewer ps p rest branch after e shorter fewer =
+    let s : length branch ≤ length rest = subst (λ (l : List Part). length branch ≤ length (drop 1 l)) e shorter in
+    let f : length after ≤ length rest = subst (λ (l : List Part). length after ≤ length (drop 1 l)) e fewer in
+    subst (λ (l : List Part). (length after < length l) × (length branch < length l)) (sym e) (omega (arith, f), omega (arith, s))
 
 -- an argument has a fault
 pub at_fault : (arguments : List Argument) (rules : TwoRules) (hash before : List ℕ) (ps : List Part) (p : parts.Part) (rest : List Part) (f : FormatError)

@@ -1,6 +1,6 @@
 -- What is found of an argument in the parts from its beginning on.
 use Rattle.std.specs.Prelude.{◌≡◌, ◌≤◌, ◌⊎◌, ℕ, List, [], ◌∷◌, drop, length, Option, Some, None}
-use Rattle.message_pattern.specs.PatternParts.{Part, Selector, Branching, branches_of}
+use Rattle.message_pattern.specs.PatternParts.{Part, PatternPiece, Begin, Selector, Branching, branches_of}
 use Rattle.message_format.specs.FormatBranches.{behind_end}
 
 -- the depth of the first part
@@ -11,6 +11,16 @@ first_depth (p ∷ ps) = p.depth
 -- the branches of the argument that the first part begins
 abbrev pub branches_at : List Part → List Branching
 branches_at ps = branches_of (first_depth ps) (drop 1 ps)
+
+-- an argument that chooses begins
+abbrev pub Begins : PatternPiece → Type 0
+Begins (Begin kind name offset) = Unit {0}
+Begins _ = ⊥
+
+-- the first part begins one
+abbrev pub IsBegun : List Part → Type 0
+IsBegun [] = ⊥
+IsBegun (p ∷ ps) = Begins p.piece
 
 -- Parts that are left of such an argument: behind its end stand the same as from its beginning on.
 -- They are no more than those behind the beginning.

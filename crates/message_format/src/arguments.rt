@@ -22,8 +22,29 @@ pub struct Argument<'a> {
     pub value: Value<'a>,
 }
 
+/// The arguments of a message.
+pub trait Arguments {
+    ghost use Rattle.std.specs.Prelude.{List};
+    ghost use Rattle.message_format.specs.FormatArguments.{Argument};
+
+    ghost arguments: { Self → List Argument };
+
+    /// Returns the value of the first argument that has the name.
+    fn value<'s>(&'s self, name: &[u8]) -> Option<Value<'s>>
+        ensures { any_value result ≡ value_named name.now (arguments self.now) };
+}
+
+impl<'l, 'a> Arguments for &'l [Argument<'a>] {
+    ghost arguments = { λ list. arguments_view list.now };
+
+    #[inline(always)]
+    fn value<'s>(&'s self, name: &[u8]) -> Option<Value<'s>> {
+        value_named(name, *self)
+    }
+}
+
 // The value of the first argument that has the name.
-pub(crate) fn value_named<'a>(name: &[u8], arguments: &[Argument<'a>]) -> Option<Value<'a>>
+fn value_named<'a>(name: &[u8], arguments: &[Argument<'a>]) -> Option<Value<'a>>
     ensures { any_value result ≡ value_named name.now (arguments_view arguments.now) }
 {
     let mut left = arguments;

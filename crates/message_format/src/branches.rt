@@ -1,8 +1,8 @@
 //! The branches of an argument.
 
-ghost use Rattle.std.specs.Prelude.{◌≡◌, ◌≤◌, ◌↔◌, length, IsTrue, IfOk, option_map};
+ghost use Rattle.std.specs.Prelude.{◌↔◌, IsTrue, IfOk, option_map};
 ghost use Rattle.message_pattern.specs.PatternParts.{parts_view, branches_of};
-ghost use Rattle.message_format.specs.FormatBranches.{behind_end, Equals, HasBranchOfValue, IsBranchOfNumber};
+ghost use Rattle.message_format.specs.FormatBranches.{Equals, HasBranchOfValue, IsBranchOfNumber};
 ghost use Rattle.message_format.specs.FormatParts.{branches_at, AreLeftOf, AreWithin, IsFirst};
 ghost use Rattle.message_format.specs.Inner.FormatViews.{IsWithin};
 
@@ -11,25 +11,8 @@ use crate::source::{Found, MessageParts, Seen};
 use crate::text_rules::TextRules;
 use crate::walks::first_chosen;
 use fixed_decimal::CompactDecimal;
-use message_pattern::{Part, Piece};
+use message_pattern::Part;
 use std::alloc::{AllocError, Global};
-
-// The parts that follow the end of an argument at this depth.
-pub(crate) fn behind_end<'p, P: MessageParts<'p>>(depth: usize, parts: P) -> P
-    ensures rest { P.parts result ≡ behind_end depth (P.parts parts) }
-    ensures shorter { length (P.parts result) ≤ length (P.parts parts) }
-{
-    let mut left = parts;
-    while let Some((part, rest)) = left.first() {
-        if part.depth <= depth {
-            if let Piece::End = part.piece {
-                return rest;
-            }
-        }
-        left = rest;
-    }
-    left
-}
 
 // The first branch whose selector is `=` and a number of the same value.
 fn branch_of_value<'p, P: MessageParts<'p>>(

@@ -45,7 +45,7 @@ pub fn format<'p>(
     };
     say(
         alloc,
-        arguments,
+        &arguments,
         rules.cardinal,
         rules.ordinal,
         b"",

@@ -19,7 +19,7 @@ mod steps;
 mod text_rules;
 mod walks;
 
-pub use arguments::{Argument, Value};
+pub use arguments::{Argument, Arguments, Value};
 pub use branches::has_branch_of_value;
 pub use error::{ArgumentFault, FormatError};
 pub use formatting::format;

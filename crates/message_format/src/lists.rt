@@ -5,7 +5,7 @@ ghost use Rattle.message_pattern.specs.PatternParts.{parts_view};
 ghost use Rattle.message_format.specs.FormatParts.{first_depth};
 
 use crate::source::{Chooser, Found, MessageParts, Seen};
-use crate::walks::{branch_or_other, first_chosen};
+use crate::walks::{behind_end, branch_or_other, first_chosen};
 use message_pattern::Part;
 use plural_base::PluralCategory;
 
@@ -50,5 +50,11 @@ impl<'s, 'p> MessageParts<'p> for &'s [Part<'p>] {
     fn first_chosen<C: Chooser>(self, chooser: &C) -> Result<Seen<Self>, C::Stop> {
         let (depth, rest) = begun(self);
         first_chosen(chooser, depth, rest)
+    }
+
+    #[inline(always)]
+    fn behind(self, left: Self) -> Self {
+        let (depth, _) = begun(self);
+        behind_end(depth, left)
     }
 }

@@ -1,12 +1,10 @@
 //! A walk over the parts of a message.
 
 ghost use Rattle.std.specs.Prelude.{ℕ, List};
-ghost use Rattle.message_format.specs.FormatArguments.{arguments_view};
 ghost use Rattle.message_format.specs.FormatSteps.{both};
 ghost use Rattle.message_format.specs.Inner.FormatViews.{AreFewer, GivesOutcome, StepsTo};
 
-use crate::arguments::{Argument, value_named};
-use crate::branches::behind_end;
+use crate::arguments::Arguments;
 use crate::error::FormatError;
 use crate::shown::Shown;
 use crate::sink::Sink;
@@ -40,31 +38,31 @@ pub trait MessageSteps: Copy {
 
     /// Says the first part, if it is a text, `#` or `{name}`, and returns how the message goes on;
     /// none at its end.
-    fn step<'s, R: TextRules, W: Sink>(
+    fn step<'s, R: TextRules, A: Arguments, W: Sink>(
         self,
         alloc: Global,
-        arguments: &'s [Argument<'s>],
+        arguments: &'s A,
         cardinal: &R,
         ordinal: &R,
         hash: &'s [u8],
         said: &mut W,
     ) -> Result<Option<Next<'s, Self>>, Self::Fault>
-        ensures said { (before : List ℕ) → W.IsSaid said.old before → StepsTo parts error (arguments_view arguments.now) (both (R.rules cardinal.now) (R.rules ordinal.now)) hash.now (parts self) before (W.IsSaid said.new) result }
+        ensures said { (before : List ℕ) → W.IsSaid said.old before → StepsTo parts error (A.arguments arguments.now) (both (R.rules cardinal.now) (R.rules ordinal.now)) hash.now (parts self) before (W.IsSaid said.new) result }
         ensures fewer { AreFewer parts (parts self) result };
 }
 
 /// Makes a step of parts: [`MessageSteps::step`] for each type of parts.
 #[inline(always)]
-pub fn step_of<'s, 'p, R: TextRules, P: MessageParts<'p>, W: Sink>(
+pub fn step_of<'s, 'p, R: TextRules, A: Arguments, P: MessageParts<'p>, W: Sink>(
     parts: P,
     alloc: Global,
-    arguments: &'s [Argument<'s>],
+    arguments: &'s A,
     cardinal: &R,
     ordinal: &R,
     hash: &'s [u8],
     said: &mut W,
 ) -> Result<Option<Next<'s, P>>, FormatError<'p>>
-    ensures said { (before : List ℕ) → W.IsSaid said.old before → StepsTo P.parts (λ f. f) (arguments_view arguments.now) (both (R.rules cardinal.now) (R.rules ordinal.now)) hash.now (P.parts parts) before (W.IsSaid said.new) result }
+    ensures said { (before : List ℕ) → W.IsSaid said.old before → StepsTo P.parts (λ f. f) (A.arguments arguments.now) (both (R.rules cardinal.now) (R.rules ordinal.now)) hash.now (P.parts parts) before (W.IsSaid said.new) result }
     ensures fewer { AreFewer P.parts (P.parts parts) result }
 {
     let Some(found) = parts.first() else {
@@ -86,7 +84,7 @@ pub fn step_of<'s, 'p, R: TextRules, P: MessageParts<'p>, W: Sink>(
             }))
         }
         Piece::Argument(name) => {
-            let text = shown_value(name, value_named(name, arguments))?;
+            let text = shown_value(name, arguments.value(name))?;
             said.add(text)?;
             Ok(Some(Next {
                 branch: None,
@@ -94,11 +92,11 @@ pub fn step_of<'s, 'p, R: TextRules, P: MessageParts<'p>, W: Sink>(
             }))
         }
         Piece::Begin(kind, name, offset) => {
-            let value = value_named(name, arguments);
+            let value = arguments.value(name);
             let (shown, taken) = chosen(
                 alloc, cardinal, ordinal, hash, kind, name, offset, parts, value,
             )?;
-            let rest = behind_end(found.0.depth, taken.left);
+            let rest = parts.behind(taken.left);
             let branch = Some((shown, taken.branch));
             Ok(Some(Next { branch, rest }))
         }
@@ -115,10 +113,10 @@ impl<'l, 'p> MessageSteps for &'l [Part<'p>] {
 
     ghost error = { λ f. f };
 
-    fn step<'s, R: TextRules, W: Sink>(
+    fn step<'s, R: TextRules, A: Arguments, W: Sink>(
         self,
         alloc: Global,
-        arguments: &'s [Argument<'s>],
+        arguments: &'s A,
         cardinal: &R,
         ordinal: &R,
         hash: &'s [u8],
@@ -129,16 +127,16 @@ impl<'l, 'p> MessageSteps for &'l [Part<'p>] {
 }
 
 /// Says the message at the front of parts, where `#` is a text, behind what was said before.
-pub fn say<'s, R: TextRules, S: MessageSteps, W: Sink>(
+pub fn say<'s, R: TextRules, A: Arguments, S: MessageSteps, W: Sink>(
     alloc: Global,
-    arguments: &'s [Argument<'s>],
+    arguments: &'s A,
     cardinal: &R,
     ordinal: &R,
     hash: &'s [u8],
     parts: S,
     said: &mut W,
 ) -> Result<(), S::Fault>
-    ensures { (before : List ℕ) → W.IsSaid said.old before → GivesOutcome S.error (arguments_view arguments.now) (both (R.rules cardinal.now) (R.rules ordinal.now)) hash.now (S.parts parts) before (W.IsSaid said.new) result }
+    ensures { (before : List ℕ) → W.IsSaid said.old before → GivesOutcome S.error (A.arguments arguments.now) (both (R.rules cardinal.now) (R.rules ordinal.now)) hash.now (S.parts parts) before (W.IsSaid said.new) result }
 {
     let mut left = parts;
     'parts: while let Some(next) = left.step(alloc, arguments, cardinal, ordinal, hash, said)? {

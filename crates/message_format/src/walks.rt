@@ -10,6 +10,24 @@ use crate::source::{Chooser, Found, Seen};
 use message_pattern::{Part, Piece, Selector};
 use std::convert::Infallible;
 
+// The parts that follow the end of an argument at this depth.
+#[inline(always)]
+pub(crate) fn behind_end<'s, 'p>(depth: usize, parts: &'s [Part<'p>]) -> &'s [Part<'p>]
+    ensures rest { parts_view result.now ≡ behind_end depth (parts_view parts.now) }
+    ensures shorter { length result.now ≤ length parts.now }
+{
+    let mut left = parts;
+    while let [part, rest @ ..] = left {
+        if part.depth <= depth {
+            if let Piece::End = part.piece {
+                return rest;
+            }
+        }
+        left = rest;
+    }
+    left
+}
+
 // The first branch that is chosen; the error is why a selector isn't compared.
 #[inline(always)]
 pub(crate) fn first_chosen<'s, 'p, C: Chooser>(

@@ -34,8 +34,8 @@ module _ (placed : PlacedPart) (ps : List Part) (index : ℕ) (h : IsPlaced plac
   pub shorter_begun : (at : ℕ) → index < at → length (drop at ps) ≤ length (drop 1 (drop index ps))
   shorter_begun at behind = omega (arith, length-drop at ps, length-drop index ps, length-drop 1 (drop index ps))
 
-  pub left_begun : (at : ℕ) → index < at → behind_end placed.part.depth (drop at ps) ≡ behind_end placed.part.depth (drop (index + 1) ps) → AreLeftOf (drop index ps) (drop at ps)
-  left_begun at behind end = record {
-    behind = subst (λ (l : List Part). behind_end (first_depth l) (drop at ps) ≡ behind_end (first_depth l) (drop 1 l)) (sym begun) end;
-    fewer = shorter_begun at behind;
+  pub left_begun : AreLeftOf (drop index ps) (drop (index + 1) ps)
+  left_begun = record {
+    behind = subst (λ (l : List Part). behind_end (first_depth l) (drop (index + 1) ps) ≡ behind_end (first_depth l) (drop 1 l)) (sym begun) refl;
+    fewer = shorter_begun (index + 1) (omega arith);
   }

@@ -5,9 +5,9 @@ use Rattle.std.proofs.lemmas.Bool.Decides.{nat_tests}
 use Rattle.std.proofs.lemmas.List.{drop_more}
 use Rattle.std.proofs.lemmas.Option.{slice_get_within, get_or_from_slice_get}
 use Rattle.message_pattern.specs.PatternParts.{Part, PatternPiece, Exactly, Keyword, Text, Hash, Argument, Begin, Branch, End, branches_of}
-use Rattle.message_format.specs.FormatBranches.{behind_end, branch_of_keyword, branch_or_other, parts_or_none, or_branch}
+use Rattle.message_format.specs.FormatBranches.{branch_of_keyword, branch_or_other, parts_or_none, or_branch}
 use Rattle.packed_pattern.specs.PackedParts.{items_of}
-use Rattle.packed_pattern.specs.PartPlaces.{AnyNumber, Word, argument_length, branch_length, branch_place, one_more, or_place, place_or_other}
+use Rattle.packed_pattern.specs.PartPlaces.{AnyNumber, Word, branch_length, branch_place, one_more, or_place, place_or_other}
 use Rattle.packed_format.specs.Inner.PackedSteps.{numbers_of, parts_behind}
 
 -- the part at a place is the first of those from it on
@@ -35,22 +35,6 @@ behind_branch depth (p ∷ ps) = this (nat_lt depth p.depth) refl (behind_branch
         → branches_of depth (drop (branch_length depth (p ∷ ps)) (p ∷ ps)) ≡ branches_of depth (p ∷ ps)
     this true is more = rw (is, add-one) more
     this false is more = rw (is, is) refl
-
--- behind the length of an argument stands its end
-pub at_end : (depth : ℕ) (ps : List Part) → behind_end depth (drop (argument_length depth ps) ps) ≡ behind_end depth ps
-at_end depth [] = refl
-at_end depth (p ∷ ps) = this (nat_lt depth p.depth) p.piece refl refl (at_end depth ps)
-  where
-    this : (b : Bool) (q : PatternPiece) → nat_lt depth p.depth ≡ b → p.piece ≡ q
-        → behind_end depth (drop (argument_length depth ps) ps) ≡ behind_end depth ps
-        → behind_end depth (drop (argument_length depth (p ∷ ps)) (p ∷ ps)) ≡ behind_end depth (p ∷ ps)
-    this true q deeper is more = rw (deeper, add-one) more
-    this false (Branch s) deeper is more = rw (deeper, is, add-one) more
-    this false (Text text) deeper is more = rw (deeper, is, deeper) refl
-    this false Hash deeper is more = rw (deeper, is, deeper) refl
-    this false (Argument name) deeper is more = rw (deeper, is, deeper) refl
-    this false (Begin kind name offset) deeper is more = rw (deeper, is, deeper) refl
-    this false End deeper is more = rw (deeper, is, deeper) refl
 
 -- ---- by a keyword
 

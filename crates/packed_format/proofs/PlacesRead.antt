@@ -3,13 +3,12 @@ use Rattle.std.proofs.Common.{◌≡◌, ◌∙◌, ◌+◌, ◌<◌, ℕ, zero,
 use Rattle.std.specs.Prelude.{slice_index, length, codes}
 use Rattle.std.proofs.lemmas.List.{drop-drop}
 use Rattle.std.proofs.lemmas.Option.{slice_get_within}
-use Rattle.message_pattern.specs.declared.part.ArgumentKind.{ArgumentKind}
 use Rattle.message_pattern.specs.declared.part.ArgumentKind.TheVariants.{Plural, Ordinal, Select}
 use Rattle.message_pattern.specs.PatternParts.{Part, PatternPiece, Selector, Exactly, Keyword, Text, Hash, Argument, Begin, Branch, End, branches_of}
-use Rattle.message_format.specs.FormatBranches.{behind_end, branch_of_keyword, branch_or_other, parts_or_none}
-use Rattle.packed_pattern.specs.PartPlaces.{AnyNumber, Word, PlacedPart, IsPlaced, argument_length, argument_places, branch_length, branch_place, place_or_other, places_of, selector_places}
+use Rattle.message_format.specs.FormatBranches.{branch_of_keyword, branch_or_other, parts_or_none}
+use Rattle.packed_pattern.specs.PartPlaces.{AnyNumber, Word, PlacedPart, IsPlaced, argument_places, branch_length, branch_place, place_or_other, places_of, selector_places}
 use Rattle.packed_format.specs.Inner.PackedSteps.{has_next_number, is_plural, numbers_from, numbers_of, parts_behind}
-use Rattle.packed_format.proofs.BehindParts.{IsNumberPlace, at_end, at_place, at_word, behind_branch, number_place, word_place}
+use Rattle.packed_format.proofs.BehindParts.{IsNumberPlace, at_place, at_word, behind_branch, number_place, word_place}
 
 -- a place is within the parts
 pub within : (placed : PlacedPart) (parts : List Part) (index : ℕ) → IsPlaced placed parts index → index < length parts
@@ -20,21 +19,6 @@ a_place : (placed : PlacedPart) (parts : List Part) (index which n : ℕ) (q : P
     → n ≡ slice_index placed.places which → n ≡ slice_index (places_of placed.part.depth q (drop (index + 1) parts)) which
 a_place placed parts index which n q h is e =
     e ∙ ap (λ (l : List ℕ). slice_index l which) (h.places ∙ ap (λ (x : PatternPiece). places_of placed.part.depth x (drop (index + 1) parts)) is)
-
-argument_end : (kind : ArgumentKind) (depth : ℕ) (ps : List Part) → slice_index (argument_places kind depth ps) 0 ≡ argument_length depth ps
-argument_end Plural depth ps = refl
-argument_end Ordinal depth ps = refl
-argument_end Select depth ps = refl
-
--- the end of an argument is sought from its place on
-pub left_end : (placed : PlacedPart) (parts : List Part) (index n : ℕ) (kind : ArgumentKind) (name : List ℕ) (offset : Option (List ℕ)) → IsPlaced placed parts index
-    → placed.part.piece ≡ Begin kind name offset → n ≡ slice_index placed.places 0
-    → behind_end placed.part.depth (drop (index + 1 + n) parts) ≡ behind_end placed.part.depth (drop (index + 1) parts)
-left_end placed parts index n kind name offset h is e =
-    let rest = drop (index + 1) parts in
-    let d = placed.part.depth in
-    let length_of : n ≡ argument_length d rest = a_place placed parts index 0 n (Begin kind name offset) h is e ∙ argument_end kind d rest in
-    ap (behind_end d) (sym (drop-drop n (index + 1) parts) ∙ ap (λ (k : ℕ). drop k rest) length_of) ∙ at_end d rest
 
 branch_end : (s : Selector) (depth : ℕ) (ps : List Part) → slice_index (selector_places s depth ps) 0 ≡ branch_length depth ps
 branch_end (Exactly number) depth ps = refl

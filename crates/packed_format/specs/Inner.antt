@@ -1,2 +1,3 @@
 -- No definitions of the subject: what private functions find, for private contracts.
 pub mod PackedSteps
+pub mod FoundNames

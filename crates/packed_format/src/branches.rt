@@ -6,6 +6,7 @@ ghost use Rattle.message_pattern.specs.PatternParts.{Keyword, branches_of};
 ghost use Rattle.message_format.specs.FormatBranches.{branch_of_keyword, branch_or_other, parts_or_none};
 ghost use Rattle.message_format.specs.FormatParts.{IsFirst};
 ghost use Rattle.packed_pattern.specs.PartPlaces.{IsPlaced};
+ghost use Rattle.packed_pattern.specs.Inner.PlaceViews.{placed_view};
 
 use crate::steps::{category_index, is_plural, next_number, next_selector, place_behind};
 use message_format::Chooser;
@@ -48,9 +49,9 @@ fn branch_of_keyword(
 // none.
 fn branch_other(pattern: &PackedPattern<'_>, index: usize, begin: &PlacedPart<'_>) -> usize
     requires few { length pattern.now ≤ 65535 }
-    requires placed { IsPlaced begin.now pattern.now index }
+    requires placed { IsPlaced (placed_view begin.now) pattern.now index }
     requires within { index < length pattern.now }
-    ensures branch { drop result pattern.now ≡ parts_or_none (branch_of_keyword (codes "other") (branches_of begin.now.part.depth (drop (index + 1) pattern.now))) }
+    ensures branch { drop result pattern.now ≡ parts_or_none (branch_of_keyword (codes "other") (branches_of (placed_view begin.now).part.depth (drop (index + 1) pattern.now))) }
     ensures behind { index < result }
 {
     let part = begin.part();
@@ -72,9 +73,9 @@ pub(crate) fn branch_of_word(
     begin: &PlacedPart<'_>,
 ) -> usize
     requires few { length pattern.now ≤ 65535 }
-    requires placed { IsPlaced begin.now pattern.now index }
+    requires placed { IsPlaced (placed_view begin.now) pattern.now index }
     requires within { index < length pattern.now }
-    ensures branch { drop result pattern.now ≡ branch_or_other word.now (branches_of begin.now.part.depth (drop (index + 1) pattern.now)) }
+    ensures branch { drop result pattern.now ≡ branch_or_other word.now (branches_of (placed_view begin.now).part.depth (drop (index + 1) pattern.now)) }
     ensures behind { index < result }
 {
     match branch_of_keyword(pattern, word, begin.part().depth, index) {
@@ -93,9 +94,9 @@ pub(crate) fn branch_of_category(
     begin: &PlacedPart<'_>,
 ) -> usize
     requires few { length pattern.now ≤ 65535 }
-    requires placed { IsPlaced begin.now pattern.now index }
+    requires placed { IsPlaced (placed_view begin.now) pattern.now index }
     requires within { index < length pattern.now }
-    ensures branch { drop result pattern.now ≡ branch_or_other (name_of category) (branches_of begin.now.part.depth (drop (index + 1) pattern.now)) }
+    ensures branch { drop result pattern.now ≡ branch_or_other (name_of category) (branches_of (placed_view begin.now).part.depth (drop (index + 1) pattern.now)) }
     ensures behind { index < result }
 {
     if is_plural(begin.part().piece) {
@@ -116,9 +117,9 @@ pub(crate) fn first_chosen<C: Chooser>(
     requires ready { C.IsReady chooser.now }
     requires numbers { (word : List ℕ) → C.IsChosen chooser.now (Keyword word) → ⊥ }
     requires few { length pattern.now ≤ 65535 }
-    requires placed { IsPlaced begin.now pattern.now index }
+    requires placed { IsPlaced (placed_view begin.now) pattern.now index }
     requires within { index < length pattern.now }
-    ensures first { IfOk result (λ found. IsFirst (C.IsChosen chooser.now) (branches_of begin.now.part.depth (drop (index + 1) pattern.now)) (option_map (λ at. drop at pattern.now) found)) }
+    ensures first { IfOk result (λ found. IsFirst (C.IsChosen chooser.now) (branches_of (placed_view begin.now).part.depth (drop (index + 1) pattern.now)) (option_map (λ at. drop at pattern.now) found)) }
     ensures behind { IfOk result (λ found. IfSome found (λ at. index < at)) }
 {
     let depth = begin.part().depth;

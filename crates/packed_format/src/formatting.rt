@@ -5,11 +5,13 @@ ghost use Rattle.message_format.specs.FormatArguments.{arguments_view};
 ghost use Rattle.message_format.specs.FormatMeaning.{SaysExactly};
 ghost use Rattle.message_format.specs.FormatSteps.{both};
 ghost use Rattle.message_format.specs.Inner.FormatViews.{GivesOutcome, outcome_of, two_rules};
+ghost use Rattle.packed_format.specs.Inner.FoundNames.{placed_arguments};
 
+use crate::by_place::PlacedValues;
 use crate::parts::BlockParts;
 use arrayvec::ArrayVec;
 use message_format::laws::one_outcome;
-use message_format::{Argument, FormatError, Rules, Sink, TextLength, TextRules, say};
+use message_format::{Argument, Arguments, FormatError, Rules, Sink, TextLength, TextRules, say};
 use packed_pattern::PackedPattern;
 use plural_base::PreparedRules;
 use std::alloc::Global;
@@ -36,7 +38,7 @@ pub fn say_packed<'a, W: Sink>(
     say_by(
         alloc,
         pattern,
-        arguments,
+        &arguments,
         rules.cardinal,
         rules.ordinal,
         said,
@@ -55,7 +57,7 @@ pub fn say_prepared<'a, 'r, W: Sink>(
     ensures { (before : List ℕ) → W.IsSaid said.old before
         → GivesOutcome (λ f. f) (arguments_view arguments.now) (both cardinal.now ordinal.now) [] pattern.now before (W.IsSaid said.new) result }
 {
-    say_by(alloc, pattern, arguments, cardinal, ordinal, said)
+    say_by(alloc, pattern, &arguments, cardinal, ordinal, said)
 }
 
 /// Returns what a packed pattern says with its arguments, as [`format`](message_format::format) does
@@ -69,7 +71,7 @@ pub fn format_packed<'a>(
 ) -> Result<Vec<u8>, FormatError<'a>>
     ensures { SaysExactly (arguments_view arguments.now) (two_rules rules.now) pattern.now (outcome_of result) }
 {
-    format_by(alloc, pattern, arguments, rules.cardinal, rules.ordinal)
+    format_by(alloc, pattern, &arguments, rules.cardinal, rules.ordinal)
 }
 
 /// Returns what a packed pattern says as [`format_packed`] does, under prepared rules.
@@ -82,21 +84,50 @@ pub fn format_prepared<'a, 'r>(
 ) -> Result<Vec<u8>, FormatError<'a>>
     ensures { SaysExactly (arguments_view arguments.now) (both cardinal.now ordinal.now) pattern.now (outcome_of result) }
 {
-    format_by(alloc, pattern, arguments, cardinal, ordinal)
+    format_by(alloc, pattern, &arguments, cardinal, ordinal)
+}
+
+/// Says a packed pattern as [`say_prepared`] does, with arguments by the places of their names.
+pub fn say_by_place<'a, 'r, W: Sink>(
+    alloc: Global,
+    pattern: &PackedPattern<'a>,
+    placed: PlacedValues<'_>,
+    cardinal: &PreparedRules<'r>,
+    ordinal: &PreparedRules<'r>,
+    said: &mut W,
+) -> Result<(), FormatError<'a>>
+    ensures { (before : List ℕ) → W.IsSaid said.old before
+        → GivesOutcome (λ f. f) (placed_arguments placed.entry) (both cardinal.now ordinal.now) [] pattern.now before (W.IsSaid said.new) result }
+{
+    say_by(alloc, pattern, &placed, cardinal, ordinal, said)
+}
+
+/// Returns what a packed pattern says as [`format_prepared`] does, with arguments by the places of
+/// their names: what it says with the arguments that have these names and values.
+pub fn format_by_place<'a, 'r>(
+    alloc: Global,
+    pattern: &PackedPattern<'a>,
+    placed: PlacedValues<'_>,
+    cardinal: &PreparedRules<'r>,
+    ordinal: &PreparedRules<'r>,
+) -> Result<Vec<u8>, FormatError<'a>>
+    ensures { SaysExactly (placed_arguments placed.entry) (both cardinal.now ordinal.now) pattern.now (outcome_of result) }
+{
+    format_by(alloc, pattern, &placed, cardinal, ordinal)
 }
 
 // Says a packed pattern under rules of either form.
 #[inline(always)]
-fn say_by<'a, R: TextRules, W: Sink>(
+fn say_by<'a, R: TextRules, A: Arguments, W: Sink>(
     alloc: Global,
     pattern: &PackedPattern<'a>,
-    arguments: &[Argument<'_>],
+    arguments: &A,
     cardinal: &R,
     ordinal: &R,
     said: &mut W,
 ) -> Result<(), FormatError<'a>>
     ensures { (before : List ℕ) → W.IsSaid said.old before
-        → GivesOutcome (λ f. f) (arguments_view arguments.now) (both (R.rules cardinal.now) (R.rules ordinal.now)) [] pattern.now before (W.IsSaid said.new) result }
+        → GivesOutcome (λ f. f) (A.arguments arguments.now) (both (R.rules cardinal.now) (R.rules ordinal.now)) [] pattern.now before (W.IsSaid said.new) result }
 {
     say(
         alloc,
@@ -111,14 +142,14 @@ fn say_by<'a, R: TextRules, W: Sink>(
 
 // What a packed pattern says under rules of either form.
 #[inline(always)]
-fn format_by<'a, R: TextRules>(
+fn format_by<'a, R: TextRules, A: Arguments>(
     alloc: Global,
     pattern: &PackedPattern<'a>,
-    arguments: &[Argument<'_>],
+    arguments: &A,
     cardinal: &R,
     ordinal: &R,
 ) -> Result<Vec<u8>, FormatError<'a>>
-    ensures { SaysExactly (arguments_view arguments.now) (both (R.rules cardinal.now) (R.rules ordinal.now)) pattern.now (outcome_of result) }
+    ensures { SaysExactly (A.arguments arguments.now) (both (R.rules cardinal.now) (R.rules ordinal.now)) pattern.now (outcome_of result) }
 {
     one_outcome();
     let mut short = ArrayVec::<u8, SHORT>::new();
@@ -135,14 +166,14 @@ fn format_by<'a, R: TextRules>(
 
 // The same of a text that may be long: it is said twice, the first time to count its bytes.
 #[inline(never)]
-fn format_long<'a, R: TextRules>(
+fn format_long<'a, R: TextRules, A: Arguments>(
     alloc: Global,
     pattern: &PackedPattern<'a>,
-    arguments: &[Argument<'_>],
+    arguments: &A,
     cardinal: &R,
     ordinal: &R,
 ) -> Result<Vec<u8>, FormatError<'a>>
-    ensures { SaysExactly (arguments_view arguments.now) (both (R.rules cardinal.now) (R.rules ordinal.now)) pattern.now (outcome_of result) }
+    ensures { SaysExactly (A.arguments arguments.now) (both (R.rules cardinal.now) (R.rules ordinal.now)) pattern.now (outcome_of result) }
 {
     one_outcome();
     let mut length = TextLength { count: 0 };

@@ -2,8 +2,12 @@
 #![tactic(auto)]
 
 mod branches;
+mod by_place;
 mod formatting;
 mod parts;
 mod steps;
 
-pub use formatting::{format_packed, format_prepared, say_packed, say_prepared};
+pub use by_place::{PlacedValues, argument_names};
+pub use formatting::{
+    format_by_place, format_packed, format_prepared, say_by_place, say_packed, say_prepared,
+};

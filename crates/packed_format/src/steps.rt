@@ -4,8 +4,8 @@ ghost use Rattle.std.specs.Prelude.{◌≡◌, ◌≤◌, ◌<◌, ◌+◌, ℕ,
 ghost use Rattle.plural_base.specs.Categories.{name_of};
 ghost use Rattle.message_pattern.specs.PatternParts.{Part as SpecPart, piece_view, branches_of};
 ghost use Rattle.message_pattern.specs.declared.part.ArgumentKind.TheVariants.{Plural};
-ghost use Rattle.message_format.specs.FormatBranches.{behind_end};
 ghost use Rattle.packed_pattern.specs.PartPlaces.{IsPlaced, argument_places, place_or_other};
+ghost use Rattle.packed_pattern.specs.Inner.PlaceViews.{placed_view};
 ghost use Rattle.packed_format.specs.Inner.PackedSteps.{AreNext, has_next_number, is_plural, parts_behind};
 
 use message_pattern::{ArgumentKind, Piece, Selector};
@@ -17,7 +17,7 @@ use plural_base::PluralCategory;
 #[inline(always)]
 pub(crate) fn next_selector(index: usize, placed: &PlacedPart<'_>, depth: usize) -> usize
     requires { index ≤ 65535 }
-    ensures branches { (parts : List SpecPart) → IsPlaced placed.now parts index → branches_of depth (drop result parts) ≡ branches_of depth (drop (index + 1) parts) }
+    ensures branches { (parts : List SpecPart) → IsPlaced (placed_view placed.now) parts index → branches_of depth (drop result parts) ≡ branches_of depth (drop (index + 1) parts) }
     ensures behind { index < result }
     ensures few { result ≤ index + 65536 }
 {
@@ -55,7 +55,7 @@ fn has_next_number(piece: Piece<'_>) -> bool
 #[inline(always)]
 pub(crate) fn next_number(index: usize, placed: &PlacedPart<'_>, depth: usize) -> Option<usize>
     requires { index ≤ 65535 }
-    ensures { (parts : List SpecPart) → IsPlaced placed.now parts index → AreNext depth parts index result }
+    ensures { (parts : List SpecPart) → IsPlaced (placed_view placed.now) parts index → AreNext depth parts index result }
 {
     let part = placed.part();
     if part.depth != depth || !has_next_number(part.piece) {
@@ -66,19 +66,6 @@ pub(crate) fn next_number(index: usize, placed: &PlacedPart<'_>, depth: usize) -
         None
     } else {
         Some(index + place)
-    }
-}
-
-// From where on the end of an argument is sought.
-#[inline(always)]
-pub(crate) fn left_place(index: usize, begin: &PlacedPart<'_>) -> usize
-    requires { index ≤ 65535 }
-    ensures end { (parts : List SpecPart) → IsPlaced begin.now parts index → behind_end begin.now.part.depth (drop result parts) ≡ behind_end begin.now.part.depth (drop (index + 1) parts) }
-    ensures behind { index < result }
-{
-    match begin.part().piece {
-        Piece::Begin(_, _, _) => index + 1 + begin.place(0),
-        _ => index + 1,
     }
 }
 

@@ -6,6 +6,7 @@ ghost use Rattle.message_pattern.specs.PatternPrinting.{PrintsExactly};
 ghost use Rattle.packed_pattern.specs.PartPlaces.{IsPlaced};
 ghost use Rattle.packed_pattern.specs.PatternBlocks.{HasBlockFault, IsPatternBlock, PatternBlock, first_item_fault, item_fault, items_fault};
 ghost use Rattle.packed_pattern.specs.Inner.PartReading.{part_in};
+ghost use Rattle.packed_pattern.specs.Inner.PlaceViews.{placed_view};
 
 use crate::error::BlockError;
 use crate::item::{is_item_of, is_packable, part_in, places_in};
@@ -107,7 +108,7 @@ impl<'a> PackedPattern<'a> {
     /// Returns the part at a place, with its places.
     #[inline(always)]
     pub fn placed(&self, index: usize) -> Option<PlacedPart<'a>>
-        ensures { MatchOption result (slice_get self.now index ≡ None) (λ placed. IsPlaced placed self.now index) }
+        ensures { MatchOption result (slice_get self.now index ≡ None) (λ placed. IsPlaced (placed_view placed) self.now index) }
     {
         let item = self.list.get(index)?;
         Some(PlacedPart { item })

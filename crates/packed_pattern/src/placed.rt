@@ -6,7 +6,6 @@ ghost use Rattle.packed_list.specs.Inner.ListReading.{numbers};
 
 use crate::item::{part_in, place_count};
 use message_pattern::Part;
-use std::marker::Model;
 
 /// A part of a packed pattern, and its places: of an argument its length, of a plural then the place
 /// of the first branch by a number, and those of the branches of the categories zero, one, two, few,
@@ -15,26 +14,18 @@ use std::marker::Model;
 ///
 /// The length counts the parts before the end of an argument, or of a branch. The place of a branch
 /// counts the parts from this one up to its selector; 0 is no branch.
-#[derive(Debug, Drop)]
+#[derive(Clone, Copy, Debug)]
 pub struct PlacedPart<'a> {
     pub(crate) item: &'a [u8],
 }
 
-impl<'a> Model for PlacedPart<'a> {
-    ghost use Rattle.packed_pattern.specs.PartPlaces.{PlacedPart};
-
-    ghost Value = { PlacedPart };
-
-    ghost use Rattle.packed_pattern.specs.Inner.PartReading.{item_places, part_in};
-
-    ghost view = { λ placed. record { part = part_in placed.item.now; places = item_places placed.item.now } };
-}
-
 impl<'a> PlacedPart<'a> {
+    ghost use Rattle.packed_pattern.specs.Inner.PlaceViews.{placed_view};
+
     /// Returns the part.
     #[inline(always)]
     pub fn part(&self) -> Part<'a>
-        ensures { part_view result ≡ self.now.part }
+        ensures { part_view result ≡ (placed_view self.now).part }
     {
         part_in(self.item)
     }
@@ -42,7 +33,7 @@ impl<'a> PlacedPart<'a> {
     /// Returns a place, and 0 if there are fewer.
     #[inline(always)]
     pub fn place(&self, index: usize) -> usize
-        ensures place { result ≡ slice_index self.now.places index }
+        ensures place { result ≡ slice_index (placed_view self.now).places index }
         ensures few { result ≤ 65535 }
     {
         match self.item {

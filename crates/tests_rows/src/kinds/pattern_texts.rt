@@ -2,7 +2,9 @@
 
 use message_format::{Argument, FormatError, Rules, Value, format};
 use message_pattern::Pattern;
-use packed_format::{format_packed, format_prepared};
+use packed_format::{
+    PlacedValues, argument_names, format_by_place, format_packed, format_prepared,
+};
 use packed_pattern::{PackedPattern, pack};
 use plural_base::PreparedRules;
 use row_calls::call::Call;
@@ -102,6 +104,49 @@ fn is_said_packed(
             said,
             &format_prepared(call.alloc, &pattern, arguments, &cardinal, &ordinal),
         )
+        && is_said_by_place(call, &pattern, arguments, &cardinal, &ordinal)
+}
+
+// Whether a block says with values by place what it says with the arguments of these names. The first
+// name without an argument has no value, and so have those behind it.
+fn is_said_by_place(
+    call: &Call,
+    pattern: &PackedPattern<'_>,
+    arguments: &[Argument<'_>],
+    cardinal: &PreparedRules<'_>,
+    ordinal: &PreparedRules<'_>,
+) -> bool {
+    let Ok(names) = argument_names(call.alloc, pattern) else {
+        return false;
+    };
+    let mut given = Vec::new(call.alloc);
+    let mut values = Vec::new(call.alloc);
+    for name in names.as_slice() {
+        let Some(argument) = argument_named(name, arguments) else {
+            break;
+        };
+        if given.push(argument).is_err() || values.push(argument.value).is_err() {
+            return false;
+        }
+    }
+    let placed = PlacedValues {
+        names: names.as_slice(),
+        values: values.as_slice(),
+    };
+    are_same(
+        &format_prepared(call.alloc, pattern, &given, cardinal, ordinal),
+        &format_by_place(call.alloc, pattern, placed, cardinal, ordinal),
+    )
+}
+
+// The first argument of a name.
+fn argument_named<'a>(name: &[u8], arguments: &[Argument<'a>]) -> Option<Argument<'a>> {
+    for argument in arguments {
+        if argument.name.as_bytes() == name {
+            return Some(*argument);
+        }
+    }
+    None
 }
 
 // Whether two outcomes are the same.

@@ -1,5 +1,4 @@
 use Rattle.std.proofs.Common.{◌≤◌, ℕ, List, length}
-use Rattle.message_format.specs.FormatArguments.{arguments_view}
 use Rattle.message_format.specs.FormatMeaning.{PatternOutcome, Says}
 use Rattle.message_format.specs.FormatSteps.{both}
 use Rattle.message_format.proofs.saying.+say.Given as goal
@@ -11,8 +10,8 @@ decreases-say g l = length (g.S.MessageSteps.parts l.parts)
 abbrev pub invariant-parts : goal.invariant-parts
 invariant-parts g l = record {
   says : (before : List ℕ) → g.W.Sink.IsSaid l.initial.said before
-      → (now : List ℕ) × g.W.Sink.IsSaid l.said now × ((outcome : PatternOutcome) → Says (arguments_view l.arguments) (both (g.R.TextRules.rules l.cardinal) (g.R.TextRules.rules l.ordinal)) l.hash now (g.S.MessageSteps.parts l.left) outcome
-      → Says (arguments_view l.arguments) (both (g.R.TextRules.rules l.cardinal) (g.R.TextRules.rules l.ordinal)) l.hash before (g.S.MessageSteps.parts l.fn.parts) outcome);
+      → (now : List ℕ) × g.W.Sink.IsSaid l.said now × ((outcome : PatternOutcome) → Says (g.A.Arguments.arguments l.arguments) (both (g.R.TextRules.rules l.cardinal) (g.R.TextRules.rules l.ordinal)) l.hash now (g.S.MessageSteps.parts l.left) outcome
+      → Says (g.A.Arguments.arguments l.arguments) (both (g.R.TextRules.rules l.cardinal) (g.R.TextRules.rules l.ordinal)) l.hash before (g.S.MessageSteps.parts l.fn.parts) outcome);
   shorter : length (g.S.MessageSteps.parts l.left) ≤ length (g.S.MessageSteps.parts l.fn.parts);
 }
 

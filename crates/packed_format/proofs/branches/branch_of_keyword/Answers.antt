@@ -1,6 +1,7 @@
 use Rattle.std.proofs.Common.{◌≡◌, ◌∙◌, ◌+◌, ◌∷◌, drop, refl, sym, ap, arith, true, false, bytes_eq, Some}
 use Rattle.message_pattern.specs.PatternParts.{branches_of, selector_view}
 use Rattle.message_format.specs.FormatBranches.{branch_of_keyword, is_keyword}
+use Rattle.packed_pattern.specs.Inner.PlaceViews.{placed_view}
 use Rattle.packed_format.proofs.BehindParts.{no_place}
 use Rattle.packed_format.proofs.PlacesRead.{within}
 use Rattle.packed_format.proofs.Walked.{deeper_there, selector_there, none_there, no_keyword}
@@ -9,20 +10,20 @@ use Rattle.packed_format.proofs.branches.branch_of_keyword.Goals as goal
 pub returns-in_default-piece : goal.returns-in_default-piece
 returns-in_default-piece c = record {
   branch = sym (ap (branch_of_keyword c.args.word.now)
-      (none_there c.in-Some.placed c.args.pattern.now c.loop-placed.at c.part-part.result c.in-Some.ensures c.part-part.ensures c.args.depth c.if-part-depth.true c.in_default-piece.not-Branch))
+      (none_there (placed_view c.in-Some.placed) c.args.pattern.now c.loop-placed.at c.part-part.result c.in-Some.ensures c.part-part.ensures c.args.depth c.if-part-depth.true c.in_default-piece.not-Branch))
       ∙ c.loop-placed.invariant.same;
   behind = tt;
 }
 
 pub overflow_add-result : goal.overflow_add-result
 overflow_add-result c =
-    let there = within c.in-Some.placed c.args.pattern.now c.loop-placed.at c.in-Some.ensures in
+    let there = within (placed_view c.in-Some.placed) c.args.pattern.now c.loop-placed.at c.in-Some.ensures in
     omega (arith, there, c.requires.few)
 
 pub returns-then-eq-clause-branch : goal.returns-then-eq-clause-branch
 returns-then-eq-clause-branch c =
     let bs = branches_of c.args.depth (drop (c.loop-placed.at + 1) c.args.pattern.now) in
-    let there = selector_there c.in-Some.placed c.args.pattern.now c.loop-placed.at c.part-part.result c.in-Some.ensures c.part-part.ensures c.args.depth c.in-Branch.selector c.if-part-depth.true c.in-Branch.is in
+    let there = selector_there (placed_view c.in-Some.placed) c.args.pattern.now c.loop-placed.at c.part-part.result c.in-Some.ensures c.part-part.ensures c.args.depth c.in-Branch.selector c.if-part-depth.true c.in-Branch.is in
     let same : bytes_eq c.in-Keyword.other.now c.args.word.now ≡ true = sym c.eq.ensures ∙ c.if-eq.true in
     let found : Some (drop (c.loop-placed.at + 1) c.args.pattern.now)
     ≡ branch_of_keyword c.args.word.now (record { selector = selector_view c.in-Branch.selector; parts = drop (c.loop-placed.at + 1) c.args.pattern.now } ∷ bs) = rw (c.in-Keyword.is, same) refl in
@@ -30,29 +31,29 @@ returns-then-eq-clause-branch c =
 
 pub next_selector-at-requires : goal.next_selector-at-requires
 next_selector-at-requires c =
-    let there = within c.in-Some.placed c.args.pattern.now c.loop-placed.at c.in-Some.ensures in
+    let there = within (placed_view c.in-Some.placed) c.args.pattern.now c.loop-placed.at c.in-Some.ensures in
     omega (arith, there, c.requires.few)
 
 pub loop-placed-smaller-else-eq : goal.loop-placed-smaller-else-eq
 loop-placed-smaller-else-eq c =
-    let there = within c.in-Some.placed c.args.pattern.now c.loop-placed.at c.in-Some.ensures in
+    let there = within (placed_view c.in-Some.placed) c.args.pattern.now c.loop-placed.at c.in-Some.ensures in
     omega (arith, there, c.next_selector-at.ensures.behind)
 
 pub loop-placed-smaller-in_default-selector : goal.loop-placed-smaller-in_default-selector
 loop-placed-smaller-in_default-selector c =
-    let there = within c.in-Some.placed c.args.pattern.now c.loop-placed.at c.in-Some.ensures in
+    let there = within (placed_view c.in-Some.placed) c.args.pattern.now c.loop-placed.at c.in-Some.ensures in
     omega (arith, there, c.next_selector-at.ensures.behind)
 
 pub loop-placed-smaller : goal.loop-placed-smaller
 loop-placed-smaller c =
-    let there = within c.in-Some.placed c.args.pattern.now c.loop-placed.at c.in-Some.ensures in
+    let there = within (placed_view c.in-Some.placed) c.args.pattern.now c.loop-placed.at c.in-Some.ensures in
     omega (arith, there, c.next_selector-at.ensures.behind)
 
 pub loop-placed-preserved-else-eq : goal.loop-placed-preserved-else-eq
 loop-placed-preserved-else-eq c =
     let word = c.args.word.now in
     let bs = branches_of c.args.depth (drop (c.loop-placed.at + 1) c.args.pattern.now) in
-    let placed = c.in-Some.placed in
+    let placed = (placed_view c.in-Some.placed) in
     let next = c.next_selector-at.ensures.branches c.args.pattern.now c.in-Some.ensures in
     let passed : branch_of_keyword word (branches_of c.args.depth (drop c.loop-placed.at c.args.pattern.now)) ≡ branch_of_keyword word bs =
     let there = selector_there placed c.args.pattern.now c.loop-placed.at c.part-part.result c.in-Some.ensures c.part-part.ensures c.args.depth c.in-Branch.selector c.if-part-depth.true c.in-Branch.is in
@@ -68,7 +69,7 @@ pub loop-placed-preserved-in_default-selector : goal.loop-placed-preserved-in_de
 loop-placed-preserved-in_default-selector c =
     let word = c.args.word.now in
     let bs = branches_of c.args.depth (drop (c.loop-placed.at + 1) c.args.pattern.now) in
-    let placed = c.in-Some.placed in
+    let placed = (placed_view c.in-Some.placed) in
     let next = c.next_selector-at.ensures.branches c.args.pattern.now c.in-Some.ensures in
     let passed : branch_of_keyword word (branches_of c.args.depth (drop c.loop-placed.at c.args.pattern.now)) ≡ branch_of_keyword word bs =
     let there = selector_there placed c.args.pattern.now c.loop-placed.at c.part-part.result c.in-Some.ensures c.part-part.ensures c.args.depth c.in-Branch.selector c.if-part-depth.true c.in-Branch.is in
@@ -84,7 +85,7 @@ pub loop-placed-preserved : goal.loop-placed-preserved
 loop-placed-preserved c =
     let word = c.args.word.now in
     let bs = branches_of c.args.depth (drop (c.loop-placed.at + 1) c.args.pattern.now) in
-    let placed = c.in-Some.placed in
+    let placed = (placed_view c.in-Some.placed) in
     let next = c.next_selector-at.ensures.branches c.args.pattern.now c.in-Some.ensures in
     let passed : branch_of_keyword word (branches_of c.args.depth (drop c.loop-placed.at c.args.pattern.now)) ≡ branch_of_keyword word bs =
     ap (branch_of_keyword word) (deeper_there placed c.args.pattern.now c.loop-placed.at c.part-part.result c.in-Some.ensures c.part-part.ensures c.args.depth c.if-part-depth.false)

@@ -1,6 +1,7 @@
 use Rattle.std.proofs.Common.{◌≡◌, ◌+◌, ◌<◌, ℕ, List, drop, length, refl, sym, ap, subst, inl, inr, arith, true, false, Option, Some, None}
 use Rattle.message_pattern.specs.PatternParts.{Part, Branching, branches_of, selector_view}
 use Rattle.message_format.specs.FormatParts.{IsFirst}
+use Rattle.packed_pattern.specs.Inner.PlaceViews.{placed_view}
 use Rattle.packed_format.proofs.BehindParts.{no_place}
 use Rattle.packed_format.proofs.FirstNumbers.{left_from, first_behind, next_behind, further, fewer_left}
 use Rattle.packed_format.proofs.PlacesRead.{within}
@@ -32,7 +33,7 @@ returns-in_default-piece g c =
     let P = g.C.Chooser.IsChosen c.args.chooser.now in
     let ps = c.args.pattern.now in
     let depth = c.part-depth.result.depth in
-    let none = none_there c.in-Some-placed.placed ps c.in-Some.at c.part-part.result c.in-Some-placed.ensures c.part-part.ensures depth c.if-part-depth.true c.in_default-piece.not-Branch in
+    let none = none_there (placed_view c.in-Some-placed.placed) ps c.in-Some.at c.part-part.result c.in-Some-placed.ensures c.part-part.ensures depth c.if-part-depth.true c.in_default-piece.not-Branch in
     let here = subst (λ (bs : List Branching). IsFirst P bs None) (sym none) refl in
     record {
       first = subst (λ (d : ℕ). IsFirst P (branches_of d (drop (c.args.index + 1) ps)) None) (ap (λ (p : Part). p.depth) c.part-depth.ensures)
@@ -42,7 +43,7 @@ returns-in_default-piece g c =
 
 pub overflow_add-result : goal.overflow_add-result
 overflow_add-result g c =
-    let there = within c.in-Some-placed.placed c.args.pattern.now c.in-Some.at c.in-Some-placed.ensures in
+    let there = within (placed_view c.in-Some-placed.placed) c.args.pattern.now c.in-Some.at c.in-Some-placed.ensures in
     omega (arith, there, c.requires.few)
 
 pub returns-then-chosen-clause-first : goal.returns-then-chosen-clause-first
@@ -51,20 +52,20 @@ returns-then-chosen-clause-first g c =
     let ps = c.args.pattern.now in
     let depth = c.part-depth.result.depth in
     let found = drop (c.in-Some.at + 1) ps in
-    let there = selector_there c.in-Some-placed.placed ps c.in-Some.at c.part-part.result c.in-Some-placed.ensures c.part-part.ensures depth c.in-Branch.selector c.if-part-depth.true c.in-Branch.is in
+    let there = selector_there (placed_view c.in-Some-placed.placed) ps c.in-Some.at c.part-part.result c.in-Some-placed.ensures c.part-part.ensures depth c.in-Branch.selector c.if-part-depth.true c.in-Branch.is in
     let here = subst (λ (bs : List Branching). IsFirst P bs (Some found)) (sym there) (inl (c.in-Ok.ensures.0 c.if-chosen.true, refl)) in
     subst (λ (d : ℕ). IsFirst P (branches_of d (drop (c.args.index + 1) ps)) (Some found)) (ap (λ (p : Part). p.depth) c.part-depth.ensures)
     (c.loop-next.invariant.passed (Some found) (rw c.in-Some.is here))
 
 pub next_number-next-requires-in-Some : goal.next_number-next-requires-in-Some
 next_number-next-requires-in-Some g c =
-    let there = within c.in-Some-placed.placed c.args.pattern.now c.in-Some.at c.in-Some-placed.ensures in
+    let there = within (placed_view c.in-Some-placed.placed) c.args.pattern.now c.in-Some.at c.in-Some-placed.ensures in
     omega (arith, there, c.requires.few)
 
 pub loop-next-smaller-else-chosen : goal.loop-next-smaller-else-chosen
 loop-next-smaller-else-chosen g c =
     let ps = c.args.pattern.now in
-    let there = within c.in-Some-placed.placed ps c.in-Some.at c.in-Some-placed.ensures in
+    let there = within (placed_view c.in-Some-placed.placed) ps c.in-Some.at c.in-Some-placed.ensures in
     let next = c.next_number-next-in-Some.ensures ps c.in-Some-placed.ensures in
     let less = fewer_left (length ps) c.in-Some.at c.next_number-next-in-Some.result there (next_behind c.part-depth.result.depth ps c.in-Some.at c.next_number-next-in-Some.result next) in
     subst (λ (n : Option ℕ). left_from (length ps) c.next_number-next-in-Some.result < left_from (length ps) n) (sym c.in-Some.is) less
@@ -72,7 +73,7 @@ loop-next-smaller-else-chosen g c =
 pub loop-next-smaller : goal.loop-next-smaller
 loop-next-smaller g c =
     let ps = c.args.pattern.now in
-    let there = within c.in-Some-placed.placed ps c.in-Some.at c.in-Some-placed.ensures in
+    let there = within (placed_view c.in-Some-placed.placed) ps c.in-Some.at c.in-Some-placed.ensures in
     let next = c.next_number-next-in-Some.ensures ps c.in-Some-placed.ensures in
     let less = fewer_left (length ps) c.in-Some.at c.next_number-next-in-Some.result there (next_behind c.part-depth.result.depth ps c.in-Some.at c.next_number-next-in-Some.result next) in
     subst (λ (n : Option ℕ). left_from (length ps) c.next_number-next-in-Some.result < left_from (length ps) n) (sym c.in-Some.is) less
@@ -83,7 +84,7 @@ loop-next-preserved-else-chosen g c =
     let ps = c.args.pattern.now in
     let depth = c.part-depth.result.depth in
     let at = c.in-Some.at in
-    let placed = c.in-Some-placed.placed in
+    let placed = (placed_view c.in-Some-placed.placed) in
     let next = c.next_number-next-in-Some.ensures ps c.in-Some-placed.ensures in
     let passed : (found : Option (List Part)) → IsFirst P (branches_of depth (drop (at + 1) ps)) found → IsFirst P (branches_of depth (drop at ps)) found = λ found k.
     let there = selector_there placed ps at c.part-part.result c.in-Some-placed.ensures c.part-part.ensures depth c.in-Branch.selector c.if-part-depth.true c.in-Branch.is in
@@ -105,7 +106,7 @@ loop-next-preserved g c =
     let ps = c.args.pattern.now in
     let depth = c.part-depth.result.depth in
     let at = c.in-Some.at in
-    let placed = c.in-Some-placed.placed in
+    let placed = (placed_view c.in-Some-placed.placed) in
     let next = c.next_number-next-in-Some.ensures ps c.in-Some-placed.ensures in
     let passed : (found : Option (List Part)) → IsFirst P (branches_of depth (drop (at + 1) ps)) found → IsFirst P (branches_of depth (drop at ps)) found = λ found k.
     subst (λ (bs : List Branching). IsFirst P bs found) (sym (deeper_there placed ps at c.part-part.result c.in-Some-placed.ensures c.part-part.ensures depth c.if-part-depth.false)) k

@@ -2,5 +2,8 @@ use Rattle.std.proofs.Common.{arith}
 use Rattle.packed_format.proofs.BehindParts.{length-items}
 use Rattle.packed_format.proofs.parts.BlockParts.of.Goals as goal
 
-pub invariant_of-result : goal.invariant_of-result
-invariant_of-result c = record { few = omega (arith, c.as_bytes.ensures.packed.can_pack.count, length-items c.args.pattern.now) }
+pub at-requires-clause-few : goal.at-requires-clause-few
+at-requires-clause-few c = omega (arith, c.as_bytes.ensures.packed.can_pack.count, length-items c.args.pattern.now)
+
+pub at-requires-clause-ordered : goal.at-requires-clause-ordered
+at-requires-clause-ordered c = c.as_bytes.ensures.nested
