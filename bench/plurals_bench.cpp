@@ -220,6 +220,89 @@ const Language& language_of(const std::vector<Language>& all, const Message& mes
     fail("there are no rules of " + message.language);
 }
 
+// ---- packed patterns
+
+// The arguments of one saying of a message, made for both sides before it is said.
+struct Saying {
+    std::vector<plurals_argument> ours;
+    std::vector<icu::Formattable> theirs;
+};
+
+// A message that both sides hold ready: the block of its pattern, and ICU4C's object.
+struct Ready {
+    std::string row;
+    const Language* language;
+    std::vector<uint8_t> block;
+    std::unique_ptr<icu::MessageFormat> format;
+    std::vector<icu::UnicodeString> names;
+    std::vector<Saying> sayings;
+};
+
+const std::vector<Message> kSelects = {
+    {"en", "en", "{who, select, female {She sent a file.} male {He sent a file.} other {They sent a file.}}"},
+};
+const std::vector<Message> kTexts = {{"en", "en", "{name} sent {file} to you."}};
+
+// An argument that is a text. The text stays where it is.
+void add_text(Saying& it, const char* name, const std::string& text) {
+    it.ours.push_back({name, std::char_traits<char>::length(name), text.data(), text.size(), PLURALS_TEXT});
+    it.theirs.push_back(icu::Formattable(icu::UnicodeString::fromUTF8(text)));
+}
+
+void add_number(Saying& it, const char* name, const std::string& number) {
+    it.ours.push_back({name, std::char_traits<char>::length(name), number.data(), number.size(), PLURALS_NUMBER});
+    it.theirs.push_back(icu::Formattable(int32_t(std::stoi(number))));
+}
+
+Ready ready_message(const std::string& row, const Language& language, const Message& it, std::vector<Saying> sayings) {
+    Ready found{row + ", " + it.language, &language, std::vector<uint8_t>(65536), read_by_icu4c(it), {}, std::move(sayings)};
+    int64_t length = plurals_pattern_pack(it.pattern.data(), it.pattern.size(), found.block.data(), found.block.size());
+    if (length < 0 || length > int64_t(found.block.size())) fail("the library doesn't pack " + it.pattern);
+    found.block.resize(size_t(length));
+    for (const auto& argument : found.sayings[0].ours) found.names.push_back(icu::UnicodeString::fromUTF8({argument.name, int32_t(argument.name_len)}));
+    return found;
+}
+
+// The messages of the rows of packed patterns: plurals of 0 to 255, a select, text with two arguments.
+std::vector<Ready> ready_messages(const std::vector<Language>& all) {
+    static const std::vector<std::string> kWho = {"female", "male", "other", "nobody"};
+    static const std::string kName = "Ann", kFile = "notes.txt";
+    std::vector<Ready> found;
+    for (const auto& it : kMessages) {
+        std::vector<Saying> sayings(kCounts);
+        for (size_t count = 0; count < sayings.size(); count++) {
+            add_text(sayings[count], "name", kName);
+            add_number(sayings[count], "count", counts()[count]);
+        }
+        found.push_back(ready_message("a packed plural", language_of(all, it), it, std::move(sayings)));
+    }
+    for (const auto& it : kSelects) {
+        std::vector<Saying> sayings(kWho.size());
+        for (size_t k = 0; k < sayings.size(); k++) add_text(sayings[k], "who", kWho[k]);
+        found.push_back(ready_message("a packed select", language_of(all, it), it, std::move(sayings)));
+    }
+    for (const auto& it : kTexts) {
+        std::vector<Saying> sayings(1);
+        add_text(sayings[0], "name", kName);
+        add_text(sayings[0], "file", kFile);
+        found.push_back(ready_message("packed text with two arguments", language_of(all, it), it, std::move(sayings)));
+    }
+    return found;
+}
+
+int64_t packed_by_library(const Ready& it, const Saying& saying, char* out, size_t room) {
+    return plurals_packed_format(it.language->block.data(), it.language->block.size(), nullptr, 0, it.block.data(), it.block.size(),
+                                 saying.ours.data(), saying.ours.size(), out, room);
+}
+
+icu::UnicodeString kept_by_icu4c(const Ready& it, const Saying& saying) {
+    UErrorCode status = U_ZERO_ERROR;
+    icu::UnicodeString found;
+    it.format->format(it.names.data(), saying.theirs.data(), int32_t(it.names.size()), found, status);
+    if (U_FAILURE(status)) fail("ICU4C says nothing of " + it.row);
+    return found;
+}
+
 // ---- agreement
 
 int category_number(const icu::UnicodeString& keyword) {
@@ -257,24 +340,35 @@ void check_others(const Language& it, Agreement& found) {
     }
 }
 
+// The messages that were compared, and those that differ.
+struct Texts {
+    int compared = 0, different = 0;
+
+    void compare(const std::string& what, const char* ours, int64_t length, const icu::UnicodeString& said) {
+        std::string text(ours, length < 0 ? 0 : size_t(length)), theirs;
+        said.toUTF8String(theirs);
+        compared++;
+        if (text == theirs) return;
+        different++;
+        std::cerr << what << ": " << text << " by the library, " << theirs << " by ICU4C\n";
+    }
+};
+
 // Compares the texts of messages; returns how many differ.
 int check_messages(const std::vector<Language>& all) {
-    int compared = 0, different = 0;
+    Texts found;
     char room[1024];
     for (const auto& it : kMessages) {
         auto format = read_by_icu4c(it);
         for (int count = 0; count < kCounts; count++) {
             int64_t length = said_by_library(language_of(all, it), it, counts()[size_t(count)], room, sizeof room);
-            std::string ours(room, length < 0 ? 0 : size_t(length)), theirs;
-            said_by_icu4c(*format, count).toUTF8String(theirs);
-            compared++;
-            if (ours == theirs) continue;
-            different++;
-            std::cerr << it.language << " " << count << ": " << ours << " by the library, " << theirs << " by ICU4C\n";
+            found.compare(it.language + " " + std::to_string(count), room, length, said_by_icu4c(*format, count));
         }
     }
-    std::cout << compared << " messages, " << different << " differ\n";
-    return different;
+    for (const auto& it : ready_messages(all))
+        for (const auto& saying : it.sayings) found.compare(it.row, room, packed_by_library(it, saying, room, sizeof room), kept_by_icu4c(it, saying));
+    std::cout << found.compared << " messages, " << found.different << " differ\n";
+    return found.different;
 }
 
 int check(const std::vector<Language>& all) {
@@ -431,6 +525,30 @@ std::vector<Row> with_messages(std::vector<Row> all, const std::vector<Language>
     return all;
 }
 
+// Rows of packed patterns.
+std::vector<Row> with_packed(std::vector<Row> all, const std::vector<Language>& languages) {
+    static char room[1024];
+    static const std::vector<Ready> ready = ready_messages(languages);
+    for (const auto& it : ready) {
+        auto library = [&it] {
+            long sum = 0;
+            for (const auto& saying : it.sayings) sum += packed_by_library(it, saying, room, sizeof room);
+            return sum;
+        };
+        auto icu4c = [&it] {
+            long sum = 0;
+            for (const auto& saying : it.sayings) sum += kept_by_icu4c(it, saying).length();
+            return sum;
+        };
+        all.push_back({it.row, it.sayings.size(), library, icu4c});
+    }
+    for (const auto& it : ready) {
+        auto library = [&it] { return long(plurals_pattern_check(it.block.data(), it.block.size())); };
+        all.push_back({"of that: the block checked: " + it.row, 1, library, nullptr});
+    }
+    return all;
+}
+
 // Adds the sides that take no rules to the rows of integers.
 std::vector<Row> with_others(std::vector<Row> all, const std::vector<Language>& languages) {
     static const std::vector<int32_t> whole = integers();
@@ -526,7 +644,7 @@ int main(int count, char** words) {
     for (const auto& it : all)
         if (!bindtextdomain(it.name.c_str(), words[3])) fail("gettext takes no folder of catalogues");
     if (word == "check") return check(all);
-    if (word == "time") return time_rows(with_messages(with_others(rows(all), all), all));
-    if (word == "count") return count_rows(with_messages(with_others(rows(all), all), all));
+    if (word == "time") return time_rows(with_packed(with_messages(with_others(rows(all), all), all), all));
+    if (word == "count") return count_rows(with_packed(with_messages(with_others(rows(all), all), all), all));
     fail("the first word is check, time or count");
 }
