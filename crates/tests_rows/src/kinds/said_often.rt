@@ -1,7 +1,7 @@
 //! What a pattern says again and again, in one way: `bench/run` counts its instructions.
 
 use crate::kinds::pattern_texts::{add_numbers, add_texts, print_outcome};
-use message_format::{Argument, Rules, format};
+use message_format::{Argument, FormatError, Rules, format};
 use message_pattern::Pattern;
 use packed_format::{format_packed, format_prepared};
 use packed_pattern::{PackedPattern, pack};
@@ -80,7 +80,7 @@ fn print_last(
     };
     let cardinal = PreparedRules::from_rules(rules.cardinal.as_borrowed());
     let ordinal = PreparedRules::from_rules(rules.ordinal.as_borrowed());
-    let mut said = Ok(Vec::new(call.alloc));
+    let mut said: Result<Vec<u8>, FormatError<'_>> = Ok(Vec::new(call.alloc));
     for _ in 0..count {
         said = match way {
             Way::Parts => format(call.alloc, pattern, arguments, rules),
