@@ -35,30 +35,39 @@ pub(crate) fn show_page(rt: &HostRuntime, alloc: Global) -> anyhow::Result<()> {
     print_page(rt, alloc, &bytes, &cardinal)
 }
 
+// Prints what the messages of a catalogue say.
 fn print_page(
     rt: &HostRuntime,
     alloc: Global,
     bytes: &[u8],
     cardinal: &PluralRules<'_>,
 ) -> anyhow::Result<()> {
-    let catalog = MessageCatalog::parse_bytes(bytes)?;
+    let page = &MessageCatalog::parse_bytes(bytes)?;
     let ordinal = &PluralRules::from_data(PluralRulesData::default());
-    let rules = Rules { cardinal, ordinal };
-    let page: [(&str, &[Argument<'_>]); 10] = [
-        ("title", &[]),
-        ("greeting", &[text("name", "Анна")]),
-        ("cart", &[number("n", "21")]),
-        ("weight", &[number("n", "1.5")]),
-        ("days", &[number("n", "3")]),
-        ("discount", &[number("percent", "10")]),
-        ("guests", &[number("n", "6")]),
-        ("sent", &[text("who", "female"), number("n", "2")]),
-        ("place", &[number("n", "3")]),
-        ("footer", &[]),
-    ];
-    for (key, arguments) in page {
-        let said = catalog.say(alloc, key.as_bytes(), arguments, &rules)?;
-        println!(rt; "{}", str::from_utf8(&said)?)?;
-    }
+    let by = Rules { cardinal, ordinal };
+    print_said(rt, alloc, page, by, "title", &[])?;
+    print_said(rt, alloc, page, by, "greeting", &[text("name", "Анна")])?;
+    print_said(rt, alloc, page, by, "cart", &[number("n", "21")])?;
+    print_said(rt, alloc, page, by, "weight", &[number("n", "1.5")])?;
+    print_said(rt, alloc, page, by, "days", &[number("n", "3")])?;
+    print_said(rt, alloc, page, by, "discount", &[number("percent", "10")])?;
+    print_said(rt, alloc, page, by, "guests", &[number("n", "6")])?;
+    let sent = &[text("who", "female"), number("n", "2")];
+    print_said(rt, alloc, page, by, "sent", sent)?;
+    print_said(rt, alloc, page, by, "place", &[number("n", "3")])?;
+    print_said(rt, alloc, page, by, "footer", &[])
+}
+
+// Prints what the message under a key says.
+fn print_said(
+    rt: &HostRuntime,
+    alloc: Global,
+    page: &MessageCatalog<'_>,
+    by: Rules<'_, '_>,
+    key: &str,
+    arguments: &[Argument<'_>],
+) -> anyhow::Result<()> {
+    let said = page.say(alloc, key.as_bytes(), arguments, &by)?;
+    println!(rt; "{}", str::from_utf8(&said)?)?;
     Ok(())
 }
