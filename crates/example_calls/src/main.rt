@@ -12,7 +12,6 @@ mod json;
 mod messages;
 mod named;
 mod numbers;
-mod page;
 mod ranges;
 mod texts;
 
@@ -108,9 +107,7 @@ fn show_cldr(rt: &HostRuntime, alloc: Global) -> anyhow::Result<()> {
     println!(rt; "== constant")?;
     cldr::show_bytes(rt)?;
     println!(rt; "== items")?;
-    items::print_items(rt, alloc)?;
-    println!(rt; "== page")?;
-    page::show_page(rt, alloc)
+    items::print_items(rt, alloc)
 }
 
 fn main(rt: HostRuntime) -> anyhow::Result<()> {
