@@ -1,5 +1,5 @@
 -- Lines of digits, which are read as they are cut off.
-use Rattle.std.proofs.Common.{◌≡◌, ℕ, ◌+◌, ◌-◌, ◌*◌, ◌%◌, ◌^◌, ◌<◌, ◌≤◌, List, [], ◌∷◌, ◌++◌, Option, Some, None, Ok, Bor, length, take, drop, get_or, max, refl, sym, ◌∙◌, ap, subst, arith, inr, append_assoc}
+use Rattle.std.proofs.Common.{◌≡◌, ℕ, ◌+◌, ◌-◌, ◌<◌, ◌≤◌, List, [], ◌∷◌, ◌++◌, Option, Some, None, Ok, Bor, length, take, drop, get_or, max, refl, sym, ◌∙◌, ap, subst, arith, inr, append_assoc}
 use Rattle.std.specs.Prelude.{◌≢◌, IfSome}
 use Rattle.std.proofs.lemmas.List.{append-nil, take-append-drop, drop_more, length-take-le, length-append}
 use Rattle.fixed_decimal.specs.Digits.{AreDigits, text_of}
@@ -62,18 +62,14 @@ whole_line rules bytes after k n category exact digits few some within end rest 
       spelled = at_byte bytes k 10 within end ∙ ap (λ (l : List ℕ). line ++ 10 ∷ l) (sym rest);
     }
 
--- the digits of a fraction, of which the last isn't 0
-pub fraction_line : (bytes after : List ℕ) (i k f : ℕ) (o : Operands) → AreDigitsOf (take k bytes) f → k ≤ 18 → k < length bytes → k ≢ 0
-    → f % 10 ≢ 0 → get_or bytes k 0 ≡ 10 → after ≡ drop (k + 1) bytes → o ≡ record { i = i; v = k; w = k; f = f; t = f; c = 0 }
+-- the digits of a fraction
+pub fraction_line : (bytes after : List ℕ) (i k f w t : ℕ) (o : Operands) → AreDigitsOf (take k bytes) f → k ≤ 18 → k < length bytes → k ≢ 0
+    → IsTrimmedAt k f w t → get_or bytes k 0 ≡ 10 → after ≡ drop (k + 1) bytes → o ≡ record { i = i; v = k; w = w; f = f; t = t; c = 0 }
     → BeginsWithFraction i bytes o after
-fraction_line bytes after i k f o digits few within some last end rest is =
+fraction_line bytes after i k f w t o digits few within some trimmed end rest is =
     let line : List ℕ = take k bytes in
     let size : length line ≡ k = length-take-le k bytes (omega arith) in
-    let none : k - k ≡ 0 = omega arith in
-    let one : f * 10 ^ 0 ≡ f = omega arith in
-    let trimmed : IsTrimmedAt k f k f
-    = record { within = omega arith; scaled = sym (ap (λ (j : ℕ). f * 10 ^ j) none ∙ one); last = inr last } in
-    let p : Operands = record { i = i; v = k; w = k; f = f; t = f; c = 0 } in
+    let p : Operands = record { i = i; v = k; w = w; f = f; t = t; c = 0 } in
     let fraction : HasFractionFront line p []
     = record { front = line; digits = digits; few = omega (arith, size); shown = sym size; trimmed = trimmed; spelled = sym (append-nil line) } in
     let begun : BeginsWithFraction i bytes p after

@@ -1,7 +1,7 @@
 //! Lines of digits, which are read as they are cut off.
 
 ghost use Rattle.std.specs.Prelude.{◌≡◌, ◌≤◌, IfSome, length, take};
-ghost use Rattle.plural_operands.specs.Inner.ShortTexts.{AreDigitsOf};
+ghost use Rattle.plural_operands.specs.Inner.ShortTexts.{AreDigitsOf, IsTrimmedAt};
 ghost use Rattle.number_lines.specs.Inner.LineSteps.{BeginsWithLine};
 ghost use Rattle.number_lines.specs.Inner.PlainLines.{HasFraction};
 
@@ -13,7 +13,7 @@ use plural_operands::KEPT_PLACES;
 const MOST_PLAIN_BYTES: usize = 2 * KEPT_PLACES + 2;
 
 // The category of a plain line at the front, and the bytes behind its newline. Plain are 1 to 18
-// digits, and these with a point and 1 to 18 digits of which the last isn't 0. `None` says nothing.
+// digits, and these with a point and 1 to 18 digits. `None` says nothing.
 #[inline(always)]
 pub(crate) fn plain_line<'b>(
     rules: &AskedRules<'_>,
@@ -46,18 +46,33 @@ fn plain_fraction<'b>(
     ensures { IfSome result (λ r. HasFraction rules.now i bytes.now r.0 r.1.now) }
 {
     let (f, shown) = front_digits(bytes);
-    if shown == 0 || f % 10 == 0 || bytes[shown] != b'\n' {
+    if shown == 0 || bytes[shown] != b'\n' {
         return None;
     }
+    let (w, t) = trimmed(shown, f);
     let operands = PluralOperands::from(RawPluralOperands {
         i,
         v: shown,
-        w: shown,
+        w,
         f,
-        t: f,
+        t,
         c: 0,
     });
     Some((rules.category_for(operands), &bytes[shown + 1..]))
+}
+
+// How many of a fraction's digits are left without the zeros at their end, and what these write.
+#[inline(always)]
+fn trimmed(shown: usize, f: u64) -> (usize, u64)
+    ensures { IsTrimmedAt shown f result.0 result.1 }
+{
+    let mut left = shown;
+    let mut rest = f;
+    while left > 0 && rest % 10 == 0 {
+        left -= 1;
+        rest /= 10;
+    }
+    (left, rest)
 }
 
 // The number that the digits at the front write, at most 18 of them, and how many these are. The walk

@@ -7,7 +7,8 @@ pub returns : goal.returns
 returns c =
     let shown = c.front_digits-f.result.1 in (
       c.from-operands.result,
-      fraction_line c.args.bytes.now _ c.args.i shown c.front_digits-f.result.0 _ c.front_digits-f.ensures.digits c.front_digits-f.ensures.few
-          (omega arith) (omega arith) (omega arith) (search rules) (take_rest c.args.bytes.now (shown + 1)) (search rules),
+      fraction_line c.args.bytes.now _ c.args.i shown c.front_digits-f.result.0 _ _ _ c.front_digits-f.ensures.digits
+          c.front_digits-f.ensures.few (omega arith) (omega arith) c.trimmed-w.ensures (search rules)
+          (take_rest c.args.bytes.now (shown + 1)) (search rules),
       c.category_for.ensures.first,
     )
