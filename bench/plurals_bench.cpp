@@ -3,8 +3,6 @@
 //
 //   plurals_bench check RULES CATALOGUES    each category by all sides; the status is 1 if one differs
 //   plurals_bench time RULES CATALOGUES     lines `ROW<tab>SIDE<tab>NANOSECONDS`: the least of some samples, the sides in turn
-//   plurals_bench rows RULES CATALOGUES     lines `ROW<tab>LINE`: of each row of packed patterns the messages, as lines of tests_rows that want
-//                                ICU4C's texts
 //   plurals_bench count RULES CATALOGUES    for callgrind: of each row and side a dump of some rounds and one of twice as many, each with a
 //                                mark `ROW<tab>SIDE<tab>OPERATIONS`, with the operations of the first of them
 //
@@ -232,7 +230,7 @@ struct Saying {
 
 // A message that both sides hold ready: the block of its pattern, and ICU4C's object.
 struct Ready {
-    std::string row, pattern;
+    std::string row;
     const Language* language;
     std::vector<uint8_t> block;
     std::unique_ptr<icu::MessageFormat> format;
@@ -257,7 +255,7 @@ void add_number(Saying& it, const char* name, const std::string& number) {
 }
 
 Ready ready_message(const std::string& row, const Language& language, const Message& it, std::vector<Saying> sayings) {
-    Ready found{row + ", " + it.language, it.pattern, &language, std::vector<uint8_t>(65536), read_by_icu4c(it), {}, std::move(sayings)};
+    Ready found{row + ", " + it.language, &language, std::vector<uint8_t>(65536), read_by_icu4c(it), {}, std::move(sayings)};
     int64_t length = plurals_pattern_pack(it.pattern.data(), it.pattern.size(), found.block.data(), found.block.size());
     if (length < 0 || length > int64_t(found.block.size())) fail("the library doesn't pack " + it.pattern);
     found.block.resize(size_t(length));
@@ -572,38 +570,6 @@ std::vector<Row> with_others(std::vector<Row> all, const std::vector<Language>& 
     return all;
 }
 
-// ---- the same messages in Rattle
-
-std::string quoted(std::string_view text) { return "\"" + std::string(text) + "\""; }
-
-// The rules of a language as JSON.
-std::string rules_json(const Language& language) {
-    std::string found;
-    for (int k = 0; k < kRules; k++)
-        if (!language.texts[k].empty()) found += (found.empty() ? "" : ", ") + quoted(kCategories[k]) + ": " + quoted(language.texts[k]);
-    return "{" + found + "}";
-}
-
-// The arguments of a kind, as JSON: names, each with its value behind it.
-std::string arguments_json(const Saying& saying, uint32_t kind) {
-    std::string found;
-    for (const auto& it : saying.ours)
-        if (it.kind == kind) found += (found.empty() ? "" : ", ") + quoted({it.name, it.name_len}) + ", " + quoted({it.value, it.value_len});
-    return "[" + found + "]";
-}
-
-int print_rows(const std::vector<Language>& all) {
-    for (const auto& it : ready_messages(all)) {
-        for (const auto& saying : it.sayings) {
-            std::string wanted;
-            kept_by_icu4c(it, saying).toUTF8String(wanted);
-            std::cout << it.row << "\tpattern_text " << quoted(it.pattern) << ", " << arguments_json(saying, PLURALS_NUMBER) << ", "
-                      << arguments_json(saying, PLURALS_TEXT) << ", " << rules_json(*it.language) << ", {} => " << quoted(wanted) << "\n";
-        }
-    }
-    return 0;
-}
-
 // ---- measures
 
 volatile long sink;
@@ -669,7 +635,7 @@ int count_rows(const std::vector<Row>& all) {
 }  // namespace
 
 int main(int count, char** words) {
-    if (count != 4) fail("three words are needed: check, rows, time or count, a file of rules, a folder of catalogues");
+    if (count != 4) fail("three words are needed: check, time or count, a file of rules, a folder of catalogues");
     std::string word = words[1];
     std::vector<Language> all = languages(words[2]);
     // gettext looks for the catalogues of this language alone, whatever the domain is called.
@@ -678,8 +644,7 @@ int main(int count, char** words) {
     for (const auto& it : all)
         if (!bindtextdomain(it.name.c_str(), words[3])) fail("gettext takes no folder of catalogues");
     if (word == "check") return check(all);
-    if (word == "rows") return print_rows(all);
     if (word == "time") return time_rows(with_packed(with_messages(with_others(rows(all), all), all), all));
     if (word == "count") return count_rows(with_packed(with_messages(with_others(rows(all), all), all), all));
-    fail("the first word is check, rows, time or count");
+    fail("the first word is check, time or count");
 }

@@ -30,7 +30,6 @@ mod rule_truths;
 mod rules_bytes;
 mod rules_json;
 mod runs;
-mod said_often;
 mod samples;
 mod styled_patterns;
 mod text_arguments;
@@ -106,7 +105,6 @@ fn of_patterns(kind: &str, call: &mut Call) -> bool {
     patterns::make(kind, call)
         || styled_patterns::make(kind, call)
         || pattern_texts::make(kind, call)
-        || said_often::make(kind, call)
         || packed_patterns::make(kind, call)
         || message_catalogs::make(kind, call)
         || plural_forms::make(kind, call)

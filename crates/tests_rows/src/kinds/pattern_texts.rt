@@ -8,6 +8,7 @@ use packed_format::{
 use packed_pattern::{PackedPattern, pack};
 use plural_base::PreparedRules;
 use row_calls::call::Call;
+use std::alloc::{AllocError, Global};
 use std::fmt::Write;
 
 /// Makes the call of a kind of this file. Returns whether there is such a kind.
@@ -107,8 +108,7 @@ fn is_said_packed(
         && is_said_by_place(call, &pattern, arguments, &cardinal, &ordinal)
 }
 
-// Whether a block says with values by place what it says with the arguments of these names. The first
-// name without an argument has no value, and so have those behind it.
+// Whether a block says with values by place what it says with the arguments of these names.
 fn is_said_by_place(
     call: &Call,
     pattern: &PackedPattern<'_>,
@@ -119,24 +119,30 @@ fn is_said_by_place(
     let Ok(names) = argument_names(call.alloc, pattern) else {
         return false;
     };
-    let mut given = Vec::new(call.alloc);
-    let mut values = Vec::new(call.alloc);
-    for name in names.as_slice() {
+    let Ok(given) = arguments_named(call.alloc, &names, arguments) else {
+        return false;
+    };
+    let Ok(values) = values_of(call.alloc, &given) else {
+        return false;
+    };
+    are_said_alike(call, pattern, &names, &given, &values, cardinal, ordinal)
+}
+
+// The first argument of each name, up to a name that has none: it has no value then, and so have
+// those behind it.
+fn arguments_named<'a>(
+    alloc: Global,
+    names: &[&[u8]],
+    arguments: &[Argument<'a>],
+) -> Result<Vec<Argument<'a>>, AllocError> {
+    let mut given = Vec::new(alloc);
+    for name in names {
         let Some(argument) = argument_named(name, arguments) else {
             break;
         };
-        if given.push(argument).is_err() || values.push(argument.value).is_err() {
-            return false;
-        }
+        given.push(argument)?;
     }
-    let placed = PlacedValues {
-        names: names.as_slice(),
-        values: values.as_slice(),
-    };
-    are_same(
-        &format_prepared(call.alloc, pattern, &given, cardinal, ordinal),
-        &format_by_place(call.alloc, pattern, placed, cardinal, ordinal),
-    )
+    Ok(given)
 }
 
 // The first argument of a name.
@@ -147,6 +153,32 @@ fn argument_named<'a>(name: &[u8], arguments: &[Argument<'a>]) -> Option<Argumen
         }
     }
     None
+}
+
+// The values of arguments.
+fn values_of<'a>(alloc: Global, arguments: &[Argument<'a>]) -> Result<Vec<Value<'a>>, AllocError> {
+    let mut values = Vec::new(alloc);
+    for argument in arguments {
+        values.push(argument.value)?;
+    }
+    Ok(values)
+}
+
+// Whether a block says with values at the places of names what it says with arguments.
+fn are_said_alike<'v>(
+    call: &Call,
+    pattern: &PackedPattern<'_>,
+    names: &'v [&'v [u8]],
+    given: &[Argument<'_>],
+    values: &'v [Value<'v>],
+    cardinal: &PreparedRules<'_>,
+    ordinal: &PreparedRules<'_>,
+) -> bool {
+    let placed = PlacedValues { names, values };
+    are_same(
+        &format_prepared(call.alloc, pattern, given, cardinal, ordinal),
+        &format_by_place(call.alloc, pattern, placed, cardinal, ordinal),
+    )
 }
 
 // Whether two outcomes are the same.
