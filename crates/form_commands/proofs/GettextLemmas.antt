@@ -13,7 +13,7 @@ use Rattle.icu_plurals.specs.declared.PluralCategory.{PluralCategory}
 use Rattle.icu_plurals.specs.declared.PluralCategory.TheVariants.{Zero, One, Two, Few, Many, Other}
 use Rattle.icu_plurals.specs.Json.{Stands}
 use Rattle.icu_plurals.specs.RulesJson.{rules_of_json}
-use Rattle.plural_checker.specs.WholeNumbers.{IsLeastFrom}
+use Rattle.number_categories.specs.WholeNumbers.{IsLeastFrom}
 use Rattle.plural_fallback.specs.declared.error.FallbackError.{FallbackError}
 use Rattle.plural_fallback.specs.declared.locales.Part.{Part}
 use Rattle.serde_json.specs.Data.{Data}

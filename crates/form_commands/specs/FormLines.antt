@@ -12,7 +12,7 @@ use Rattle.icu_plurals.specs.Serializer.{prefixed, samples_text}
 use Rattle.icu_plurals.specs.declared.PluralCategory.{PluralCategory}
 use Rattle.icu_plurals.specs.declared.provider.rules.reference.ParseError.{ParseError}
 use Rattle.icu_plurals.specs.declared.provider.rules.reference.ast.Rule.{Rule}
-use Rattle.plural_checker.specs.WholeNumbers.{AreTwoLeast}
+use Rattle.number_categories.specs.WholeNumbers.{AreTwoLeast}
 use Rattle.plural_fallback.specs.LocalesJson.{part_name}
 use Rattle.plural_fallback.specs.declared.locales.Part.{Part}
 use Rattle.serde_json.specs.View.{view}

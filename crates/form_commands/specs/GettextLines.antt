@@ -11,7 +11,7 @@ use Rattle.icu_plurals.specs.PackedRelations.{PackedRelation}
 use Rattle.icu_plurals.specs.PackedTruth.{packed_truth}
 use Rattle.icu_plurals.specs.declared.PluralCategory.{PluralCategory}
 use Rattle.icu_plurals.specs.declared.PluralCategory.TheVariants.{Zero, One, Two, Few, Many, Other}
-use Rattle.plural_checker.specs.WholeNumbers.{HasWhole, whole_limit}
+use Rattle.number_categories.specs.WholeNumbers.{HasWhole, whole_limit}
 use Rattle.form_commands.specs.CExpressions.{Atom, choice_text, choice_value}
 use Rattle.form_commands.specs.RuleConditions.{condition_of}
 

@@ -5,7 +5,7 @@ ghost use Rattle.std.specs.Fmt.{decimal};
 ghost use Rattle.std.specs.Option.{option_copied};
 ghost use Rattle.icu_plurals.specs.FiveRules.{FiveRules, categories_of, rules_of};
 ghost use Rattle.icu_plurals.specs.RulesJson.{rules_of_json};
-ghost use Rattle.plural_checker.specs.WholeNumbers.{HasWhole, IsLeastFrom};
+ghost use Rattle.number_categories.specs.WholeNumbers.{HasWhole, IsLeastFrom};
 ghost use Rattle.form_commands.specs.CExpressions.{c_condition_text, choice_text};
 ghost use Rattle.form_commands.specs.GettextLines.{AreFormsOf, HasForm, IsGettextLine, SomeHas, condition_if, conditions_of, line_text, rule_for, tried_powers};
 ghost use Rattle.serde_json.specs.View.{view};
@@ -14,7 +14,7 @@ use crate::c_condition::condition_text;
 use icu_plurals::provider::PluralRulesData;
 use icu_plurals::provider::rules::runtime::ast::Rule;
 use icu_plurals::{PluralCategory, PluralOperands, PluralRules};
-use plural_checker::least_of_each;
+use number_categories::least_of_each;
 use serde_json::Value;
 use std::alloc::{AllocError, Global};
 

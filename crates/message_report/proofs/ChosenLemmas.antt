@@ -4,7 +4,7 @@ use Rattle.std.specs.Prelude.{IsTrue, not, ◌&&◌, nat_lt}
 use Rattle.std.proofs.lemmas.Bool.{ltb-true, ltb-false}
 use Rattle.icu_plurals.specs.declared.PluralCategory.{PluralCategory}
 use Rattle.icu_plurals.specs.FiveRules.{FiveRules}
-use Rattle.plural_checker.specs.WholeNumbers.{AreTwoBelow, AreTwoLeastOf, HasWhole, HoldsNowhere, IsLeast, IsLeastFrom, whole_limit}
+use Rattle.number_categories.specs.WholeNumbers.{AreTwoBelow, AreTwoLeastOf, HasWhole, HoldsNowhere, IsLeast, IsLeastFrom, whole_limit}
 use Rattle.message_report.specs.MessageForms.{Chooses}
 use Rattle.message_report.specs.Inner.KnownNumbers.{AreNumbersOf, chosen_by, chosen_of}
 use Rattle.message_report.specs.declared.category_numbers.CategoryNumbers.{CategoryNumbers}

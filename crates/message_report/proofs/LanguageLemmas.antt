@@ -8,8 +8,8 @@ use Rattle.icu_plurals.specs.Operands.{of_whole}
 use Rattle.icu_plurals.specs.PackedTruth.{packed_truth}
 use Rattle.plural_checker.specs.LanguageTexts.{categories_with_rule}
 use Rattle.plural_checker.specs.declared.coverage.CategorySet.{CategorySet}
-use Rattle.plural_checker.specs.declared.least_numbers.LeastNumbers.{LeastNumbers}
-use Rattle.plural_checker.specs.WholeNumbers.{AreTwoLeastFrom, AreTwoLeastOf, AreTwoLeastOfEach, least_at}
+use Rattle.number_categories.specs.declared.least_numbers.LeastNumbers.{LeastNumbers}
+use Rattle.number_categories.specs.WholeNumbers.{AreTwoLeastFrom, AreTwoLeastOf, AreTwoLeastOfEach, least_at}
 use Rattle.message_report.specs.MessageForms.{Chooses}
 use Rattle.message_report.specs.FormFaults.{has_category_rule, AreRareSamples, HasNumbersOf, IsLanguageOf}
 use Rattle.message_report.specs.Inner.KnownNumbers.{AreNumbersOf, chosen_of}

@@ -15,7 +15,7 @@ use Rattle.plural_base.specs.Inner.WholeNumbers.{earlier_after, group_after, who
 use Rattle.icu_plurals.specs.declared.provider.rules.reference.ast.Operand.{Operand}
 use Rattle.icu_plurals.specs.declared.provider.rules.reference.ast.Operand.TheVariants.{N, I, V, W, F, T, C, E}
 use Rattle.message_report.specs.WholeNumberLaws.{AreLow, ArePeriodic, IsPeriodic, IsPeriodicBy, IsPeriodicIf, IsPeriodicOn, WholeNumbersTellAll}
-use Rattle.plural_checker.specs.WholeNumbers.{AreTwoLeast, HasWhole}
+use Rattle.number_categories.specs.WholeNumbers.{AreTwoLeast, HasWhole}
 
 -- ---- Numbers that are alike
 

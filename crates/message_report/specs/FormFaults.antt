@@ -17,9 +17,9 @@ use Rattle.icu_plurals.specs.FiveRules.{FiveRules}
 use Rattle.plural_message.specs.Messages.{placeholder}
 use Rattle.plural_checker.specs.FirstSamples.{AreFirstSamples, sample_text}
 use Rattle.plural_checker.specs.declared.Sample.{Sample}
-use Rattle.plural_checker.specs.WholeNumbers.{AreTwoLeastOf}
+use Rattle.number_categories.specs.WholeNumbers.{AreTwoLeastOf}
 use Rattle.message_report.specs.MessageForms.{Chooses, form_under, has_form}
-use Rattle.plural_checker.specs.declared.two_numbers.TwoNumbers.{TwoNumbers}
+use Rattle.number_categories.specs.declared.two_numbers.TwoNumbers.{TwoNumbers}
 use Rattle.message_report.specs.declared.fault.FormFault.{FormFault}
 use Rattle.message_report.specs.declared.fault.FormFault.TheVariants.{NoText, Unused, NoNumber, Missing, MissingRare}
 use Rattle.message_report.specs.declared.form.Form.{Form}

@@ -12,7 +12,7 @@ use Rattle.message_report.specs.declared.form.Form.{Form}
 use Rattle.message_report.specs.declared.form.Form.TheVariants.{ExplicitZero, ExplicitOne, Category}
 use Rattle.icu_plurals.specs.declared.PluralCategory.{PluralCategory}
 use Rattle.icu_plurals.specs.FiveRules.{FiveRules}
-use Rattle.plural_checker.specs.WholeNumbers.{HasWhole}
+use Rattle.number_categories.specs.WholeNumbers.{HasWhole}
 
 abbrev pub form_name : Form → List ℕ
 form_name ExplicitZero = codes "explicit_zero"

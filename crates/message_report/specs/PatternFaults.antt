@@ -18,7 +18,7 @@ use Rattle.message_report.specs.FormFaults.{Language, are_text, missing_numbers_
 use Rattle.message_report.specs.PatternBranches.{IsOwn, has_category_branch, has_number, inside_of, stands_in}
 use Rattle.message_report.specs.declared.branch_fault.BranchFault.{BranchFault}
 use Rattle.message_report.specs.declared.branch_fault.BranchFault.TheVariants.{NoCategory, Twice, Unused, NoHash, Missing, MissingRare}
-use Rattle.plural_checker.specs.declared.two_numbers.TwoNumbers.{TwoNumbers}
+use Rattle.number_categories.specs.declared.two_numbers.TwoNumbers.{TwoNumbers}
 use Rattle.message_report.specs.declared.rare_samples.TwoSamples.{TwoSamples}
 
 -- ---- An argument

@@ -9,7 +9,7 @@ use Rattle.icu_plurals.specs.PackedRelations.{PackedRelation}
 use Rattle.icu_plurals.specs.declared.PluralCategory.{PluralCategory}
 use Rattle.icu_plurals.specs.declared.provider.rules.reference.ast.Operand.{Operand}
 use Rattle.icu_plurals.specs.declared.provider.rules.reference.ast.Operand.TheVariants.{N, I, V, W, F, T, C, E}
-use Rattle.plural_checker.specs.WholeNumbers.{AreTwoLeast, HasWhole}
+use Rattle.number_categories.specs.WholeNumbers.{AreTwoLeast, HasWhole}
 
 -- all ranges end below 9800
 abbrev pub AreLow : List (ℕ × ℕ) → Type 0

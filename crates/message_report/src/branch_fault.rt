@@ -15,7 +15,8 @@ use crate::language::Language;
 use crate::rare_samples::TwoSamples;
 use icu_plurals::PluralCategory;
 use message_pattern::{Part, Selector};
-use plural_checker::{Sample, TwoNumbers};
+use number_categories::TwoNumbers;
+use plural_checker::Sample;
 use std::fmt;
 
 /// What is wrong with a branch of a plural argument.

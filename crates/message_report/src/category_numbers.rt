@@ -3,7 +3,7 @@
 ghost use Rattle.std.specs.Prelude.{◌≡◌};
 ghost use Rattle.message_report.specs.Inner.KnownNumbers.{chosen_of};
 
-use plural_checker::TwoNumbers;
+use number_categories::TwoNumbers;
 
 // What is known of the whole numbers that have a category.
 #[derive(Clone, Copy)]

@@ -14,7 +14,8 @@ use crate::form::{Form, OwnForms};
 use crate::language::Language;
 use crate::rare_samples::TwoSamples;
 use icu_plurals::PluralCategory;
-use plural_checker::{Sample, TwoNumbers};
+use number_categories::TwoNumbers;
+use plural_checker::Sample;
 use serde_json::Value;
 use std::fmt;
 

@@ -11,8 +11,8 @@ use crate::rare_samples::{TwoSamples, rare_samples};
 use crate::source::RulesOfLocales;
 use icu_plurals::provider::PluralRulesData;
 use icu_plurals::{Five, PluralCategory, PluralRuleType, PluralRules};
+use number_categories::TwoNumbers;
 use plural_base::{at_category, make_five};
-use plural_checker::TwoNumbers;
 use std::alloc::Global;
 
 // The categories that a language has, what is known of the numbers of each, and the samples of those

@@ -2,15 +2,16 @@
 
 ghost use Rattle.std.specs.Prelude.{◌≡◌, ◌↔◌, IsTrue};
 ghost use Rattle.icu_plurals.specs.FiveRules.{rules_of};
-ghost use Rattle.plural_checker.specs.WholeNumbers.{least_at};
+ghost use Rattle.number_categories.specs.WholeNumbers.{least_at};
 ghost use Rattle.message_report.specs.FormFaults.{HasNumbersOf};
 ghost use Rattle.message_report.specs.Inner.LanguageViews.{numbers_at, numbers_view};
 
 use crate::category_numbers::CategoryNumbers;
 use icu_plurals::provider::PluralRulesData;
 use icu_plurals::{Five, PluralCategory, PluralOperands, PluralRules};
+use number_categories::{LeastNumbers, TwoNumbers, two_least_of_each};
 use plural_base::{at_category, make_five};
-use plural_checker::{CategorySet, LeastNumbers, TwoNumbers, two_least_of_each};
+use plural_checker::CategorySet;
 
 // The categories that a language has, and what is known of the numbers of each.
 #[derive(Clone, Copy)]

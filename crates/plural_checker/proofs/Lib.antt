@@ -6,8 +6,6 @@ pub mod AllDigits
 pub mod FewBytes
 -- what is read from a text
 pub mod TextsRead
--- texts behind spaces
-pub mod SpacedTexts
 -- the order of lists of samples
 pub mod ListOrders
 -- the zeros at the end of a fraction
@@ -18,7 +16,3 @@ pub mod StepTexts
 pub mod ShortChecks
 -- the words of a text
 pub mod SampleLemmas
--- the least numbers of each category
-pub mod SeenNumbers
-pub mod ToldLists
-pub mod Soughts

@@ -1,5 +1,5 @@
--- Short numbers are checked by their operands.
-use Rattle.std.proofs.Common.{◌≡◌, ◌≢◌, ℕ, ◌+◌, ◌≤◌, List, ◌++◌, Option, Some, None, Ok, inl, inr, refl, sym, ◌∙◌, ap, subst, length, arith, length-append, codes}
+-- Numbers are checked by their operands, short ones by these alone.
+use Rattle.std.proofs.Common.{◌≡◌, ℕ, ◌+◌, ◌≤◌, List, ◌++◌, Option, Some, None, Ok, inl, inr, refl, sym, ◌∙◌, ap, subst, length, arith, length-append, codes}
 use Rattle.std.proofs.lemmas.List.{length-map}
 use Rattle.std.specs.Prelude.{IfSome}
 use Rattle.icu_plurals.specs.declared.provider.rules.reference.ast.DecimalValue.{DecimalValue}
@@ -13,44 +13,47 @@ use Rattle.icu_plurals.specs.Exactness.{IsBoundedAt}
 use Rattle.icu_plurals.specs.FiveRules.{FiveRules, first_category, moduli_of}
 use Rattle.icu_plurals.specs.Operands.{Operands, AreKept}
 use Rattle.icu_plurals.specs.PackedTruth.{packed_truth}
-use Rattle.icu_plurals.specs.Places.{Places, IsWithinLimit, shift_right}
+use Rattle.icu_plurals.specs.Places.{Places, IsWithinLimit, IsWritten, shift_right}
 use Rattle.icu_plurals.specs.SureChoice.{IsBounded}
 use Rattle.icu_plurals.specs.Written.{CompactNumber, StandsAs, WritesCompact, sign_text}
 use Rattle.plural_base.specs.ChoiceLaws.{KeptChoiceIsExact}
+use Rattle.number_categories.specs.NumberFaults.{IsCategoryFault}
+use Rattle.number_categories.specs.declared.number_fault.NumberFault.{NumberFault}
+use Rattle.number_categories.specs.declared.number_fault.NumberFault.TheVariants.{Text, Outside, Category}
 use Rattle.plural_checker.specs.Inner.ShortNumbers.{WritesShortNumber}
-use Rattle.plural_checker.specs.NumberChecks.{IsCheckedRange, IsCheckedText}
+use Rattle.plural_checker.specs.NumberChecks.{IsCheckedBy, IsCheckedRange, IsCheckedText}
 use Rattle.plural_checker.specs.SampleNumbers.{AreNumbersFrom, AreNumbersOfRange, text_with_c}
-use Rattle.plural_checker.specs.declared.fault.NumberFault.{NumberFault}
-use Rattle.plural_checker.specs.declared.fault.NumberFault.TheVariants.{Category}
 use Rattle.plural_checker.specs.declared.fault.SampleFault.TheVariants.{Number}
 use Rattle.plural_checker.specs.declared.sample_range.SampleNumbers.TheVariants.{Single}
 
--- The number is within the bound, and the category of its operands is its own.
-has_choice : KeptChoiceIsExact → (rules : FiveRules) (chosen : PluralCategory) (o : Operands)
-    → chosen ≡ first_category (packed_truth o) rules
-    → (text : List ℕ) (short : WritesShortNumber text o) → IsBounded rules short.number × HasCategory rules short.number chosen
-has_choice exact rules chosen o e text short =
+-- ---- categories
+
+module _ (exact : KeptChoiceIsExact) (rules : FiveRules) (category : PluralCategory) (o : Operands) (x : CompactNumber)
+    (written : IsWritten x.significand.absolute) (kept : AreKept x.significand.absolute x.exponent o) (bounded : IsBounded rules x)
+  where
+    has_choice : (chosen : PluralCategory) → chosen ≡ first_category (packed_truth o) rules → HasCategory rules x chosen
+    has_choice chosen e =
+        let choice : IsKeptChoice rules x.significand.absolute x.exponent chosen = (o, kept, e) in
+        (choice, exact rules x.significand.absolute x.exponent chosen written choice)
+
+    -- what a number's operands tell of it is wrong with it, if it is within the bound
+    pub checked_by : (fault : Option NumberFault) → IsCategoryFault category (first_category (packed_truth o) rules) fault
+        → IsCheckedBy rules category x fault
+    checked_by None same = (bounded, has_choice category (sym same))
+    checked_by (Some (Category other)) (is, differs) = (bounded, has_choice other is, differs)
+    checked_by (Some (Text error)) is = absurd is
+    checked_by (Some Outside) is = absurd is
+
+-- So is what they tell of a short number.
+pub short_checked : KeptChoiceIsExact → (rules : FiveRules) (category : PluralCategory) (o : Operands) (fault : Option NumberFault)
+    → IsCategoryFault category (first_category (packed_truth o) rules) fault
+    → (text : List ℕ) → WritesShortNumber text o → IsCheckedText (Some rules) category text fault
+short_checked exact rules category o fault is text short =
     let x : CompactNumber = short.number in
-    let digits : Places = x.significand.absolute in
-    let kept : IsKeptChoice rules digits x.exponent chosen = (o, short.kept, e) in
-    let bounded : IsBounded rules x = subst (λ (e : ℕ). IsBoundedAt (shift_right e digits) (moduli_of rules)) (sym short.no_exponent)
+    let bounded : IsBounded rules x =
+    subst (λ (e : ℕ). IsBoundedAt (shift_right e x.significand.absolute) (moduli_of rules)) (sym short.no_exponent)
     (record { fraction = short.fraction; whole = inl short.whole }) in
-    (bounded, (kept, exact rules digits x.exponent chosen short.written kept))
-
--- So it is right where it is listed under that category,
-pub right_by : KeptChoiceIsExact → (rules : FiveRules) (category : PluralCategory) (o : Operands)
-    → category ≡ first_category (packed_truth o) rules
-    → (text : List ℕ) → WritesShortNumber text o → IsCheckedText (Some rules) category text None
-right_by exact rules category o chosen text short =
-    inl (short.number, short.given, has_choice exact rules category o chosen text short)
-
--- and wrong under another.
-pub wrong_by : KeptChoiceIsExact → (rules : FiveRules) (category chosen : PluralCategory) (o : Operands)
-    → chosen ≡ first_category (packed_truth o) rules → chosen ≢ category
-    → (text : List ℕ) → WritesShortNumber text o → IsCheckedText (Some rules) category text (Some (Category chosen))
-wrong_by exact rules category chosen o e other text short =
-    let has = has_choice exact rules chosen o e text short in
-    inl (short.number, short.given, (has.0, has.1, other))
+    inl (x, short.given, checked_by exact rules category o x short.written short.kept bounded fault is)
 
 -- Without rules no number is wrong.
 pub right_without : (category : PluralCategory) (o : Operands) (text : List ℕ) → WritesShortNumber text o

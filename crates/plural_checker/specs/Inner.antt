@@ -4,6 +4,3 @@ pub mod TextReadings
 pub mod ShortNumbers
 -- the words of a text
 pub mod SampleSteps
--- the least numbers of each category
-pub mod SoughtNumbers
-pub mod ToldRemainders

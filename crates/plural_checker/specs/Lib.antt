@@ -5,8 +5,6 @@ pub mod NumberChecks
 pub mod LanguageTexts
 pub mod Findings
 pub mod TextChecks
--- the whole numbers that have a category
-pub mod WholeNumbers
 -- the first samples of a text
 pub mod FirstSamples
 -- the texts of faults

@@ -14,9 +14,9 @@ use Rattle.icu_plurals.specs.DecimalChoice.{HasCategory}
 use Rattle.icu_plurals.specs.FiveRules.{FiveRules}
 use Rattle.icu_plurals.specs.SureChoice.{IsBounded}
 use Rattle.icu_plurals.specs.Written.{CompactNumber}
+use Rattle.number_categories.specs.declared.number_fault.NumberFault.{NumberFault}
+use Rattle.number_categories.specs.declared.number_fault.NumberFault.TheVariants.{Text, Outside, Category}
 use Rattle.plural_checker.specs.SampleNumbers.{GivesSampleNumber, AreNumbersOfRange, count_of, number_at}
-use Rattle.plural_checker.specs.declared.fault.NumberFault.{NumberFault}
-use Rattle.plural_checker.specs.declared.fault.NumberFault.TheVariants.{Text, Outside, Category}
 use Rattle.plural_checker.specs.declared.fault.RangeFault.{RangeFault}
 use Rattle.plural_checker.specs.declared.fault.SampleFault.{SampleFault}
 use Rattle.plural_checker.specs.declared.fault.SampleFault.TheVariants.{Range, Number}

@@ -5,9 +5,8 @@ use Rattle.icu_plurals.specs.Categories.{name_of}
 use Rattle.icu_plurals.specs.Written.{error_text}
 use Rattle.icu_plurals.specs.Serializer.{sample_range_text}
 use Rattle.plural_reference.specs.PluralReferenceErrors.{parse_error_text}
+use Rattle.number_categories.specs.NumberFaults.{wrong_number_text}
 use Rattle.plural_checker.specs.declared.fault.Fault.{Fault}
-use Rattle.plural_checker.specs.declared.fault.NumberFault.{NumberFault}
-use Rattle.plural_checker.specs.declared.fault.NumberFault.TheVariants.{Text, Outside, Category}
 use Rattle.plural_checker.specs.declared.fault.RangeFault.{RangeFault}
 use Rattle.plural_checker.specs.declared.fault.RangeFault.TheVariants.{End, Uneven, Long, Down, Wide}
 use Rattle.plural_checker.specs.declared.fault.SampleFault.{SampleFault}
@@ -21,11 +20,6 @@ range_fault_text Uneven = codes " has ends of different forms"
 range_fault_text Long = codes " has more than 18 digits"
 range_fault_text Down = codes " goes down"
 range_fault_text Wide = codes " has more than 100 numbers"
-
-abbrev pub wrong_number_text : NumberFault → List ℕ
-wrong_number_text (Text error) = codes ": " ++ error_text error
-wrong_number_text Outside = codes " is outside the exactness bound"
-wrong_number_text (Category category) = codes " is " ++ name_of category
 
 -- the range or the number, and its fault
 abbrev pub sample_fault_text : SampleFault → List ℕ

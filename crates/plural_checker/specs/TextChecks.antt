@@ -26,6 +26,7 @@ use Rattle.icu_plurals.specs.RuleTexts.{AreRulesOf, IsFirstRefused}
 use Rattle.icu_plurals.specs.Samples.{ReadsRule, TextIsRule}
 use Rattle.icu_plurals.specs.Serializer.{rule_text}
 use Rattle.plural_reference.specs.FaultPlaces.{TextFaultyAt}
+use Rattle.token_comparison.specs.SameTokens.{HaveOtherTokens, HaveSameTokens}
 use Rattle.plural_checker.specs.Findings.{Findings, no_findings, fault_alone, FindsBoth, EachFinds, IsReportOfFindings}
 use Rattle.plural_checker.specs.LanguageTexts.{SixTexts, has_long, is_long}
 use Rattle.plural_checker.specs.NumberChecks.{IsCheckedRange}
@@ -76,15 +77,6 @@ IsFoundInSamples rules category (Some lists) found =
     FindsBoth (IsFoundInList rules category Integer lists.integer) (IsFoundInList rules category Decimal lists.decimal) found
 
 -- ---- One text
-
--- the two texts have the same tokens
-abbrev pub HaveSameTokens : List ℕ → List ℕ → Type 0
-HaveSameTokens text other = (tokens : List Token) × AreTokensOf text tokens × AreTokensOf other tokens
-
--- the two texts have different tokens
-abbrev pub HaveOtherTokens : List ℕ → List ℕ → Type 0
-HaveOtherTokens text other =
-    (tokens others : List Token) × AreTokensOf text tokens × AreTokensOf other others × (tokens ≢ others)
 
 -- the rule that a text is read as and that can be packed, or why it gives none
 abbrev pub IsReadAsRule : List ℕ → Result Rule RuleError → Type 0

@@ -3,14 +3,14 @@
 ghost use Rattle.std.specs.Prelude.{Some, ◌++◌, codes};
 ghost use Rattle.std.specs.Fmt.{DisplaysOnOk};
 ghost use Rattle.icu_plurals.specs.Serializer.{sample_range_text, sample_text};
-ghost use Rattle.plural_checker.specs.PluralCheckerErrors.{fault_text, wrong_number_text, range_fault_text};
-ghost use Rattle.plural_checker.specs.PluralCheckerErrors.{sample_fault_text, text_fault_text};
+ghost use Rattle.plural_checker.specs.PluralCheckerErrors.{fault_text, range_fault_text, sample_fault_text, text_fault_text};
 
 use crate::printed_rule::PrintedRule;
 use icu_plurals::provider::RawPluralCategory;
 use icu_plurals::provider::rules::reference::ParseError;
 use icu_plurals::provider::rules::reference::ast::{DecimalValue, SampleRange};
 use icu_plurals::{DecimalError, PluralCategory};
+use number_categories::NumberFault;
 use std::error::Error;
 use std::fmt;
 
@@ -74,17 +74,6 @@ pub enum RangeFault {
     Down,
     /// It would have more than 100 numbers.
     Wide,
-}
-
-/// Why a number is wrong.
-#[derive(Clone, Copy, Debug, PartialEq, Eq)]
-pub enum NumberFault {
-    /// The text writes no number, or one over a limit. The error is never out of memory.
-    Text(DecimalError),
-    /// It is outside the exactness bound of the rules.
-    Outside,
-    /// It has this category, and not the one whose text lists it.
-    Category(PluralCategory),
 }
 
 impl fmt::Display for Fault {
@@ -160,20 +149,6 @@ impl fmt::Display for RangeFault {
             RangeFault::Long => f.write_str(" has more than 18 digits"),
             RangeFault::Down => f.write_str(" goes down"),
             RangeFault::Wide => f.write_str(" has more than 100 numbers"),
-        }
-    }
-}
-
-impl fmt::Display for NumberFault {
-    ghost output = { λ fault. Some (wrong_number_text fault) };
-
-    fn fmt<W: fmt::Write>(&self, f: &mut fmt::Formatter<W>) -> fmt::Result {
-        match self {
-            NumberFault::Text(error) => write!(f, ": {error}"),
-            NumberFault::Outside => f.write_str(" is outside the exactness bound"),
-            NumberFault::Category(category) => {
-                write!(f, " is {}", RawPluralCategory::from(*category).as_str())
-            }
         }
     }
 }

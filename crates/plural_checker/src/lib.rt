@@ -7,12 +7,10 @@ mod category_samples;
 mod check;
 mod coverage;
 mod fault;
-mod least_numbers;
 mod list_order;
 mod number_check;
 mod number_count;
 mod number_text;
-mod number_walk;
 mod printed_rule;
 mod range_check;
 mod read_text;
@@ -22,22 +20,19 @@ mod sample;
 mod sample_range;
 mod sample_words;
 mod short_number;
-mod sought;
 mod text_check;
 mod texts;
-mod two_numbers;
-mod whole_numbers;
 
 pub use category_samples::first_samples;
 pub use check::check_texts;
 pub use coverage::{CategorySet, Coverage};
-pub use fault::{Fault, NumberFault, RangeFault, SampleFault, SampleType, TextFault};
-pub use least_numbers::LeastNumbers;
-pub use number_walk::WHOLE_LIMIT;
+pub use fault::{Fault, RangeFault, SampleFault, SampleType, TextFault};
+pub use number_categories::{
+    LeastNumbers, NumberFault, TwoNumbers, WHOLE_LIMIT, least_from, least_of_each, two_least,
+    two_least_of_each,
+};
 pub use printed_rule::PrintedRule;
 pub use report::Report;
 pub use sample::Sample;
 pub use sample_range::{SampleNumbers, Steps};
 pub use texts::{LanguageTexts, MOST_TEXT_BYTES};
-pub use two_numbers::TwoNumbers;
-pub use whole_numbers::{least_from, least_of_each, two_least, two_least_of_each};

@@ -2,17 +2,17 @@
 
 ghost use Rattle.std.specs.Prelude.{◌<◌, IfOk};
 ghost use Rattle.std.specs.Option.{option_copied};
-ghost use Rattle.icu_plurals.specs.DecimalChoice.{HasCategory};
 ghost use Rattle.plural_checker.specs.Inner.ShortNumbers.{IsVerdictOn};
 ghost use Rattle.plural_checker.specs.NumberChecks.{AreCheckedNumbers, IsCheckedBy, IsCheckedNumber, IsCheckedText};
 ghost use Rattle.plural_checker.specs.SampleNumbers.{count_of, number_at};
 
-use crate::fault::{NumberFault, SampleFault};
+use crate::fault::SampleFault;
 use crate::reading::read_number;
 use crate::sample_range::SampleNumbers;
 use crate::short_number::{Verdict, verdict_at};
 use icu_plurals::provider::rules::reference::ast::DecimalValue;
 use icu_plurals::{AskedRules, CompactDecimal, PluralCategory, PluralOperands};
+use number_categories::{NumberFault, category_fault};
 use plural_base::laws::kept_choice_is_exact;
 use std::alloc::{AllocError, Global};
 
@@ -97,19 +97,6 @@ fn check_by(
     if !rules.rules().is_exact_for(number) {
         return Some(NumberFault::Outside);
     }
-    let chosen = category_of(rules, number);
-    if chosen == category {
-        None
-    } else {
-        Some(NumberFault::Category(chosen))
-    }
-}
-
-// The category of a number.
-fn category_of(rules: &AskedRules<'_>, number: &CompactDecimal) -> PluralCategory
-    ensures { HasCategory rules.now number.now result }
-{
     kept_choice_is_exact();
-    let operands = PluralOperands::from(number);
-    rules.category_for(operands)
+    category_fault(rules, category, PluralOperands::from(number))
 }

@@ -8,11 +8,11 @@ ghost use Rattle.std.specs.Option.{option_copied};
 ghost use Rattle.plural_checker.specs.Inner.ShortNumbers.{IsVerdictOn, IsVerdictOnRange, WritesShortNumber};
 ghost use Rattle.plural_checker.specs.SampleNumbers.{number_at, number_text, text_with_c};
 
-use crate::fault::NumberFault;
 use crate::reading::{MOST_DIGITS, split_at_e};
 use crate::sample_range::{SampleNumbers, Steps};
 use icu_plurals::provider::rules::reference::ast::{DecimalValue, Operand, SampleRange};
 use icu_plurals::{AskedRules, PluralCategory, PluralOperands, RawPluralOperands};
+use number_categories::{NumberFault, category_fault};
 use plural_base::laws::kept_choice_is_exact;
 use std::alloc::Global;
 
@@ -163,11 +163,9 @@ fn verdict_under(
     ensures { (text : List ℕ) → WritesShortNumber text operands → IsVerdictOn (Some rules.now) category text result }
 {
     kept_choice_is_exact();
-    let chosen = rules.category_for(operands);
-    if chosen == category {
-        Verdict::Right
-    } else {
-        Verdict::Wrong(NumberFault::Category(chosen))
+    match category_fault(rules, category, operands) {
+        Some(fault) => Verdict::Wrong(fault),
+        None => Verdict::Right,
     }
 }
 

@@ -1,12 +1,9 @@
 //! One text of a language's rules.
 
-ghost use Rattle.std.specs.Prelude.{◌≡◌, ◌≢◌, IsTrue, List, OnOk, MatchBool};
-ghost use Rattle.icu_plurals.specs.Lexer.{AreTokensOf};
-ghost use Rattle.icu_plurals.specs.declared.provider.rules.reference.Token.{Token};
+ghost use Rattle.std.specs.Prelude.{OnOk};
 ghost use Rattle.std.specs.Option.{option_copied};
 ghost use Rattle.plural_checker.specs.Findings.{AddsFindings, GrowsBy};
 ghost use Rattle.plural_checker.specs.Inner.TextReadings.{IsFoundInRead};
-ghost use Rattle.plural_checker.specs.TextChecks.{HaveOtherTokens, HaveSameTokens};
 ghost use Rattle.plural_checker.specs.TextChecks.{condition_findings, IsFoundIn, IsFoundInReading, IsFoundInCategoryText};
 
 use crate::fault::{Fault, TextFault};
@@ -15,10 +12,10 @@ use crate::printed_rule::PrintedRule;
 use crate::range_check::check_samples;
 use crate::read_text::{ReadText, Reading};
 use crate::report::Report;
-use icu_plurals::provider::rules::reference::Lexer;
 use icu_plurals::provider::rules::reference::ast::{Condition, Rule};
 use icu_plurals::{PluralCategory, PluralRules};
 use std::alloc::{AllocError, Global};
+use token_comparison::has_tokens_of;
 
 // Adds the faults of a category's text, if it is present.
 pub(crate) fn check_if_there(
@@ -110,50 +107,4 @@ fn check_condition(
     }
     let kind = TextFault::Condition;
     report.add(Fault { category, kind })
-}
-
-// Whether two texts have the same tokens.
-fn has_tokens_of(text: &str, other: &str) -> bool
-    ensures { MatchBool result (HaveSameTokens text.now other.now) (HaveOtherTokens text.now other.now) }
-{
-    // Most texts of CLDR are as they print, but for spaces at the front.
-    if is_behind_spaces(text, other) {
-        // Only for the proof: shows that the other text has tokens.
-        let _tokens = Lexer::new(other.as_bytes());
-        return true;
-    }
-    are_cut_alike(text, other)
-}
-
-// The same by cutting both.
-fn are_cut_alike(text: &str, other: &str) -> bool
-    ensures { MatchBool result (HaveSameTokens text.now other.now) (HaveOtherTokens text.now other.now) }
-{
-    are_equal(Lexer::new(text.as_bytes()), Lexer::new(other.as_bytes()))
-}
-
-// Whether a text is another one behind spaces, or none.
-fn is_behind_spaces(text: &str, other: &str) -> bool
-    ensures { IsTrue result → (tokens : List Token) → AreTokensOf other.now tokens → AreTokensOf text.now tokens }
-{
-    let mut rest = text.as_bytes();
-    'spaces: while let Some((first, after)) = rest.split_first() {
-        if *first != b' ' || rest.len() <= other.len() {
-            break;
-        }
-        rest = after;
-    }
-    rest == other.as_bytes()
-}
-
-// Whether the remaining tokens are the same.
-fn are_equal(mut tokens: Lexer<'_>, mut others: Lexer<'_>) -> bool
-    ensures { MatchBool result (tokens.entry ≡ others.entry) (tokens.entry ≢ others.entry) }
-{
-    while let Some(token) = tokens.next() {
-        if others.next() != Some(token) {
-            return false;
-        }
-    }
-    others.next().is_none()
 }

@@ -3,9 +3,9 @@
 use Rattle.std.specs.Prelude.{◌↔◌, ◌&&◌, not, Bool, true, false, IsTrue, Some}
 use Rattle.icu_plurals.specs.declared.PluralCategory.{PluralCategory}
 use Rattle.icu_plurals.specs.FiveRules.{FiveRules}
-use Rattle.plural_checker.specs.WholeNumbers.{AreTwoLeastFrom, HasWhole}
+use Rattle.number_categories.specs.WholeNumbers.{AreTwoLeastFrom, HasWhole}
 use Rattle.message_report.specs.declared.category_numbers.CategoryNumbers.{CategoryNumbers}
-use Rattle.plural_checker.specs.declared.two_numbers.TwoNumbers.{TwoNumbers}
+use Rattle.number_categories.specs.declared.two_numbers.TwoNumbers.{TwoNumbers}
 
 pub record AreNumbersOf (rules : FiveRules) (category : PluralCategory) (numbers : CategoryNumbers) : Type 0 where
   pub zero : IsTrue numbers.zero ↔ HasWhole rules category 0

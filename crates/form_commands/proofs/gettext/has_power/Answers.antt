@@ -1,6 +1,6 @@
 use Rattle.std.proofs.Common.{Bool, sym, subst}
 use Rattle.std.specs.Prelude.{MatchBool}
-use Rattle.plural_checker.specs.WholeNumbers.{HasWhole}
+use Rattle.number_categories.specs.WholeNumbers.{HasWhole}
 use Rattle.form_commands.specs.GettextLines.{SomeHas, tried_powers}
 use Rattle.form_commands.proofs.GettextLemmas.{six_match}
 use Rattle.form_commands.proofs.gettext.has_power.Goals as goal

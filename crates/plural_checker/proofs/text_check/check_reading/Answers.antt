@@ -3,7 +3,8 @@ use Rattle.std.proofs.lemmas.Result.{on_ok_weaker}
 use Rattle.std.specs.Prelude.{MatchBool}
 use Rattle.icu_plurals.specs.Serializer.{rule_text}
 use Rattle.plural_checker.specs.Findings.{no_findings, fault_alone}
-use Rattle.plural_checker.specs.TextChecks.{HaveOtherTokens, HaveSameTokens, IsOutOfOrder}
+use Rattle.token_comparison.specs.SameTokens.{HaveOtherTokens, HaveSameTokens}
+use Rattle.plural_checker.specs.TextChecks.{IsOutOfOrder}
 use Rattle.plural_checker.specs.declared.fault.Fault.{Fault}
 use Rattle.plural_checker.specs.declared.fault.TextFault.TheVariants.{Order, Partly}
 use Rattle.plural_checker.proofs.Growth.{grows_by_fault, grows_by_nothing}

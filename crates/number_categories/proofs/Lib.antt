@@ -1,0 +1,4 @@
+-- the least numbers of each category
+pub mod SeenNumbers
+pub mod ToldLists
+pub mod Soughts

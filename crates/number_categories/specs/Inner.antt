@@ -1,0 +1,3 @@
+-- the least numbers of each category
+pub mod SoughtNumbers
+pub mod ToldRemainders

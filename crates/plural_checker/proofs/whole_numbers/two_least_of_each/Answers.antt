@@ -1,9 +1,0 @@
-use Rattle.std.proofs.Common.{false}
-use Rattle.plural_checker.proofs.Soughts.{found_of_each}
-use Rattle.plural_checker.proofs.whole_numbers.two_least_of_each.Goals as goal
-
-pub returns : goal.returns
-returns c = record {
-  at = found_of_each c.args.rules.now c.of_each.result c.find.result c.of_each.ensures.sought c.find.ensures c.args.start false
-      c.of_each.ensures.start c.of_each.ensures.first_alone;
-}

@@ -1,0 +1,2 @@
+-- texts behind spaces
+pub mod SpacedTexts

@@ -1,0 +1,2 @@
+-- texts that have the same tokens
+pub mod SameTokens
