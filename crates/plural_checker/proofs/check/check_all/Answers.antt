@@ -1,7 +1,7 @@
-use Rattle.std.proofs.Common.{ap, sym, subst}
+use Rattle.std.proofs.Common.{ap}
 use Rattle.std.specs.Option.{option_copied}
 use Rattle.plural_checker.specs.Inner.TextReadings.{six}
-use Rattle.plural_checker.specs.TextChecks.{AreFindingsUnder, IsFoundInSix}
+use Rattle.plural_checker.specs.TextChecks.{IsFoundInSix}
 use Rattle.plural_checker.specs.declared.report.Report.{Report}
 use Rattle.plural_checker.proofs.Growth.{reported_if_ok}
 use Rattle.plural_checker.proofs.check.check_all.Goals as goal
