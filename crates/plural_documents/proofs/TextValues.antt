@@ -1,11 +1,10 @@
 -- The value of a text, by the tokens that are held of it.
-use Rattle.std.proofs.Common.{◌≡◌, ℕ, ◌<◌, List, [], ◌∷◌, ◌++◌, length, Option, Some, None, Result, Ok, Err, Vec, Global, map, refl, sym, ap, ◌∙◌}
+use Rattle.std.proofs.Common.{◌≡◌, ℕ, List, [], ◌∷◌, ◌++◌, Option, Some, None, Result, Ok, Err, Vec, Global, refl, sym, ap, ◌∙◌}
 use Rattle.std.specs.Prelude.{IfOk, option_and_then}
 use Rattle.std.specs.Str.{IsUtf8}
 use Rattle.std.proofs.lemmas.Str.{is_utf8-from_IsUtf8}
 use Rattle.std.specs.declared.alloc.AllocError.{AllocError}
-use Rattle.json.specs.Json.{Json}
-use Rattle.document_tokens.specs.HeldTokens.{Held, held_token, held_tokens}
+use Rattle.document_tokens.specs.HeldTokens.{Held, held_tokens}
 use Rattle.document_tokens.specs.TextTokens.{AreHeldTokens, GivesHeldTokens, is_held_name, json_part}
 use Rattle.document_tokens.specs.declared.error.JsonTextError.{JsonTextError}
 use Rattle.document_tokens.specs.declared.error.JsonTextError.TheVariants as fault
