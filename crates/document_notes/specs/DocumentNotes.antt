@@ -12,8 +12,8 @@ use Rattle.document_report.specs.DocumentReport.{all_texts_in}
 use Rattle.plural_documents.specs.FoundMembers.{HasGrownBy, IsFoundInMembers}
 use Rattle.plural_documents.specs.Inputs.{json_of}
 use Rattle.plural_documents.specs.RepeatedKeys.{AreRepeatedInBytes, RepeatedAt, repeated_view}
-use Rattle.plural_documents.specs.declared.json_text.JsonTextError.{JsonTextError}
-use Rattle.plural_documents.specs.declared.json_text.JsonTextError.TheVariants as fault
+use Rattle.plural_documents.specs.declared.JsonTextError.{JsonTextError}
+use Rattle.plural_documents.specs.declared.JsonTextError.TheVariants as fault
 use Rattle.plural_fallback.specs.declared.locales.Part.{Part}
 use Rattle.plural_fallback.specs.declared.locales.Part.TheVariants.{Cardinal, Ordinal}
 use Rattle.rule_notes.specs.RuleNotes.{AreNotesOf}

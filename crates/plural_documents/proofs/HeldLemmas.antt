@@ -1,8 +1,7 @@
 -- The tokens that are held of a value.
-use Rattle.std.proofs.Common.{◌≡◌, List, [], ◌∷◌, ◌++◌, ◌∙◌}
+use Rattle.std.proofs.Common.{◌≡◌, List, [], ◌∷◌, ◌++◌, ◌∙◌, append_assoc}
 use Rattle.json.specs.Json as json
-use Rattle.plural_documents.specs.Inner.HeldTokens.{Held, held_items, held_members, held_tokens}
-use Rattle.plural_documents.proofs.OpenLemmas.{joined}
+use Rattle.document_tokens.specs.HeldTokens.{Held, held_items, held_members, held_tokens}
 
 abbrev pub first_or : Held → List Held → Held
 first_or t [] = t
@@ -24,7 +23,7 @@ no_value (json.object ms) after is = absurd (cc)
 
 pub no_items_left : (js : json.Items) (after : List Held) → [] ≡ held_items js ++ after → ⊥
 no_items_left json.no_items after is = absurd (cc)
-no_items_left (json.item j js) after is = no_value j (held_items js ++ after) (is ∙ joined (held_tokens j) (held_items js) after)
+no_items_left (json.item j js) after is = no_value j (held_items js ++ after) (is ∙ append_assoc (held_tokens j) (held_items js) after)
 
 pub no_members_left : (ms : json.Members) (after : List Held) → [] ≡ held_members ms ++ after → ⊥
 no_members_left json.no_members after is = absurd (cc)

@@ -1,7 +1,8 @@
 -- Outlines of what is held of a value, which are those of the value where nothing else is kept.
 use Rattle.std.proofs.Common.{◌≡◌, ℕ, List, Bool, true, false, Some, refl, sym, ap, ◌∙◌}
 use Rattle.std.specs.Prelude.{if◌then◌else◌}
-use Rattle.plural_documents.specs.Outlines.{HeldText, IsHeld, is_named, named, outline, outline_members, part_by_names, with_member}
+use Rattle.document_tokens.specs.TextTokens.{is_named}
+use Rattle.plural_documents.specs.Outlines.{HeldText, IsHeld, named, outline, outline_members, part_by_names, with_member}
 use Rattle.plural_documents.specs.declared.outline.Portion.{Portion}
 use Rattle.plural_documents.specs.declared.outline.Portion.TheVariants as kept
 use Rattle.plural_documents.proofs.OutlinedLemmas.{some_is}

@@ -2,8 +2,8 @@
 use Rattle.std.proofs.Common.{◌≡◌, ℕ, List, Bool, true, false, Option, Some, None, refl, sym, ap, ◌∙◌}
 use Rattle.std.specs.Prelude.{option_and_then, option_map, if◌then◌else◌}
 use Rattle.json.specs.Json as json
-use Rattle.plural_documents.specs.Inner.HeldParts.{is_held_name, json_part, members_part}
-use Rattle.plural_documents.specs.Outlines.{is_named, named, outline, outline_members, part_by_names}
+use Rattle.document_tokens.specs.TextTokens.{is_held_name, is_named, json_part, members_part}
+use Rattle.plural_documents.specs.Outlines.{named, outline, outline_members, part_by_names}
 use Rattle.plural_documents.specs.declared.outline.Portion.TheVariants as kept
 use Rattle.plural_documents.proofs.OutlinedLemmas.{held_map, some_is}
 use Rattle.plural_documents.proofs.OutlineLemmas.{AreSorted, outline_put, sorted_put}
@@ -54,7 +54,7 @@ all_members : (ms : json.Members) → members_part (is_held_name None) ms ≡ ms
 all_members json.no_members = refl
 all_members (json.member k j ms) = ap (json.member k j) (all_members ms)
 
-all_of : (j : json.Json) → json_part (is_held_name None) j ≡ j
+pub all_of : (j : json.Json) → json_part (is_held_name None) j ≡ j
 all_of json.null = refl
 all_of (json.boolean b) = refl
 all_of (json.number s) = refl

@@ -1,17 +1,14 @@
 -- The walk through the objects of a text, by the tokens that are held of it.
-use Rattle.std.proofs.Common.{◌≡◌, ℕ, suc, ◌≤◌, List, [], ◌∷◌, ◌++◌, map, length, Option, Some, None, refl, sym, ap, subst, ◌∙◌, append_assoc, arith}
+use Rattle.std.proofs.Common.{◌≡◌, ℕ, List, [], ◌∷◌, ◌++◌, map, Option, Some, None, refl, sym, ap, subst, ◌∙◌, append_assoc}
 use Rattle.std.proofs.lemmas.List.{append-nil}
 use Rattle.json.specs.Json as json
 use Rattle.json.specs.Strict.{keys}
-use Rattle.plural_documents.specs.Inner.HeldTokens.{Held, held_members, held_token, held_tokens}
+use Rattle.document_tokens.specs.HeldTokens.{Held, held_members, held_tokens}
 use Rattle.plural_documents.specs.Inner.KeysStanding.{AddsRepeated, AreStanding, HasAdded, IsFoundAgain, object_path}
 use Rattle.plural_documents.specs.RepeatedKeys.{AreRepeated, AreRepeatedBelow, AreRepeatedIn, AreRepeatedInObject, Path, RepeatedAt, path_below, repeated_view}
-use Rattle.plural_documents.specs.declared.held_token.HeldToken.{HeldToken}
-use Rattle.plural_documents.specs.declared.held_token.HeldToken.TheVariants as variant
 use Rattle.plural_documents.specs.declared.repeated_key.RepeatedKey.{RepeatedKey}
 use Rattle.plural_documents.specs.declared.repeated_key.StandingKeys.{StandingKeys}
-use Rattle.plural_documents.proofs.HeldLemmas.{no_members_left, no_value, rest_of}
-use Rattle.plural_documents.proofs.OpenLemmas.{joined}
+use Rattle.plural_documents.proofs.HeldLemmas.{no_members_left, rest_of}
 
 -- ---- What was added
 
@@ -132,7 +129,7 @@ module _ (path : Path) (members : json.Members) (rest : List Held) (old now new 
       by json.no_members is are go_on = absurd (cc)
       by (json.member k value ms) is are go_on =
           let same : key ≡ k = cc in
-          let found = adds value (held_members ms ++ rest) (ap rest_of is ∙ joined (held_tokens value) (held_members ms) rest) in
+          let found = adds value (held_members ms ++ rest) (ap rest_of is ∙ append_assoc (held_tokens value) (held_members ms) rest) in
           let first = found.1.0 in
           record {
             others = ms;

@@ -1,8 +1,7 @@
 -- How a value is passed, by the count of what is open.
-use Rattle.std.proofs.Common.{◌≡◌, ℕ, zero, suc, ◌-◌, ◌<◌, List, [], ◌∷◌, ◌++◌, refl, sym, ap, ◌∙◌, arith}
+use Rattle.std.proofs.Common.{◌≡◌, ℕ, zero, suc, ◌-◌, ◌<◌, List, [], ◌∷◌, ◌++◌, refl, sym, ap, ◌∙◌, append_assoc, arith}
 use Rattle.json.specs.Json as json
-use Rattle.plural_documents.specs.Inner.HeldTokens.{Held, held_items, held_members, held_tokens, opened_after}
-use Rattle.plural_documents.proofs.OpenLemmas.{joined}
+use Rattle.document_tokens.specs.HeldTokens.{Held, held_items, held_members, held_tokens, opened_after}
 
 -- what is left when nothing is open any more
 abbrev passed : ℕ → List Held → List Held
@@ -25,12 +24,12 @@ mutual
   items_passed : (n : ℕ) (js : json.Items) (rest : List Held) → passed (suc n) (held_items js ++ rest) ≡ passed n rest
   items_passed n json.no_items rest = ap (λ k. passed k rest) (one_less n)
   items_passed n (json.item j js) rest =
-      ap (passed (suc n)) (joined (held_tokens j) (held_items js) rest) ∙ value_passed n j (held_items js ++ rest) ∙ items_passed n js rest
+      ap (passed (suc n)) (append_assoc (held_tokens j) (held_items js) rest) ∙ value_passed n j (held_items js ++ rest) ∙ items_passed n js rest
 
   members_passed : (n : ℕ) (ms : json.Members) (rest : List Held) → passed (suc n) (held_members ms ++ rest) ≡ passed n rest
   members_passed n json.no_members rest = ap (λ k. passed k rest) (one_less n)
   members_passed n (json.member k j ms) rest =
-      ap (passed (suc n)) (joined (held_tokens j) (held_members ms) rest) ∙ value_passed n j (held_members ms ++ rest)
+      ap (passed (suc n)) (append_assoc (held_tokens j) (held_members ms) rest) ∙ value_passed n j (held_members ms ++ rest)
       ∙ members_passed n ms rest
 
 -- what is left after the first token, and what it opens

@@ -1,12 +1,12 @@
 -- What is right in a document of rules, by the tokens that are held of it.
-use Rattle.std.proofs.Common.{◌≡◌, ◌↔◌, ◌⊎◌, inl, inr, ℕ, List, [], ◌∷◌, ◌++◌, Bool, true, false, ◌||◌, Option, Some, None, Result, Ok, Err, is_some, Ordering, Less, Equal, Greater, refl, sym, ap, subst, ◌∙◌}
+use Rattle.std.proofs.Common.{◌≡◌, ◌↔◌, ◌⊎◌, inl, inr, ℕ, List, [], ◌∷◌, ◌++◌, Bool, true, false, ◌||◌, Option, Some, None, Result, Ok, Err, is_some, Ordering, Less, Equal, Greater, refl, sym, ap, subst, ◌∙◌, append_assoc}
 use Rattle.std.specs.Bool.{OnTrue}
 use Rattle.std.specs.List.{list_any}
 use Rattle.std.specs.Prelude.{IfOk, option_map}
 use Rattle.std.proofs.lemmas.Bool.{or_from, or_parts}
 use Rattle.std.proofs.lemmas.List.Folds.{list_any-append}
 use Rattle.json.specs.Json as json
-use Rattle.plural_documents.specs.Inner.HeldTokens.{Held, held_items, held_members, held_tokens}
+use Rattle.document_tokens.specs.HeldTokens.{Held, held_items, held_members, held_tokens}
 use Rattle.plural_documents.specs.Inner.OutlineSteps.{IsPassed}
 use Rattle.plural_documents.specs.Inner.RulesPlaces.{AreRight, AreRightParts, GivesRule, IsRight, IsRightBelow, IsRightPart, IsRightText, allows_null, below, is_any_read, is_float}
 use Rattle.plural_base.specs.Categories.{name_of}
@@ -14,7 +14,6 @@ use Rattle.plural_base.specs.declared.category.PluralCategory.{PluralCategory}
 use Rattle.plural_documents.specs.declared.rules_place.RulesPlace.{RulesPlace}
 use Rattle.plural_documents.specs.declared.rules_place.RulesPlace.TheVariants.{Category}
 use Rattle.plural_documents.proofs.HeldLemmas.{no_members_left, rest_of}
-use Rattle.plural_documents.proofs.OpenLemmas.{joined}
 use Rattle.plural_documents.proofs.OutlinedLemmas.{held_map, some_is}
 use Rattle.plural_documents.proofs.OutlineLemmas.{order, put_in, same_key}
 use Rattle.plural_documents.proofs.WalkLemmas.{held_then}
@@ -86,7 +85,7 @@ right_added place k ts new rest whole any now (json.no_members, before, is, read
 right_added place k ts new rest whole any now (json.member l j ms, before, is, read, right, so_far) passes then =
     let same : k ≡ l = cc in
     let first = held_then (of_json j) (λ d. of_members ms (put l d before)) whole read in
-    let passed = passes j (held_members ms ++ rest) first.0 (ap rest_of is ∙ joined (held_tokens j) (held_members ms) rest) first.1 in (
+    let passed = passes j (held_members ms ++ rest) first.0 (ap rest_of is ∙ append_assoc (held_tokens j) (held_members ms) rest) first.1 in (
       ms,
       put k first.0 before,
       passed.0,

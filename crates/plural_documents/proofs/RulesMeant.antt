@@ -16,8 +16,8 @@ use Rattle.plural_base.specs.declared.category.PluralCategory.{PluralCategory}
 use Rattle.plural_base.specs.declared.category.PluralCategory.TheVariants.{Zero, One, Two, Few, Many}
 use Rattle.plural_base.specs.declared.five.Five.{Five}
 use Rattle.plural_base.specs.declared.ranges.PluralRanges.{PluralRanges}
-use Rattle.plural_documents.specs.Inner.HeldParts.{Holds}
-use Rattle.plural_documents.specs.Inner.HeldTokens.{Held, held_tokens}
+use Rattle.plural_documents.specs.Inner.HeldTexts.{Holds}
+use Rattle.document_tokens.specs.HeldTokens.{Held, held_tokens}
 use Rattle.plural_documents.specs.Inner.RulesPlaces.{AreRight, IsFaultless, IsRight, IsRightBelow, IsRightPart, IsRightText, below, is_any_read, is_float}
 use Rattle.plural_documents.specs.Outlines.{HeldText}
 use Rattle.plural_documents.specs.declared.rules_place.RulesPlace.{RulesPlace}

@@ -1,16 +1,15 @@
 -- The steps through the items of an array and the members of an object.
-use Rattle.std.proofs.Common.{◌≡◌, ℕ, List, [], ◌∷◌, ◌++◌, Bool, false, true≢false, Option, Some, None, refl, sym, ap, ◌∙◌}
+use Rattle.std.proofs.Common.{◌≡◌, ℕ, List, [], ◌∷◌, ◌++◌, Bool, false, true≢false, Option, Some, None, refl, sym, ap, ◌∙◌, append_assoc}
 use Rattle.std.specs.Prelude.{option_and_then, option_map}
 use Rattle.json.specs.Json as json
 use Rattle.std.specs.Borrow.{Bor}
-use Rattle.plural_documents.specs.Inner.HeldTokens.{Held, held_items, held_members, held_token, held_tokens}
-use Rattle.plural_documents.specs.declared.held_token.HeldToken.{HeldToken}
-use Rattle.plural_documents.specs.declared.held_token.HeldToken.TheVariants as variant
+use Rattle.document_tokens.specs.HeldTokens.{Held, held_items, held_members, held_token, held_tokens}
+use Rattle.document_tokens.specs.declared.held_token.HeldToken.{HeldToken}
+use Rattle.document_tokens.specs.declared.held_token.HeldToken.TheVariants as variant
 use Rattle.plural_documents.specs.Inner.OutlineSteps.{IsOneToken, IsOutlined, KeepsPart, members_by, opens, portion_below}
 use Rattle.plural_documents.specs.declared.outline.Portion.{Portion}
 use Rattle.plural_documents.proofs.ItemLemmas.{after_one_more, items_after}
 use Rattle.plural_documents.proofs.HeldLemmas.{no_members_left, rest_of}
-use Rattle.plural_documents.proofs.OpenLemmas.{joined}
 use Rattle.plural_documents.proofs.OutlinedLemmas.{held_map, none_outlined, null_outlined, some_is}
 use Rattle.plural_documents.proofs.OutlineLemmas.{AreSorted, members_put, sorted_put}
 use Rattle.serde_json.specs.Data.{Items, no_items, item, Members, null, put}
@@ -91,7 +90,7 @@ pub items_ended : (others : json.Items) (ts rest : List Held) (more : Items) →
     → of_items others ≡ Some more → (ts ≡ rest) × (more ≡ no_items)
 items_ended json.no_items ts rest more is read = (ap rest_of is, sym (some_is no_items more read))
 items_ended (json.item j js) ts rest more is read =
-    absurd (no_end_first j ts (held_items js ++ rest) (is ∙ joined (held_tokens j) (held_items js) rest))
+    absurd (no_end_first j ts (held_items js ++ rest) (is ∙ append_assoc (held_tokens j) (held_items js) rest))
 
 -- one more item
 module _ {S : Type 0} (keeps : S → List ℕ → Portion S) where
@@ -108,7 +107,7 @@ module _ {S : Type 0} (keeps : S → List ℕ → Portion S) where
   item_added values value (json.item j js) t ts rest new more whole is other read so_far outlined =
       let first = held_then (of_json j) (λ d. option_map (item d) (of_items js)) more read in
       let after = held_map (item first.0) (of_items js) more first.2 in
-      let kept = outlined j (held_items js ++ rest) first.0 (is ∙ joined (held_tokens j) (held_items js) rest) first.1 in (
+      let kept = outlined j (held_items js ++ rest) first.0 (is ∙ append_assoc (held_tokens j) (held_items js) rest) first.1 in (
         js,
         after.0,
         kept.0,
@@ -133,7 +132,7 @@ module _ {S : Type 0} (keeps : S → List ℕ → Portion S) where
     member_added k ts new rest whole found after (json.member l j ms, before, is, read, sorted, so_far) keeps_it =
         let same : k ≡ l = cc in
         let first = held_then (of_json j) (λ d. of_members ms (put l d before)) whole read in
-        let kept = keeps_it j (held_members ms ++ rest) first.0 (ap rest_of is ∙ joined (held_tokens j) (held_members ms) rest) first.1 in (
+        let kept = keeps_it j (held_members ms ++ rest) first.0 (ap rest_of is ∙ append_assoc (held_tokens j) (held_members ms) rest) first.1 in (
           ms,
           put k first.0 before,
           kept.0,

@@ -1,8 +1,5 @@
 -- Not definitions of the subject: steps of private calls.
-pub mod OpenKinds
-pub mod HeldTokens
-pub mod OpenBrackets
-pub mod HeldParts
+pub mod HeldTexts
 pub mod OutlineSteps
 pub mod KeysStanding
 pub mod RulesPlaces

@@ -18,8 +18,8 @@ use Rattle.serde_json.specs.Data.{Data}
 use Rattle.serde_json.specs.Read.{max_depth, read}
 use Rattle.serde_json.specs.View.{view}
 use Rattle.serde_json.specs.declared.Value.{Value}
-use Rattle.plural_documents.specs.declared.json_text.JsonTextError.{JsonTextError}
-use Rattle.plural_documents.specs.declared.json_text.JsonTextError.TheVariants as json
+use Rattle.document_tokens.specs.declared.error.JsonTextError.{JsonTextError}
+use Rattle.document_tokens.specs.declared.error.JsonTextError.TheVariants as json
 
 -- the most bytes that an input may have
 abbrev pub most_bytes : ℕ

@@ -5,11 +5,11 @@
 --         they are a JSON text
 --     GivesHeldText names bytes result      a text that is held, of an outermost object by names
 --     IsOutlineOf keeps choice text part      the outline of what is held of it
-use Rattle.std.specs.Prelude.{◌≡◌, ℕ, ◌<◌, List, length, Bool, bytes_eq, if◌then◌else◌, Option, Some, None, Result, Ok, Err}
-use Rattle.std.specs.List.{list_any}
+use Rattle.std.specs.Prelude.{◌≡◌, ℕ, ◌<◌, List, length, if◌then◌else◌, Option, Some, None, Result, Ok, Err}
+use Rattle.document_tokens.specs.TextTokens.{is_named}
 use Rattle.plural_documents.specs.Inputs.{json_of}
-use Rattle.plural_documents.specs.declared.json_text.JsonTextError.{JsonTextError}
-use Rattle.plural_documents.specs.declared.json_text.JsonTextError.TheVariants as fault
+use Rattle.document_tokens.specs.declared.error.JsonTextError.{JsonTextError}
+use Rattle.document_tokens.specs.declared.error.JsonTextError.TheVariants as fault
 use Rattle.plural_documents.specs.declared.outline.Portion.{Portion}
 use Rattle.plural_documents.specs.declared.outline.Portion.TheVariants as kept
 use Rattle.serde_json.specs.Data.{Data, null, boolean, number, string, array, object, Members, no_members, member}
@@ -52,9 +52,6 @@ GivesOutline keeps choice bytes (Err fault.Memory) = 0 < length bytes
 pub record HeldText : Type 0 where
   pub bytes : List ℕ
   pub names : Option (List (List ℕ))
-
-abbrev pub is_named : List (List ℕ) → List ℕ → Bool
-is_named names key = list_any (λ name. bytes_eq key name) names
 
 -- the members with these names
 abbrev pub named : List (List ℕ) → List ℕ → Portion (List (List ℕ))

@@ -13,8 +13,8 @@ use Rattle.std.specs.declared.alloc.Global.{Global}
 use Rattle.json.specs.Json as json
 use Rattle.json.specs.Strict.{keys}
 use Rattle.plural_documents.specs.Inputs.{json_of, json_tree}
-use Rattle.plural_documents.specs.declared.json_text.JsonTextError.{JsonTextError}
-use Rattle.plural_documents.specs.declared.json_text.JsonTextError.TheVariants as fault
+use Rattle.document_tokens.specs.declared.error.JsonTextError.{JsonTextError}
+use Rattle.document_tokens.specs.declared.error.JsonTextError.TheVariants as fault
 use Rattle.plural_documents.specs.declared.repeated_key.KeyPath.{KeyPath}
 use Rattle.plural_documents.specs.declared.repeated_key.KeyPath.TheVariants as code
 use Rattle.plural_documents.specs.declared.repeated_key.RepeatedKey.{RepeatedKey}

@@ -2,17 +2,9 @@
 
 ghost use Rattle.plural_documents.specs.Inputs.{GivesJson};
 
+use document_tokens::JsonTextError;
 use serde_json::Value;
 use std::alloc::Global;
-
-/// Why bytes have no JSON value.
-#[derive(Clone, Copy, Debug, PartialEq, Eq)]
-pub enum JsonTextError {
-    /// They are no JSON text, as `serde_json` reads it.
-    Json,
-    /// Out of memory.
-    Memory,
-}
 
 /// Returns the JSON value that the bytes write. It allocates.
 ///

@@ -3,29 +3,26 @@
 #![tactic(auto)]
 
 mod counts;
-mod held_token;
 mod input;
-mod json_number;
 mod json_text;
 mod json_tokens;
 mod kept_place;
 mod lines;
 mod locale_provider;
 mod members;
-mod nesting;
 mod outline;
 mod output;
 mod printed_key;
 mod repeated_key;
 mod rules_check;
 mod rules_place;
-mod token_place;
 mod tokens_left;
 
 pub use counts::{MOST_TOLD, sum};
+pub use document_tokens::JsonTextError;
 pub use input::{InputError, read_input};
 pub use json::Scratch;
-pub use json_text::{JsonTextError, json_value};
+pub use json_text::json_value;
 pub use json_tokens::JsonTokens;
 pub use kept_place::{KeptPlace, PrintedPlace};
 pub use lines::{LinePrinter, push_lines};

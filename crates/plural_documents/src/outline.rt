@@ -1,16 +1,15 @@
 //! The outline of a JSON value: what is kept of it.
 
 ghost use Rattle.std.specs.Prelude.{◌≡◌, [], ◌∷◌, ◌++◌, ◌≤◌, IfOk, OnOk, false, length};
-ghost use Rattle.plural_documents.specs.Inner.HeldTokens.{held_token};
+ghost use Rattle.document_tokens.specs.HeldTokens.{held_token};
 ghost use Rattle.plural_documents.specs.Inner.OutlineSteps.{AddsItem, AreItems, AreOutlined, IsOneToken, IsOutlined, KeepsPart, opens, portion_below, portion_by};
 ghost use Rattle.plural_documents.specs.Outlines.{GivesOutline, IsOutlineOf};
 ghost use Rattle.serde_json.specs.Data.{put};
 ghost use Rattle.serde_json.specs.View.{items_view, members_view, view};
 
-use crate::held_token::HeldToken;
-use crate::json_text::JsonTextError;
 use crate::json_tokens::JsonTokens;
 use crate::tokens_left::TokensLeft;
+use document_tokens::{HeldToken, JsonTextError};
 use json::Scratch;
 use serde_json::{Map, Value};
 use std::alloc::{AllocError, Global};

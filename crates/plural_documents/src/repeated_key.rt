@@ -2,14 +2,13 @@
 
 ghost use Rattle.std.specs.Prelude.{◌≡◌, ◌≤◌, ◌++◌, ◌∷◌, [], List, ℕ, OnOk, length, option_map};
 ghost use Rattle.json.specs.Json as json;
-ghost use Rattle.plural_documents.specs.Inner.HeldTokens.{Held as HeldLeft, held_members, held_token, held_tokens};
+ghost use Rattle.document_tokens.specs.HeldTokens.{Held as HeldLeft, held_members, held_token, held_tokens};
 ghost use Rattle.plural_documents.specs.Inner.KeysStanding.{AddsRepeated, AreStanding, IsFoundAgain, object_path};
 ghost use Rattle.plural_documents.specs.RepeatedKeys.{AreRepeatedIn, AreRepeatedInObject, GivesRepeated, path_below, path_view};
 
-use crate::held_token::HeldToken;
-use crate::json_text::JsonTextError;
 use crate::json_tokens::tokens_of;
 use crate::tokens_left::TokensLeft;
+use document_tokens::{HeldToken, JsonTextError};
 use json::Scratch;
 use std::alloc::{AllocError, Global};
 use std::collections::BTreeSet;

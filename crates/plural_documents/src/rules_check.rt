@@ -3,13 +3,13 @@
 ghost use Rattle.std.specs.Bool.{OnTrue};
 ghost use Rattle.std.specs.List.{list_any};
 ghost use Rattle.std.specs.Prelude.{◌≡◌, ◌∷◌, ◌≤◌, IfOk, OnOk, Some, length, map};
-ghost use Rattle.plural_documents.specs.Inner.HeldTokens.{held_token};
+ghost use Rattle.document_tokens.specs.HeldTokens.{held_token};
 ghost use Rattle.plural_documents.specs.Inner.RulesPlaces.{AreRightParts, GivesRule, IsFaultless, IsRightPart, IsRightText, is_float};
 
-use crate::held_token::HeldToken;
 use crate::json_tokens::JsonTokens;
 use crate::rules_place::RulesPlace;
 use crate::tokens_left::TokensLeft;
+use document_tokens::HeldToken;
 use plural_base::PluralCategory;
 use plural_runtime::laws::texts_give_one_answer;
 use plural_runtime::{Rule, RuleError};

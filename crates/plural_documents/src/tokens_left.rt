@@ -1,10 +1,10 @@
 //! The tokens of a text that are left.
 
 ghost use Rattle.std.specs.Prelude.{◌≡◌, ◌+◌, ◌^◌, ◌<◌, ◌≤◌, ◌∷◌, length, map};
-ghost use Rattle.plural_documents.specs.Inner.HeldTokens.{held_token, opened_after};
+ghost use Rattle.document_tokens.specs.HeldTokens.{held_token, opened_after};
 ghost use Rattle.plural_documents.specs.Inner.OutlineSteps.{IsPassed, YieldsHeld};
 
-use crate::held_token::HeldToken;
+use document_tokens::HeldToken;
 use std::marker::Model;
 
 // The tokens that are left.
@@ -15,7 +15,7 @@ pub(crate) struct TokensLeft<'t, 'a> {
 
 impl<'t, 'a> Model for TokensLeft<'t, 'a> {
     ghost use Rattle.std.specs.Prelude.{List, map};
-    ghost use Rattle.plural_documents.specs.Inner.HeldTokens.{Held, held_token};
+    ghost use Rattle.document_tokens.specs.HeldTokens.{Held, held_token};
 
     ghost Value = { List Held };
 

@@ -3,7 +3,7 @@ use Rattle.std.specs.Prelude.{◌≡◌, ℕ, List, ◌++◌, map, bytes_eq, nat
 use Rattle.std.specs.Borrow.{Bor}
 use Rattle.std.specs.BTreeSet.{BTreeSet}
 use Rattle.std.specs.List.{count_by, list_any}
-use Rattle.plural_documents.specs.Inner.HeldTokens.{Held}
+use Rattle.document_tokens.specs.HeldTokens.{Held}
 use Rattle.plural_documents.specs.RepeatedKeys.{AreRepeated, Path, RepeatedAt, repeated_view}
 use Rattle.plural_documents.specs.declared.repeated_key.RepeatedKey.{RepeatedKey}
 use Rattle.plural_documents.specs.declared.repeated_key.StandingKeys.{StandingKeys}

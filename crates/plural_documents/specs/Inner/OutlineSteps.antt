@@ -1,8 +1,8 @@
 -- Not a definition of the subject: what is made of the tokens that are held.
 use Rattle.std.specs.Prelude.{◌≡◌, ℕ, List, ◌∷◌, ◌++◌, Option, Some, None, MatchOption, [], Bool, true, false}
-use Rattle.plural_documents.specs.declared.held_token.HeldToken.{HeldToken}
+use Rattle.document_tokens.specs.declared.held_token.HeldToken.{HeldToken}
 use Rattle.json.specs.Json as json
-use Rattle.plural_documents.specs.Inner.HeldTokens.{Held, held_items, held_members, held_token, held_tokens}
+use Rattle.document_tokens.specs.HeldTokens.{Held, held_items, held_members, held_token, held_tokens}
 use Rattle.plural_documents.specs.Outlines.{outline, outline_members}
 use Rattle.plural_documents.specs.declared.outline.Portion.{Portion}
 use Rattle.plural_documents.specs.declared.outline.Portion.TheVariants as kept

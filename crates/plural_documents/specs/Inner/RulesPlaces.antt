@@ -4,7 +4,7 @@ use Rattle.plural_base.specs.Categories.{name_of}
 use Rattle.plural_base.specs.DocumentJson.{Document as Maps, document_for, document_of_json}
 use Rattle.plural_base.specs.Ranges.{range_named}
 use Rattle.plural_base.specs.declared.category.PluralCategory.{PluralCategory}
-use Rattle.plural_documents.specs.Inner.HeldTokens.{Held, held_members, held_tokens}
+use Rattle.document_tokens.specs.HeldTokens.{Held, held_members, held_tokens}
 use Rattle.plural_documents.specs.Outlines.{HeldText, IsHeld}
 use Rattle.plural_documents.specs.declared.locale_provider.LocaleSieve.{LocaleSieve}
 use Rattle.plural_documents.specs.declared.locale_provider.LocaleSieve.TheVariants as sieve

@@ -1,6 +1,6 @@
 use Rattle.std.proofs.Common.{◌≡◌, ℕ, suc, ◌≤◌, ◌∷◌, List, length, None, sym, ap, subst, ◌∙◌, arith}
 use Rattle.std.proofs.lemmas.Result.{IfOk-weaker}
-use Rattle.plural_documents.specs.Inner.HeldTokens.{Held, held_token}
+use Rattle.document_tokens.specs.HeldTokens.{Held, held_token}
 use Rattle.plural_documents.proofs.HeldLemmas.{no_items_left, no_value}
 use Rattle.plural_documents.proofs.OutlinedLemmas.{array_outlined, object_outlined, on_success, part_put}
 use Rattle.plural_documents.proofs.outline.+build.Goals as goal

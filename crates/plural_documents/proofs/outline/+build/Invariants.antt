@@ -1,6 +1,6 @@
 use Rattle.std.proofs.Common.{◌≡◌, ◌≤◌, ◌+◌, ◌*◌, ◌++◌, List, Some, length}
 use Rattle.json.specs.Json as json
-use Rattle.plural_documents.specs.Inner.HeldTokens.{Held, held_items, held_members}
+use Rattle.document_tokens.specs.HeldTokens.{Held, held_items, held_members}
 use Rattle.plural_documents.proofs.OutlineLemmas.{AreSorted}
 use Rattle.plural_documents.proofs.ItemLemmas.{items_after}
 use Rattle.plural_documents.proofs.outline.+build.Given as goal

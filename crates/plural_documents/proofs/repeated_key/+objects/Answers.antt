@@ -1,6 +1,5 @@
 use Rattle.std.proofs.Common.{◌≡◌, ℕ, suc, ◌≤◌, ◌∷◌, List, length, Option, option_map, sym, ap, subst, ◌∙◌, arith}
-use Rattle.json.specs.Json as json
-use Rattle.plural_documents.specs.Inner.HeldTokens.{Held, held_token}
+use Rattle.document_tokens.specs.HeldTokens.{Held, held_token}
 use Rattle.plural_documents.specs.RepeatedKeys.{Path, path_view}
 use Rattle.plural_documents.proofs.KeyWalks.{AddsOfValue, Goes, goes_on, goes_to_end, never_cut, object_added}
 use Rattle.plural_documents.proofs.OutlinedLemmas.{on_success}

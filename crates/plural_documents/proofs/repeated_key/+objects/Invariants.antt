@@ -1,6 +1,6 @@
 use Rattle.std.proofs.Common.{◌≡◌, ◌≤◌, ◌+◌, ◌*◌, ◌++◌, List, length}
 use Rattle.json.specs.Json as json
-use Rattle.plural_documents.specs.Inner.HeldTokens.{Held, held_members}
+use Rattle.document_tokens.specs.HeldTokens.{Held, held_members}
 use Rattle.plural_documents.specs.RepeatedKeys.{path_view}
 use Rattle.plural_documents.proofs.KeyWalks.{Goes}
 use Rattle.plural_documents.proofs.repeated_key.+objects.Given as goal

@@ -1,5 +1,5 @@
 use Rattle.std.proofs.Common.{◌≡◌, List, [], ◌++◌, Some, map, sym, ap, subst, ◌∙◌}
-use Rattle.plural_documents.specs.Inner.HeldTokens.{held_token, held_tokens}
+use Rattle.document_tokens.specs.HeldTokens.{held_token, held_tokens}
 use Rattle.plural_documents.specs.RepeatedKeys.{AreRepeatedIn, repeated_view}
 use Rattle.plural_documents.specs.declared.repeated_key.RepeatedKey.{RepeatedKey}
 use Rattle.plural_documents.proofs.TextValues.{none_left}

@@ -1,7 +1,7 @@
 use Rattle.std.proofs.Common.{◌≡◌, ℕ, suc, ◌≤◌, ◌∷◌, List, length, is_some, sym, ap, subst, ◌∙◌, arith}
 use Rattle.std.specs.Prelude.{◌||◌}
 use Rattle.std.proofs.lemmas.Bool.{OnTrue_at, OnTrue_from, or_left}
-use Rattle.plural_documents.specs.Inner.HeldTokens.{Held, held_token}
+use Rattle.document_tokens.specs.HeldTokens.{Held, held_token}
 use Rattle.plural_documents.specs.Inner.RulesPlaces.{AreRightParts, allows_object, below}
 use Rattle.plural_documents.specs.declared.rules_place.RulesPlace.{RulesPlace}
 use Rattle.plural_documents.proofs.RightTokens.{RightGoOn, null_right, object_right, on_right, right_added, right_ended, right_not_cut, text_right}

@@ -1,6 +1,6 @@
 use Rattle.std.proofs.Common.{◌≡◌, ◌≤◌, ◌+◌, ◌*◌, ◌++◌, List, Some, length}
 use Rattle.json.specs.Json as json
-use Rattle.plural_documents.specs.Inner.HeldTokens.{Held, held_members}
+use Rattle.document_tokens.specs.HeldTokens.{Held, held_members}
 use Rattle.plural_documents.proofs.RightTokens.{RightGoOn}
 use Rattle.plural_documents.proofs.rules_check.+check.Given as goal
 use Rattle.serde_json.specs.Data.{Members, no_members}

@@ -1,6 +1,6 @@
 use Rattle.std.proofs.Common.{◌≡◌, length, map}
 use Rattle.std.specs.List.{list_any}
-use Rattle.plural_documents.specs.Inner.HeldTokens.{held_token}
+use Rattle.document_tokens.specs.HeldTokens.{held_token}
 use Rattle.plural_documents.specs.Inner.RulesPlaces.{is_float}
 use Rattle.plural_documents.proofs.rules_check.has_float.Given as goal
 

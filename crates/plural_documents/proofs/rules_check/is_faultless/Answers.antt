@@ -1,7 +1,7 @@
 use Rattle.std.proofs.Common.{List, map, sym, ap, subst, ◌∙◌}
 use Rattle.std.specs.List.{list_any}
-use Rattle.plural_documents.specs.Inner.HeldParts.{Holds}
-use Rattle.plural_documents.specs.Inner.HeldTokens.{Held, held_token}
+use Rattle.plural_documents.specs.Inner.HeldTexts.{Holds}
+use Rattle.document_tokens.specs.HeldTokens.{Held, held_token}
 use Rattle.plural_documents.specs.Inner.RulesPlaces.{is_float}
 use Rattle.plural_documents.specs.Outlines.{HeldText}
 use Rattle.plural_documents.proofs.RightTokens.{on_right}

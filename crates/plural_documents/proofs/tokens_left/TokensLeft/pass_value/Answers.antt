@@ -1,7 +1,7 @@
 use Rattle.std.proofs.Common.{◌≡◌, ℕ, suc, ◌+◌, ◌-◌, ◌<◌, ◌≤◌, List, [], ◌∷◌, drop, get_or, length, length-drop, map, take, take_all, refl, sym, ap, subst, ◌∙◌, arith}
 use Rattle.std.proofs.lemmas.List.{length-map}
-use Rattle.plural_documents.specs.Inner.HeldTokens.{Held, held_token, opened_after}
-use Rattle.plural_documents.specs.declared.held_token.HeldToken.{HeldToken}
+use Rattle.document_tokens.specs.HeldTokens.{Held, held_token, opened_after}
+use Rattle.document_tokens.specs.declared.held_token.HeldToken.{HeldToken}
 use Rattle.plural_documents.proofs.PassLemmas.{Leaves, is_left, leaves_first, leaves_on, none_is_left}
 use Rattle.plural_documents.proofs.tokens_left.TokensLeft.pass_value.Goals.{else-loop-opened-test, then-loop-opened-test+in_default}
 use Rattle.plural_documents.proofs.tokens_left.TokensLeft.pass_value.Goals as goal

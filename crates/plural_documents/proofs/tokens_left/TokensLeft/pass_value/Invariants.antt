@@ -1,6 +1,6 @@
 use Rattle.std.proofs.Common.{◌≡◌, ◌+◌, ◌≤◌, ◌∷◌, ◌++◌, List, length, map}
 use Rattle.json.specs.Json.{Json}
-use Rattle.plural_documents.specs.Inner.HeldTokens.{Held, held_token, held_tokens}
+use Rattle.document_tokens.specs.HeldTokens.{Held, held_token, held_tokens}
 use Rattle.plural_documents.proofs.PassLemmas.{Leaves}
 use Rattle.plural_documents.proofs.tokens_left.TokensLeft.pass_value.Given as goal
 
