@@ -15,7 +15,7 @@ use Rattle.std.specs.Option.{option_flatten, option_or}
 use Rattle.std.specs.Ordering.{eq_by_cmp, match_ordering}
 use Rattle.serde_json.specs.Data.{Data, Members, no_members, member}
 use Rattle.serde_json.specs.Find.{as_str, get_member}
-use Rattle.plural_fallback.specs.LocaleNames.{folded, is_same, key_of}
+use Rattle.plural_fallback.specs.LocaleNames.{folded, is_same}
 use Rattle.plural_fallback.specs.LocalesJson.{keys_of}
 use Rattle.document_members.specs.ParentRows.{exact_parent, parent_among, parent_by, text_among}
 use Rattle.document_members.specs.Inner.Rows.{AreUpTo, Seen, row_at, row_seen}
