@@ -4,9 +4,7 @@ pub mod FoundParts
 pub mod FoundTogether
 pub mod LineTexts
 pub mod Told
-pub mod RowLookups
-pub mod ChainLimits
-pub mod ChainSteps
+pub mod SameParents
 pub mod ParentsFound
 pub mod CheckReadings
 pub mod Faultless

@@ -8,12 +8,11 @@ use Rattle.document_report.specs.CheckedDocument.{members_or_none}
 use Rattle.document_report.specs.FoundInDocuments.{Found, IsFoundInMembers, fault_at, nothing_found, together}
 use Rattle.document_report.specs.FoundInDocuments.{HasGrownBy}
 use Rattle.document_report.specs.DocumentPlaces.{at_parents}
-use Rattle.document_report.specs.Inner.ParentRows.{parent_among}
+use Rattle.document_members.specs.ParentRows.{parent_among}
 use Rattle.document_report.specs.ParentFaults.{found_of_shape, IsFoundInParent, IsFoundInParents}
 use Rattle.document_report.specs.declared.cause.Cause.TheVariants.{NoObject}
-use Rattle.document_report.proofs.ChainLimits.{same_parents}
 use Rattle.document_report.proofs.FoundTogether.{together-nothing, two_added}
-use Rattle.document_report.proofs.RowLookups.{parents_are}
+use Rattle.document_report.proofs.SameParents.{parents_are, same_parents}
 
 -- a part of another kind is a fault
 pub no_object : (value : Data) → is_some (as_null value) ≡ false → is_some (as_object value) ≡ false

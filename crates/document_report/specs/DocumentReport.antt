@@ -21,6 +21,7 @@ use Rattle.plural_checker.specs.LanguageTexts.{SixTexts, has_rule}
 use Rattle.plural_checker.specs.TextChecks.{AreFindingsOf}
 use Rattle.plural_checker.specs.declared.Fault.{Fault}
 use Rattle.plural_checker.specs.declared.Report.{Report as Checked}
+use Rattle.document_members.specs.LongNames.{is_long_name}
 use Rattle.document_report.specs.CheckedDocument.{members_at, members_or_none, table_in}
 use Rattle.plural_documents.specs.FirstLines.{most_told}
 use Rattle.document_report.specs.DocumentFindings.{Finding}
@@ -28,7 +29,7 @@ use Rattle.document_report.specs.DocumentPlaces.{LocalePlace, at_document, at_ke
 use Rattle.document_report.specs.FoundInDocuments.{Found, cases_alone, checked_alone, fault_at, finding_at, nothing_found, rest_of, together}
 use Rattle.document_report.specs.FoundInDocuments.{IsFoundInMembers}
 use Rattle.document_report.specs.ParentFaults.{IsFoundInParents}
-use Rattle.document_report.specs.Names.{has_underscore, is_long_name}
+use Rattle.document_report.specs.Names.{has_underscore}
 use Rattle.plural_fallback.specs.LocalesJson.{part_name}
 use Rattle.document_report.specs.declared.cause.Cause.TheVariants as cause
 use Rattle.document_report.specs.declared.entry.EntryFault.{EntryFault}

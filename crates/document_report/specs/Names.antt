@@ -1,20 +1,12 @@
 -- The names in a document, the keys of its locales, of their texts and ranges; and how the places
 -- are printed where an object is expected (docs/JSON.md).
---     is_long_name name      the name has more than 255 bytes
 --     has_underscore name      it has `_`
 --     place_text place      what is printed for a place
-use Rattle.std.specs.Prelude.{ℕ, ◌==◌, nat_lt, Bool, List, ◌++◌, length, codes}
+use Rattle.std.specs.Prelude.{ℕ, ◌==◌, Bool, List, ◌++◌, codes}
 use Rattle.std.specs.List.{list_any}
 use Rattle.document_report.specs.declared.place.Place.{Place}
 use Rattle.document_report.specs.declared.place.Place.TheVariants as place
 use Rattle.plural_fallback.specs.LocalesJson.{part_name}
-
--- the most bytes of a name that isn't long
-abbrev pub most_name_bytes : ℕ
-most_name_bytes = 255
-
-abbrev pub is_long_name : List ℕ → Bool
-is_long_name name = nat_lt most_name_bytes (length name)
 
 abbrev pub has_underscore : List ℕ → Bool
 has_underscore name = list_any (λ byte. byte == 95) name

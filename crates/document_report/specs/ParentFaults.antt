@@ -6,14 +6,14 @@ use Rattle.std.specs.Prelude.{◌≡◌, ℕ, ◌||◌, List, codes, Option, Som
 use Rattle.std.specs.Option.{option_and_then}
 use Rattle.serde_json.specs.Data.{Data}
 use Rattle.serde_json.specs.Find.{get, as_null, as_object, as_str}
-use Rattle.plural_fallback.specs.Chain.{next_of}
 use Rattle.plural_fallback.specs.FirstKeys.{locale_at}
 use Rattle.plural_fallback.specs.LocalesJson.{parent_in}
 use Rattle.plural_fallback.specs.declared.first_key.TheConstants.{MOST_LOCALES}
+use Rattle.document_members.specs.ChainSteps.{short_next}
+use Rattle.document_members.specs.LongNames.{is_long_name}
 use Rattle.document_report.specs.CheckedDocument.{members_or_none}
 use Rattle.document_report.specs.DocumentPlaces.{at_parent, at_parents}
 use Rattle.document_report.specs.FoundInDocuments.{Found, IsFoundInMembers, fault_at, nothing_found, together}
-use Rattle.document_report.specs.Names.{is_long_name}
 use Rattle.document_report.specs.declared.cause.Cause.TheVariants.{EndlessChain, LongKey, LongParent, NoObject, NoText}
 
 -- a part that is neither absent, null nor an object is a fault
@@ -30,10 +30,6 @@ found_of_child locale = if is_long_name locale then fault_at (at_parent locale) 
 abbrev pub found_of_parent : List ℕ → Option (List ℕ) → Found
 found_of_parent locale None = fault_at (at_parent locale) NoText
 found_of_parent locale (Some parent) = if is_long_name parent then fault_at (at_parent locale) LongParent else nothing_found
-
--- the next locale of a chain, where `parent` names the parents; a long one is the last
-abbrev pub short_next : (List ℕ → Option (List ℕ)) → List ℕ → Option (List ℕ)
-short_next parent locale = if is_long_name locale then None else next_of parent locale
 
 -- a chain that goes on after all the locales that are looked up is a fault
 abbrev pub found_of_chain : (List ℕ → Option (List ℕ)) → List ℕ → Found

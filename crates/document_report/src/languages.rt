@@ -17,6 +17,7 @@ use crate::fault_copy::fault_copy;
 use crate::finding_place::{FindingPlace, LocalePlace};
 use crate::found::Found;
 use crate::keys::{add_categories, add_key};
+use document_members::{TextMember, text_member};
 use icu_plurals::PluralCategory;
 use plural_checker::{Fault, LanguageTexts, Report, check_texts};
 use plural_documents::{MOST_TOLD, MemberCheck, sum};
@@ -187,13 +188,11 @@ fn add_value<'a>(
     ensures { OnOk result (found.new
         ≡ together found.old (found_under (locale_place_view place.entry) category (Some (view value.now)))) }
 {
-    if value.is_null() {
-        return Ok(());
+    match text_member(value) {
+        TextMember::Null => Ok(()),
+        TextMember::Text => found.add_checked(1),
+        TextMember::NoText => found.add_fault(FindingPlace::Text(place, category), Cause::NoText),
     }
-    if value.is_string() {
-        return found.add_checked(1);
-    }
-    found.add_fault(FindingPlace::Text(place, category), Cause::NoText)
 }
 
 // Adds the faults of one category's text.

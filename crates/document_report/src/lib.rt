@@ -3,7 +3,6 @@
 
 pub mod arguments;
 mod cause;
-mod chains;
 mod counts;
 mod document;
 mod entry;
@@ -19,7 +18,6 @@ mod languages;
 pub mod laws;
 mod locales;
 mod names;
-mod parent_rows;
 mod parents;
 mod place;
 mod report;

@@ -3,19 +3,17 @@
 ghost use Rattle.std.specs.Prelude.{◌≡◌, codes, Some, OnOk, option_map};
 ghost use Rattle.std.specs.Option.{option_and_then, option_copied};
 ghost use Rattle.document_report.specs.FoundInDocuments.{together, HasGrownBy, IsFoundInMembers};
-ghost use Rattle.document_report.specs.Inner.ChainSteps.{AreKnown};
-ghost use Rattle.document_report.specs.Inner.ParentRows.{named_parent, parent_among};
+ghost use Rattle.document_members.specs.ChainSteps.{AreKnown, short_next};
+ghost use Rattle.document_members.specs.ParentRows.{named_parent, parent_among};
 ghost use Rattle.document_report.specs.ParentFaults.{found_of_chain, found_of_child, found_of_parent, found_of_shape};
-ghost use Rattle.document_report.specs.ParentFaults.{IsFoundInParent, IsFoundInParents, short_next};
+ghost use Rattle.document_report.specs.ParentFaults.{IsFoundInParent, IsFoundInParents};
 ghost use Rattle.serde_json.specs.Find.{as_object, get};
 ghost use Rattle.serde_json.specs.View.{members_view, view};
 
 use crate::cause::Cause;
-use crate::chains::{KnownChains, goes_on};
 use crate::finding_place::FindingPlace;
 use crate::found::Found;
-use crate::names::is_long_name;
-use crate::parent_rows::Parents;
+use document_members::{KnownChains, Parents, goes_on, is_long_name};
 use serde_json::{Map, Value};
 use std::alloc::{AllocError, Global};
 

@@ -1,7 +1,8 @@
 use Rattle.std.proofs.Common.{string_bytes, ap, subst, ◌∙◌}
 use Rattle.serde_json.specs.View.{view, members_view}
-use Rattle.document_report.specs.Inner.ParentRows.{named_parent}
-use Rattle.document_report.specs.ParentFaults.{IsFoundInParent, short_next}
+use Rattle.document_members.specs.ChainSteps.{short_next}
+use Rattle.document_members.specs.ParentRows.{named_parent}
+use Rattle.document_report.specs.ParentFaults.{IsFoundInParent}
 use Rattle.document_report.specs.FoundInDocuments.{HasGrownBy, nothing_found, together}
 use Rattle.document_report.proofs.FoundTogether.{together-nothing, together_assoc}
 use Rattle.plural_documents.proofs.MemberSteps.{Completes, begins, ends, goes_on}

@@ -1,7 +1,7 @@
 use Rattle.serde_json.specs.View.{members_view}
-use Rattle.document_report.specs.Inner.ChainSteps.{AreKnown}
-use Rattle.document_report.specs.Inner.ParentRows.{named_parent}
-use Rattle.document_report.specs.ParentFaults.{IsFoundInParent, short_next}
+use Rattle.document_members.specs.ChainSteps.{AreKnown, short_next}
+use Rattle.document_members.specs.ParentRows.{named_parent}
+use Rattle.document_report.specs.ParentFaults.{IsFoundInParent}
 use Rattle.document_report.specs.FoundInDocuments.{nothing_found, together}
 use Rattle.plural_documents.proofs.MemberSteps.{Completes}
 use Rattle.document_report.proofs.parents.add_all.Given as goal

@@ -2,7 +2,7 @@ use Rattle.std.proofs.Common.{List, ℕ, Option, ap, refl, ◌∙◌}
 use Rattle.serde_json.specs.Find.{as_str}
 use Rattle.serde_json.specs.View.{view}
 use Rattle.document_report.specs.FoundInDocuments.{together}
-use Rattle.document_report.specs.Inner.ParentRows.{named_parent}
+use Rattle.document_members.specs.ParentRows.{named_parent}
 use Rattle.document_report.specs.ParentFaults.{found_of_chain, found_of_child, found_of_parent}
 use Rattle.document_report.proofs.FoundParts.{on_ok, three_more}
 use Rattle.document_report.proofs.parents.add_member.Goals as goal

@@ -1,6 +1,6 @@
-use Rattle.document_report.specs.Inner.ParentRows.{named_parent, parent_among}
+use Rattle.document_members.specs.ParentRows.{named_parent, parent_among}
 use Rattle.serde_json.specs.View.{members_view}
-use Rattle.document_report.proofs.ChainLimits.{same_parents}
+use Rattle.document_report.proofs.SameParents.{same_parents}
 use Rattle.document_report.proofs.FoundParts.{on_ok}
 use Rattle.document_report.proofs.parents.add_named.Goals as goal
 

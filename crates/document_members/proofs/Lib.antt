@@ -1,0 +1,3 @@
+pub mod RowLookups
+pub mod ChainLimits
+pub mod ChainSteps

@@ -1,0 +1,3 @@
+-- No definitions of the subject: words of private contracts.
+pub mod Rows
+pub mod ChainStops
