@@ -1,6 +1,6 @@
 use Rattle.std.proofs.Common.{sym, ◌∙◌}
-use Rattle.message_pattern.proofs.Runs.{no_rest}
-use Rattle.message_pattern.proofs.bytes.after_word.Goals as goal
+use Rattle.pattern_bytes.proofs.Runs.{no_rest}
+use Rattle.pattern_bytes.proofs.bytes.after_word.Goals as goal
 
 pub returns-in_default-clause-none : goal.returns-in_default-clause-none
 returns-in_default-clause-none c =

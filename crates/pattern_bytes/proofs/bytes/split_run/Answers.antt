@@ -1,6 +1,6 @@
 use Rattle.std.proofs.Common.{◌-◌, length, arith, ◌∙◌}
-use Rattle.message_pattern.proofs.Runs.{cut_front, cut_rest}
-use Rattle.message_pattern.proofs.bytes.split_run.Goals as goal
+use Rattle.pattern_bytes.proofs.Runs.{cut_front, cut_rest}
+use Rattle.pattern_bytes.proofs.bytes.split_run.Goals as goal
 
 pub returns-clause-front : goal.returns-clause-front
 returns-clause-front c =

@@ -2,11 +2,11 @@
 use Rattle.std.proofs.Common.{◌≡◌, ◌+◌, ◌<◌, ℕ, zero, suc, List, [], ◌∷◌, ◌++◌, Bool, true, false, None, length, take, drop, refl, sym, ap, ◌∙◌, arith, if◌then◌else◌}
 use Rattle.std.proofs.lemmas.List.{length-append}
 use Rattle.std.proofs.Math.Seq.{take-append_seam, drop-append_seam}
-use Rattle.message_pattern.specs.declared.bytes.Class.{Class}
-use Rattle.message_pattern.specs.PatternBytes.{begins, class_front, behind_run, after_word}
+use Rattle.pattern_bytes.specs.declared.bytes.Class.{Class}
+use Rattle.pattern_bytes.specs.PatternBytes.{begins, class_front, behind_run, after_word}
 
 -- a run and what follows it are the text
-pub class_front-whole : (class : Class) (s : List ℕ) → class_front class s ++ behind_run class s ≡ s
+class_front-whole : (class : Class) (s : List ℕ) → class_front class s ++ behind_run class s ≡ s
 class_front-whole class [] = refl
 class_front-whole class (b ∷ s) =
     elim (begins class (b ∷ s)) as (λ (v : Bool). (if v then b ∷ class_front class s else []) ++

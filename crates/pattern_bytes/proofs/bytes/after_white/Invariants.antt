@@ -1,6 +1,6 @@
 use Rattle.std.proofs.Common.{◌≡◌, ◌≤◌, length}
-use Rattle.message_pattern.specs.PatternBytes.{skip}
-use Rattle.message_pattern.proofs.bytes.after_white.Given as goal
+use Rattle.pattern_bytes.specs.PatternBytes.{skip}
+use Rattle.pattern_bytes.proofs.bytes.after_white.Given as goal
 
 -- only white space was passed
 abbrev pub invariant-white : goal.invariant-white

@@ -1,16 +1,22 @@
 //! Runs of bytes of one class, white space and words.
 
 ghost use Rattle.std.specs.Prelude.{◌≡◌, ◌≢◌, ◌∷◌, ◌≤◌, ◌<◌, ◌+◌, length, take, drop, IfSome, IfNone, None, Some};
-ghost use Rattle.message_pattern.specs.PatternBytes.{is_digit, is_letter, is_in, begins, class_front, behind_run, white_width, after_white, after_word};
+ghost use Rattle.pattern_bytes.specs.PatternBytes.{is_digit, is_letter, is_in, begins, class_front, behind_run, white_width, after_white, after_word};
 
 /// A class of bytes.
 #[derive(Clone, Copy)]
-pub(crate) enum Class {
+pub enum Class {
+    /// Of a name: letters and digits of ASCII, `_` and all above ASCII, but for white space.
     Name,
+    /// Of a number: digits, `-` and `.`.
     Number,
+    /// `0` to `9`.
     Digit,
+    /// The letters of ASCII.
     Letter,
+    /// Of plain text: all but `'`, `{`, `}` and `#`.
     Plain,
+    /// Of quoted text: all but `'`.
     Unquoted,
 }
 
@@ -94,9 +100,9 @@ fn behind_run(class: Class, text: &[u8]) -> &[u8]
     rest
 }
 
-// The longest front of the class, and what follows it.
+/// Returns the longest run of bytes of the class at the front of a text, and what follows it.
 #[inline(always)]
-pub(crate) fn split_run(class: Class, text: &[u8]) -> (&[u8], &[u8])
+pub fn split_run(class: Class, text: &[u8]) -> (&[u8], &[u8])
     ensures front { result.0.now ≡ class_front class text.now }
     ensures rest { result.1.now ≡ behind_run class text.now }
     ensures whole { length result.0.now + length result.1.now ≡ length text.now }
@@ -104,8 +110,9 @@ pub(crate) fn split_run(class: Class, text: &[u8]) -> (&[u8], &[u8])
     text.split_at(text.len() - behind_run(class, text).len())
 }
 
-// The bytes after the white space at the front.
-pub(crate) fn after_white(text: &[u8]) -> &[u8]
+/// Returns what follows the white space at the front of a text: Unicode's Pattern_White_Space, in
+/// UTF-8.
+pub fn after_white(text: &[u8]) -> &[u8]
     ensures rest { result.now ≡ after_white text.now }
     ensures shorter { length result.now ≤ length text.now }
 {
@@ -119,8 +126,8 @@ pub(crate) fn after_white(text: &[u8]) -> &[u8]
     }
 }
 
-// What follows the word, if it is at the front.
-pub(crate) fn after_word<'a>(word: &[u8], text: &'a [u8]) -> Option<&'a [u8]>
+/// Returns what follows the word, if it is at the front of a text.
+pub fn after_word<'a>(word: &[u8], text: &'a [u8]) -> Option<&'a [u8]>
     ensures none { IfNone result (after_word word.now text.now ≡ None) }
     ensures some { IfSome result (λ rest. (after_word word.now text.now ≡ Some rest.now) × (length rest.now ≤ length text.now)) }
 {

@@ -1,6 +1,6 @@
 use Rattle.std.proofs.Common.{◌≡◌, ◌≤◌, length}
-use Rattle.message_pattern.specs.PatternBytes.{behind_run}
-use Rattle.message_pattern.proofs.bytes.behind_run.Given as goal
+use Rattle.pattern_bytes.specs.PatternBytes.{behind_run}
+use Rattle.pattern_bytes.proofs.bytes.behind_run.Given as goal
 
 -- only bytes of the class were passed
 abbrev pub invariant-loop-rest : goal.invariant-loop-rest

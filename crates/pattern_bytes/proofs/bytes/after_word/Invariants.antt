@@ -1,6 +1,6 @@
 use Rattle.std.proofs.Common.{◌≡◌, ◌≤◌, length, drop}
-use Rattle.message_pattern.specs.PatternBytes.{after_word}
-use Rattle.message_pattern.proofs.bytes.after_word.Given as goal
+use Rattle.pattern_bytes.specs.PatternBytes.{after_word}
+use Rattle.pattern_bytes.proofs.bytes.after_word.Given as goal
 
 -- the rest of the word at the rest of the text is as the whole word at the whole text
 abbrev pub invariant-loop-byte : goal.invariant-loop-byte

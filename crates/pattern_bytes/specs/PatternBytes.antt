@@ -1,8 +1,8 @@
 -- The bytes of a pattern: white space, classes, the longest run of a class, and words. White space
 -- is that of Unicode Standard Annex 31, Pattern_White_Space.
 use Rattle.std.specs.Prelude.{ℕ, zero, suc, ◌-◌, ◌==◌, List, [], ◌∷◌, Bool, true, false, ◌&&◌, ◌||◌, not, nat_le, Option, Some, None, if◌then◌else◌}
-use Rattle.message_pattern.specs.declared.bytes.Class.{Class}
-use Rattle.message_pattern.specs.declared.bytes.Class.TheVariants.{Name, Number, Digit, Letter, Plain, Unquoted}
+use Rattle.pattern_bytes.specs.declared.bytes.Class.{Class}
+use Rattle.pattern_bytes.specs.declared.bytes.Class.TheVariants.{Name, Number, Digit, Letter, Plain, Unquoted}
 
 -- ---- the bytes that mean something
 
