@@ -1,9 +1,9 @@
 -- What is read from a text, is read from it before a brace.
 use Rattle.std.proofs.Common.{◌≡◌, ◌==◌, ◌≤◌, ◌-◌, ℕ, zero, suc, List, [], ◌∷◌, ◌++◌, Bool, true, false, ◌&&◌, ◌||◌, length, refl, sym, ap, subst, arith, ◌∙◌, if◌then◌else◌}
 use Rattle.std.proofs.lemmas.List.{append_cancel_right}
-use Rattle.message_pattern.specs.declared.bytes.Class.{Class}
-use Rattle.message_pattern.specs.declared.bytes.Class.TheVariants.{Name, Letter}
-use Rattle.message_pattern.specs.PatternBytes.{closing, is_between, is_in, begins, class_front, behind_run, white_width, skip, after_white}
+use Rattle.pattern_bytes.specs.declared.bytes.Class.{Class}
+use Rattle.pattern_bytes.specs.declared.bytes.Class.TheVariants.{Name, Letter}
+use Rattle.pattern_bytes.specs.PatternBytes.{closing, is_between, is_in, begins, class_front, behind_run, white_width, skip, after_white}
 use Rattle.message_pattern.specs.PatternGrammar.{IsLongest}
 use Rattle.message_pattern.proofs.Longest.{is_longest, longest_run, longest_rest}
 use Rattle.message_pattern.proofs.HeadsBack.{closing_stays, closing_ends, name_moved}

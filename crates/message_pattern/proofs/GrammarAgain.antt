@@ -2,14 +2,14 @@
 use Rattle.std.proofs.Common.{◌≡◌, ◌≢◌, ◌==◌, ℕ, List, [], ◌∷◌, ◌++◌, Bool, true, false, not, ◌&&◌, Option, Some, None, is_none, Result, Ok, Err, codes, refl, sym, ap, subst, ◌∙◌, if◌then◌else◌}
 use Rattle.std.proofs.lemmas.Bool.{eqb-true}
 use Rattle.std.specs.Str.{str_eq_ignore_ascii_case}
-use Rattle.message_pattern.specs.declared.bytes.Class.TheVariants.{Name, Number, Digit, Letter}
+use Rattle.pattern_bytes.specs.declared.bytes.Class.TheVariants.{Name, Number, Digit, Letter}
 use Rattle.message_pattern.specs.declared.error.Fault.{Fault}
 use Rattle.message_pattern.specs.declared.error.FaultKind.TheVariants.{ExpectedName, BadNumber, ExpectedType, ExpectedOffset, ExpectedSelector, ExpectedValue, MissingOther}
 use Rattle.message_pattern.specs.declared.head.Formats.{Formats}
 use Rattle.message_pattern.specs.declared.head.Formats.TheVariants.{Refused, Allowed}
 use Rattle.message_pattern.specs.declared.part.ArgumentKind.{ArgumentKind}
 use Rattle.message_pattern.specs.declared.part.ArgumentKind.TheVariants.{Plural, Ordinal, Select}
-use Rattle.message_pattern.specs.PatternBytes.{comma, equals, opening, closing, is_empty_text, begins, class_front, behind_run, after_white, after_word}
+use Rattle.pattern_bytes.specs.PatternBytes.{comma, equals, opening, closing, is_empty_text, begins, class_front, behind_run, after_white, after_word}
 use Rattle.message_pattern.specs.PatternParts.{Selector, Exactly, Keyword}
 use Rattle.message_pattern.specs.PatternHeads.{and_then, fault_at, missing, Head, Plain, Choice, is_bad_number, name_front, kind_named, kind_before, kind_front, offset_behind, offset_front, choice_front, is_simple_type, styled_front, simple_front, typed_front, behind_name, head_front, is_counting, is_number, exact_front, keyword_front, selector_front, branch_opens, next_branch, branch_front, BranchFront}
 use Rattle.message_pattern.specs.PatternHeads as branch

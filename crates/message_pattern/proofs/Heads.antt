@@ -1,9 +1,9 @@
 -- The heads of arguments, step by step.
 use Rattle.std.proofs.Common.{◌≡◌, ◌==◌, ℕ, List, [], ◌∷◌, Bool, true, false, Option, Err, length, refl, sym, ap, ◌∙◌, if◌then◌else◌}
-use Rattle.message_pattern.specs.declared.bytes.Class.TheVariants.{Letter}
+use Rattle.pattern_bytes.specs.declared.bytes.Class.TheVariants.{Letter}
 use Rattle.message_pattern.specs.declared.error.FaultKind.TheVariants.{ExpectedType}
 use Rattle.message_pattern.specs.declared.part.ArgumentKind.{ArgumentKind}
-use Rattle.message_pattern.specs.PatternBytes.{is_empty_text, class_front, behind_run, after_white}
+use Rattle.pattern_bytes.specs.PatternBytes.{is_empty_text, class_front, behind_run, after_white}
 use Rattle.message_pattern.specs.PatternHeads.{missing, kind_named, kind_before, kind_front}
 
 -- a list that has a length isn't empty

@@ -1,4 +1,3 @@
-pub mod Runs
 pub mod Parts
 pub mod Readings
 pub mod Steps

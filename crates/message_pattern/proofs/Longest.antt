@@ -1,9 +1,18 @@
 -- The longest front of bytes of a class is one.
 use Rattle.std.proofs.Common.{◌≡◌, ◌<◌, ℕ, zero, suc, List, [], ◌∷◌, ◌++◌, Bool, true, false, length, drop, refl, sym, ap, subst, arith, ◌∙◌, if◌then◌else◌}
-use Rattle.message_pattern.specs.declared.bytes.Class.{Class}
-use Rattle.message_pattern.specs.PatternBytes.{begins, class_front, behind_run}
+use Rattle.pattern_bytes.specs.declared.bytes.Class.{Class}
+use Rattle.pattern_bytes.specs.PatternBytes.{begins, class_front, behind_run}
 use Rattle.message_pattern.specs.PatternGrammar.{IsLongest}
-use Rattle.message_pattern.proofs.Runs.{class_front-whole}
+
+-- a run and what follows it are the text
+class_front-whole : (class : Class) (s : List ℕ) → class_front class s ++ behind_run class s ≡ s
+class_front-whole class [] = refl
+class_front-whole class (b ∷ s) =
+    elim (begins class (b ∷ s)) as (λ (v : Bool). (if v then b ∷ class_front class s else []) ++
+    (if v then behind_run class s else b ∷ s) ≡ b ∷ s) [
+      | true ↦ ap (λ (t : List ℕ). b ∷ t) (class_front-whole class s)
+      | false ↦ refl
+    ]
 
 -- at each place before the rest a byte of the class begins
 abbrev pub AllBegin : Class → List ℕ → List ℕ → Type 0

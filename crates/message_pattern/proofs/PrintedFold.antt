@@ -5,7 +5,7 @@ use Rattle.message_pattern.specs.declared.head.Formats.{Formats}
 use Rattle.message_pattern.specs.declared.print.Spot.TheVariants.{Message, Branches}
 use Rattle.message_pattern.specs.declared.text.Context.{Context}
 use Rattle.message_pattern.specs.declared.text.Context.TheVariants.{Whole}
-use Rattle.message_pattern.specs.PatternBytes.{hash, comma, opening, closing}
+use Rattle.pattern_bytes.specs.PatternBytes.{hash, comma, opening, closing}
 use Rattle.message_pattern.specs.PatternText.{is_quotable}
 use Rattle.message_pattern.specs.PatternParts.{Part, Branch}
 use Rattle.message_pattern.specs.PatternReading.{PatternPlace, InMessage, InArgument, InBranches, one, context_of}

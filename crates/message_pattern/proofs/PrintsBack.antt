@@ -8,8 +8,8 @@ use Rattle.message_pattern.specs.declared.part.ArgumentKind.TheVariants.{Plural,
 use Rattle.message_pattern.specs.declared.reader.TheConstants.{DEPTH_LIMIT}
 use Rattle.message_pattern.specs.declared.text.Context.{Context}
 use Rattle.message_pattern.specs.declared.text.Context.TheVariants.{Whole}
-use Rattle.message_pattern.specs.PatternBytes.{apostrophe, hash, comma, opening, closing, class_front, behind_run, after_white}
-use Rattle.message_pattern.specs.declared.bytes.Class.TheVariants as class
+use Rattle.pattern_bytes.specs.PatternBytes.{apostrophe, hash, comma, opening, closing, class_front, behind_run, after_white}
+use Rattle.pattern_bytes.specs.declared.bytes.Class.TheVariants as class
 use Rattle.message_pattern.specs.PatternText.{Front, Closes, Opens, Takes, takes_text, front, is_nested, is_counted, is_quotable, apostrophe_front, quoted_apostrophe}
 use Rattle.message_pattern.specs.PatternParts.{Part, PatternPiece, Text, Hash, Argument, Begin, Branch, Selector}
 use Rattle.message_pattern.specs.PatternParts as piece
@@ -20,7 +20,7 @@ use Rattle.message_pattern.specs.PatternPrinting.{letters, spelled, end_of_quote
 use Rattle.message_pattern.specs.PatternPrinting as prints
 use Rattle.message_pattern.specs.PatternAnswers.{IsTextOf}
 use Rattle.message_pattern.specs.StyledParts.{name_of, unstyled_part, unstyled, UnstyledPrintsBack}
-use Rattle.message_pattern.specs.declared.bytes.Class.TheVariants.{Name}
+use Rattle.pattern_bytes.specs.declared.bytes.Class.TheVariants.{Name}
 use Rattle.message_pattern.proofs.Longest.{longest_run}
 use Rattle.message_pattern.proofs.BeforeBrace.{name_alone}
 use Rattle.message_pattern.proofs.Spelled.{spelled-append}

@@ -1,14 +1,14 @@
 -- What follows a step is shorter than the text.
 use Rattle.std.proofs.Common.{◌≡◌, ◌==◌, inl, inr, ◌<◌, ◌≤◌, ◌-◌, ℕ, zero, suc, List, [], ◌∷◌, Bool, true, false, not, ◌&&◌, ◌||◌, Option, Some, None, codes, length, ap, arith, if◌then◌else◌}
 use Rattle.std.proofs.lemmas.List.{length-append}
-use Rattle.message_pattern.specs.declared.bytes.Class.{Class}
-use Rattle.message_pattern.specs.declared.bytes.Class.TheVariants.{Name, Number, Digit, Letter, Unquoted}
-use Rattle.message_pattern.specs.declared.bytes.Class.TheVariants as class
+use Rattle.pattern_bytes.specs.declared.bytes.Class.{Class}
+use Rattle.pattern_bytes.specs.declared.bytes.Class.TheVariants.{Name, Number, Digit, Letter, Unquoted}
+use Rattle.pattern_bytes.specs.declared.bytes.Class.TheVariants as class
 use Rattle.message_pattern.specs.declared.head.Formats.{Formats}
 use Rattle.message_pattern.specs.declared.part.ArgumentKind.{ArgumentKind}
 use Rattle.message_pattern.specs.declared.part.ArgumentKind.TheVariants.{Plural, Ordinal, Select}
 use Rattle.message_pattern.specs.declared.text.Context.{Context}
-use Rattle.message_pattern.specs.PatternBytes.{apostrophe, hash, opening, closing, behind_run, skip, white_width, after_white, after_word}
+use Rattle.pattern_bytes.specs.PatternBytes.{apostrophe, hash, opening, closing, behind_run, skip, white_width, after_white, after_word}
 use Rattle.message_pattern.specs.PatternText.{Front, End, Closes, Opens, Takes, takes_text, front, is_nested, is_counted, is_quotable, apostrophe_front, quoted_apostrophe}
 use Rattle.message_pattern.specs.PatternParts.{Selector, Exactly, Keyword, Hash}
 use Rattle.message_pattern.specs.PatternHeads.{Head, Plain, Choice, BranchFront}

@@ -3,11 +3,11 @@ use Rattle.std.proofs.Common.{◌≡◌, ◌≢◌, ◌==◌, ◌-◌, ℕ, zero
 use Rattle.std.proofs.lemmas.Bool.{eqb-true}
 use Rattle.std.proofs.lemmas.List.{append_cancel_right, length-append}
 use Rattle.std.proofs.Math.Seq.{take-append_seam}
-use Rattle.message_pattern.specs.declared.bytes.Class.{Class}
-use Rattle.message_pattern.specs.declared.bytes.Class.TheVariants.{Name, Letter}
+use Rattle.pattern_bytes.specs.declared.bytes.Class.{Class}
+use Rattle.pattern_bytes.specs.declared.bytes.Class.TheVariants.{Name, Letter}
 use Rattle.message_pattern.specs.declared.error.Fault.{Fault}
 use Rattle.message_pattern.specs.declared.error.FaultKind.TheVariants.{ExpectedEnd}
-use Rattle.message_pattern.specs.PatternBytes.{comma, closing, begins, is_in, class_front, behind_run, white_width, skip, after_white}
+use Rattle.pattern_bytes.specs.PatternBytes.{comma, closing, begins, is_in, class_front, behind_run, white_width, skip, after_white}
 use Rattle.message_pattern.specs.PatternHeads.{Head, Plain, Choice, fault_at, is_simple_type, text_before, styled_front, simple_front}
 use Rattle.message_pattern.specs.PatternGrammar.{IsLongest, IsNameOrNumber, IsSimpleText, IsStyleBehind}
 use Rattle.message_pattern.specs.PatternStyles.{behind_style}

@@ -2,7 +2,7 @@
 use Rattle.std.proofs.Common.{◌≡◌, arith, ◌+◌, ◌-◌, ◌==◌, ℕ, zero, suc, List, [], ◌∷◌, ◌++◌, Bool, true, false, not, ◌&&◌, ◌||◌, Option, Some, None, refl, sym, ap, subst, ◌∙◌, append_assoc, if◌then◌else◌}
 use Rattle.std.proofs.lemmas.Bool.{eqb-true}
 use Rattle.std.proofs.Math.Dec.{eqb-suc-zero}
-use Rattle.message_pattern.specs.PatternBytes.{apostrophe, opening, closing}
+use Rattle.pattern_bytes.specs.PatternBytes.{apostrophe, opening, closing}
 use Rattle.message_pattern.specs.PatternStyles.{is_style_byte, has_no_apostrophe, IsStyle, ends, byte, quoted, nested, behind_style}
 
 -- what follows a step

@@ -2,10 +2,10 @@
 use Rattle.std.proofs.Common.{◌≡◌, ◌==◌, ℕ, List, [], ◌∷◌, ◌++◌, Bool, true, false, not, ◌&&◌, ◌||◌, Option, Some, None, refl, sym, ap, subst, ◌∙◌, append_assoc, if◌then◌else◌}
 use Rattle.std.proofs.lemmas.Bool.{eqb-true}
 use Rattle.message_pattern.specs.declared.head.Formats.{Formats}
-use Rattle.message_pattern.specs.declared.bytes.Class.{Class}
-use Rattle.message_pattern.specs.declared.bytes.Class.TheVariants.{Plain, Unquoted}
+use Rattle.pattern_bytes.specs.declared.bytes.Class.{Class}
+use Rattle.pattern_bytes.specs.declared.bytes.Class.TheVariants.{Plain, Unquoted}
 use Rattle.message_pattern.specs.declared.text.Context.{Context}
-use Rattle.message_pattern.specs.PatternBytes.{apostrophe, hash, opening, closing, begins, class_front, behind_run}
+use Rattle.pattern_bytes.specs.PatternBytes.{apostrophe, hash, opening, closing, begins, class_front, behind_run}
 use Rattle.message_pattern.specs.PatternText.{Front, End, Closes, Opens, Takes, takes_text, front, is_nested, is_counted, is_quotable, apostrophe_front, quoted_apostrophe}
 use Rattle.message_pattern.specs.PatternParts.{Part, PatternPiece, Text, Hash}
 use Rattle.message_pattern.specs.PatternReading.{PatternPlace, InMessage, InArgument, InBranches, one, at_most_one}

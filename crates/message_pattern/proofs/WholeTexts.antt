@@ -1,10 +1,10 @@
 -- A whole pattern ends with its text.
 use Rattle.std.proofs.Common.{◌≡◌, ◌==◌, ℕ, List, [], ◌∷◌, Bool, true, false, ◌&&◌, ◌||◌, Some, None, refl, subst, if◌then◌else◌}
 use Rattle.message_pattern.specs.declared.head.Formats.{Formats}
-use Rattle.message_pattern.specs.declared.bytes.Class.TheVariants as class
+use Rattle.pattern_bytes.specs.declared.bytes.Class.TheVariants as class
 use Rattle.message_pattern.specs.declared.text.Context.{Context}
 use Rattle.message_pattern.specs.declared.text.Context.TheVariants.{Whole}
-use Rattle.message_pattern.specs.PatternBytes.{apostrophe, hash, opening, closing, class_front, behind_run}
+use Rattle.pattern_bytes.specs.PatternBytes.{apostrophe, hash, opening, closing, class_front, behind_run}
 use Rattle.message_pattern.specs.PatternText.{Front, Closes, Opens, Takes, takes_text, front, is_quotable, apostrophe_front, quoted_apostrophe}
 use Rattle.message_pattern.specs.PatternParts.{Part, Hash}
 use Rattle.message_pattern.specs.PatternReading.{PatternPlace, InMessage, InArgument, InBranches}

@@ -2,9 +2,9 @@
 use Rattle.std.proofs.Common.{◌≡◌, ◌+◌, ◌<◌, ℕ, List, ◌++◌, Option, Some, None, length, take, drop, set, slice_set, get_or, refl, ap, sym, subst, ◌∙◌}
 use Rattle.std.proofs.lemmas.List.{length-map, length-set, map-set, get_or-map}
 use Rattle.std.proofs.lemmas.List.Edits.{map_over_more}
-use Rattle.message_pattern.specs.declared.bytes.Class.TheVariants.{Name, Letter}
+use Rattle.pattern_bytes.specs.declared.bytes.Class.TheVariants.{Name, Letter}
 use Rattle.message_pattern.specs.declared.head.Formats.TheVariants.{Refused, Allowed}
-use Rattle.message_pattern.specs.PatternBytes.{behind_run, after_white}
+use Rattle.pattern_bytes.specs.PatternBytes.{behind_run, after_white}
 use Rattle.message_pattern.specs.declared.part.Part as parts
 use Rattle.message_pattern.specs.declared.styled_argument.SimpleFormat as formats
 use Rattle.message_pattern.specs.PatternParts.{Part, part_view, parts_view}

@@ -1,5 +1,6 @@
+-- the bytes of patterns, passed on
+pub use Rattle.pattern_bytes.specs.PatternBytes
 -- patterns of messages
-pub mod PatternBytes
 pub mod PatternParts
 pub mod PatternText
 pub mod PatternStyles

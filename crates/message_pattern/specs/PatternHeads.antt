@@ -2,7 +2,7 @@
 -- follows its brace up to its end or its branches, and that of a branch what stands before it.
 use Rattle.std.specs.Prelude.{ℕ, ◌-◌, ◌==◌, List, [], ◌∷◌, Bool, true, false, ◌&&◌, ◌||◌, not, Option, Some, None, is_none, Result, Ok, Err, length, take, codes, if◌then◌else◌}
 use Rattle.std.specs.Str.{str_eq_ignore_ascii_case}
-use Rattle.message_pattern.specs.declared.bytes.Class.TheVariants.{Name, Number, Digit, Letter}
+use Rattle.pattern_bytes.specs.declared.bytes.Class.TheVariants.{Name, Number, Digit, Letter}
 use Rattle.message_pattern.specs.declared.error.Fault.{Fault}
 use Rattle.message_pattern.specs.declared.error.FaultKind.{FaultKind}
 use Rattle.message_pattern.specs.declared.error.FaultKind.TheVariants.{Unclosed, ExpectedName, BadNumber, ExpectedEnd, ExpectedType, UnsupportedType, ExpectedStyle, ExpectedOffset, ExpectedSelector, ExpectedValue, ExpectedBranch, MissingOther}
@@ -10,7 +10,7 @@ use Rattle.message_pattern.specs.declared.head.Formats.{Formats}
 use Rattle.message_pattern.specs.declared.head.Formats.TheVariants.{Refused, Allowed}
 use Rattle.message_pattern.specs.declared.part.ArgumentKind.{ArgumentKind}
 use Rattle.message_pattern.specs.declared.part.ArgumentKind.TheVariants.{Plural, Ordinal, Select}
-use Rattle.message_pattern.specs.PatternBytes.{comma, minus_sign, decimal_point, equals, opening, closing, is_empty_text, class_front, behind_run, after_white, after_word}
+use Rattle.pattern_bytes.specs.PatternBytes.{comma, minus_sign, decimal_point, equals, opening, closing, is_empty_text, class_front, behind_run, after_white, after_word}
 use Rattle.message_pattern.specs.PatternParts.{Selector, Exactly, Keyword}
 use Rattle.message_pattern.specs.PatternStyles.{behind_style}
 

@@ -6,8 +6,8 @@ use Rattle.message_pattern.specs.declared.part.ArgumentKind.{ArgumentKind}
 use Rattle.message_pattern.specs.declared.part.ArgumentKind.TheVariants.{Plural, Ordinal, Select}
 use Rattle.message_pattern.specs.declared.text.Context.{Context}
 use Rattle.message_pattern.specs.declared.text.Context.TheVariants.{Whole}
-use Rattle.message_pattern.specs.PatternBytes.{apostrophe, comma, equals, opening, closing}
-use Rattle.message_pattern.specs.PatternBytes as byte
+use Rattle.pattern_bytes.specs.PatternBytes.{apostrophe, comma, equals, opening, closing}
+use Rattle.pattern_bytes.specs.PatternBytes as byte
 use Rattle.message_pattern.specs.PatternText.{is_quotable}
 use Rattle.message_pattern.specs.PatternParts.{Part, PatternPiece, Selector, Exactly, Keyword, Text, Hash, Argument, Begin, Branch}
 use Rattle.message_pattern.specs.PatternParts as piece

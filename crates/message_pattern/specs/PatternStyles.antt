@@ -1,6 +1,6 @@
 -- The style of a simple format: a text where braces nest, and an apostrophe quotes up to the next.
 use Rattle.std.specs.Prelude.{◌≡◌, ℕ, ◌+◌, ◌-◌, ◌==◌, List, [], ◌∷◌, ◌++◌, Bool, true, false, ◌&&◌, ◌||◌, not, Option, Some, None, if◌then◌else◌}
-use Rattle.message_pattern.specs.PatternBytes.{apostrophe, opening, closing}
+use Rattle.pattern_bytes.specs.PatternBytes.{apostrophe, opening, closing}
 
 -- a byte that stands for itself
 abbrev pub is_style_byte : ℕ → Bool

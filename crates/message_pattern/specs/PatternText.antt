@@ -1,11 +1,11 @@
 -- What stands at the front of a message's text: text, an apostrophe that quotes or doesn't, `#`, or
 -- a brace. It is ICU's page on MessageFormat, Quoting and Escaping, in the mode DOUBLE_OPTIONAL.
 use Rattle.std.specs.Prelude.{ℕ, ◌==◌, List, [], ◌∷◌, Bool, true, false, ◌&&◌, ◌||◌, Option, Some, None, if◌then◌else◌}
-use Rattle.message_pattern.specs.declared.bytes.Class.TheVariants.{Plain, Unquoted}
+use Rattle.pattern_bytes.specs.declared.bytes.Class.TheVariants.{Plain, Unquoted}
 use Rattle.message_pattern.specs.declared.text.Context.{Context}
 use Rattle.message_pattern.specs.declared.text.Context.TheVariants.{Whole, Counted, Selected}
 use Rattle.message_pattern.specs.PatternParts.{PatternPiece, Text, Hash}
-use Rattle.message_pattern.specs.PatternBytes.{apostrophe, hash, opening, closing, class_front, behind_run}
+use Rattle.pattern_bytes.specs.PatternBytes.{apostrophe, hash, opening, closing, class_front, behind_run}
 
 -- what stands at the front, and what follows it
 pub data Front : Type 0 where

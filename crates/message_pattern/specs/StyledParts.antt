@@ -1,9 +1,9 @@
 -- What the argument of a styled pattern is, and the parts without formats.
 use Rattle.std.specs.Prelude.{◌≡◌, ℕ, List, [], ◌∷◌, map, Option, Some, None}
 use Rattle.std.specs.Borrow.{Bor}
-use Rattle.message_pattern.specs.declared.bytes.Class.TheVariants.{Name, Letter}
+use Rattle.pattern_bytes.specs.declared.bytes.Class.TheVariants.{Name, Letter}
 use Rattle.message_pattern.specs.declared.styled_argument.SimpleFormat.{SimpleFormat}
-use Rattle.message_pattern.specs.PatternBytes.{class_front, behind_run, after_white}
+use Rattle.pattern_bytes.specs.PatternBytes.{class_front, behind_run, after_white}
 use Rattle.message_pattern.specs.PatternParts.{Part, PatternPiece, Text, Hash, Argument, Begin, Branch, End}
 use Rattle.message_pattern.specs.PatternGrammar.{IsNameOrNumber, IsSimpleText}
 use Rattle.message_pattern.specs.declared.head.Formats.TheVariants.{Refused}

@@ -1,15 +1,15 @@
 //! What stands before a branch: its selector, or the end of the argument.
 
 ghost use Rattle.std.specs.Prelude.{◌≡◌, ◌∷◌, ◌≤◌, ◌<◌, IfOk, length};
-ghost use Rattle.message_pattern.specs.PatternBytes.{after_white};
+ghost use Rattle.pattern_bytes.specs.PatternBytes.{after_white};
 ghost use Rattle.message_pattern.specs.PatternHeads.{and_then, is_counting, is_fraction, is_unsigned, is_number, exact_front, keyword_front, selector_front, branch_opens, next_branch, branch_front, is_other};
 ghost use Rattle.message_pattern.specs.PatternParts.{selector_view};
 ghost use Rattle.message_pattern.specs.Inner.PatternViews.{seen, branch_view, IsBranchBehind};
 
-use crate::bytes::{Class, after_white, after_word, split_run};
 use crate::error::{Fault, FaultKind};
 use crate::head::{fault_at, missing, unclosed};
 use crate::part::{ArgumentKind, Selector};
+use pattern_bytes::{Class, after_white, after_word, split_run};
 
 // A branch begins, or the argument ends.
 pub(crate) enum BranchFront<'p> {

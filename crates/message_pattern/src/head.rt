@@ -5,10 +5,10 @@ ghost use Rattle.message_pattern.specs.PatternHeads.{fault_at, unclosed, missing
 ghost use Rattle.message_pattern.specs.PatternStyles.{behind_style};
 ghost use Rattle.message_pattern.specs.Inner.PatternViews.{seen, head_view, digits_view};
 
-use crate::bytes::{Class, after_white, after_word, split_run};
 use crate::error::{Fault, FaultKind};
 use crate::part::ArgumentKind;
 use crate::style::behind_style;
+use pattern_bytes::{Class, after_white, after_word, split_run};
 
 // Whether an argument may have a simple format, as `{d, date, short}`.
 #[derive(Clone, Copy)]

@@ -2,7 +2,6 @@
 #![tactic(auto)]
 
 mod branch;
-mod bytes;
 mod error;
 mod head;
 pub mod laws;

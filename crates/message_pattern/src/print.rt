@@ -1,7 +1,7 @@
 //! Printing a pattern, part by part.
 
 ghost use Rattle.std.specs.Prelude.{◌≡◌, ◌∷◌, [], ◌++◌, false, reverse, IfOk, OnOk};
-ghost use Rattle.message_pattern.specs.PatternBytes.{comma, opening, closing};
+ghost use Rattle.pattern_bytes.specs.PatternBytes.{comma, opening, closing};
 ghost use Rattle.message_pattern.specs.PatternParts.{piece_view, offset_view, selector_view, parts_view};
 ghost use Rattle.message_pattern.specs.PatternPrinting.{byte_text, text_text, quoted_behind, kind_text, offset_text, selector_text};
 ghost use Rattle.message_pattern.specs.Inner.PatternFold.{is_quoted, end_of_text, end_of_branch, end_before, piece_text, spot_behind, context_behind, outer_behind, fold};

@@ -6,12 +6,12 @@ ghost use Rattle.message_pattern.specs.PatternAnswers.{ParsesStyledExactly};
 ghost use Rattle.message_pattern.specs.PatternPrinting.{PrintsStyledExactly};
 ghost use Rattle.message_pattern.specs.StyledParts.{unstyled, unstyled_part};
 
-use crate::bytes::{Class, split_run};
 use crate::error::PatternError;
 use crate::head::Formats;
 use crate::part::{Part, Piece};
 use crate::pattern::{Pattern, read};
 use crate::print::print;
+use pattern_bytes::{Class, split_run};
 use std::alloc::{AllocError, Global};
 use std::marker::Model;
 

@@ -1,11 +1,11 @@
 //! An argument of a styled pattern, taken apart.
 
 ghost use Rattle.std.specs.Prelude.{◌≡◌};
-ghost use Rattle.message_pattern.specs.declared.bytes.Class.TheVariants.{Letter};
-ghost use Rattle.message_pattern.specs.PatternBytes.{after_white, behind_run, class_front};
+ghost use Rattle.pattern_bytes.specs.declared.bytes.Class.TheVariants.{Letter};
+ghost use Rattle.pattern_bytes.specs.PatternBytes.{after_white, behind_run, class_front};
 ghost use Rattle.message_pattern.specs.StyledParts.{format_behind, format_of, format_view, name_of, style_behind, style_view};
 
-use crate::bytes::{Class, after_white, split_run};
+use pattern_bytes::{Class, after_white, split_run};
 
 /// The simple format of an argument, as `date, short`.
 #[derive(Clone, Copy, Debug)]

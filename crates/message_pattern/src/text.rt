@@ -1,12 +1,12 @@
 //! The text of a message: what stands for itself, and apostrophes.
 
 ghost use Rattle.std.specs.Prelude.{◌≡◌, ◌∷◌, [], ◌≤◌, ◌<◌, ◌+◌, ℕ, List, length};
-ghost use Rattle.message_pattern.specs.PatternBytes.{apostrophe};
+ghost use Rattle.pattern_bytes.specs.PatternBytes.{apostrophe};
 ghost use Rattle.message_pattern.specs.PatternText.{is_nested, is_counted, is_quotable, apostrophe_front, plain_front, takes_text, quoted_front, front};
 ghost use Rattle.message_pattern.specs.Inner.PatternViews.{front_view, IsShorter};
 
-use crate::bytes::{Class, split_run};
 use crate::part::Piece;
+use pattern_bytes::{Class, split_run};
 
 // Where a message stands.
 #[derive(Clone, Copy)]

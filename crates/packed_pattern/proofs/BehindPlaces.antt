@@ -1,8 +1,8 @@
 -- Places in parts of which some were passed.
 use Rattle.std.proofs.Common.{◌≡◌, ◌+◌, ◌-◌, ℕ, zero, suc, refl, arith}
 use Rattle.std.proofs.lemmas.Bool.Decides.{nat_tests}
-use Rattle.packed_pattern.specs.PartPlaces.{one_more}
-use Rattle.packed_pattern.specs.Inner.PlacesAhead.{behind}
+use Rattle.packed_part.specs.PartPlaces.{one_more}
+use Rattle.packed_part.specs.Inner.PartViews.{behind}
 
 -- one part more was passed
 pub behind_more : (count place : ℕ) → behind (count + 1) place ≡ behind count (one_more place)

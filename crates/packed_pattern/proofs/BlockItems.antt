@@ -10,10 +10,10 @@ use Rattle.packed_list.specs.ListBytes.{ListBytes}
 use Rattle.packed_list.specs.Inner.ListReading.{items_in}
 use Rattle.message_pattern.specs.PatternParts.{Part}
 use Rattle.packed_pattern.specs.declared.error.BlockError.{BlockError}
-use Rattle.packed_pattern.specs.PartOrder.{before_all, first_misplaced}
-use Rattle.packed_pattern.specs.PackedParts.{is_packable, item_bytes, items_of, place_bytes}
+use Rattle.packed_part.specs.PartOrder.{before_all, first_misplaced}
+use Rattle.packed_part.specs.PackedParts.{is_packable, item_bytes, items_of, place_bytes}
 use Rattle.packed_pattern.specs.PatternBlocks.{IsPatternBlock, PatternBlock, first_item_fault, has_places, is_item_with, is_part_item, item_fault, items_fault, or_fault, order_fault}
-use Rattle.packed_pattern.specs.Inner.PartReading.{IsBlock, part_in, parts_in, places_in}
+use Rattle.packed_part.specs.Inner.PartReading.{IsBlock, part_in, parts_in, places_in}
 use Rattle.packed_pattern.proofs.PartBytes.{bytes_same, length-place_bytes, part_again, places_again, same_bytes}
 use Rattle.packed_pattern.specs.declared.error.BlockError.TheVariants as errors
 

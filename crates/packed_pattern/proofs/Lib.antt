@@ -3,7 +3,6 @@ pub mod PartPlaceNumbers
 pub mod BlockItems
 pub mod BlockFaults
 pub mod PartsPacked
-pub mod Joined
 pub mod BehindPlaces
 pub mod PartsAhead
 pub mod PartsWalked

@@ -7,9 +7,9 @@ use Rattle.packed_list.specs.ListBytes.{two_bytes}
 use Rattle.packed_list.specs.Inner.ListReading.{numbers}
 use Rattle.message_pattern.specs.PatternParts.{Part, PatternPiece, Exactly, Keyword, Text, Hash, Argument, Begin, Branch, End}
 use Rattle.message_pattern.specs.declared.part.ArgumentKind.TheVariants.{Plural, Ordinal, Select}
-use Rattle.packed_pattern.specs.PackedParts.{is_packable, item_bytes, items_of, own_bytes, piece_tag, place_bytes}
-use Rattle.packed_pattern.specs.PartPlaces.{IsPlaced, places_of}
-use Rattle.packed_pattern.specs.Inner.PartReading.{IsBlock, item_places, part_in, place_count}
+use Rattle.packed_part.specs.PackedParts.{is_packable, item_bytes, items_of, own_bytes, piece_tag, place_bytes}
+use Rattle.packed_part.specs.PartPlaces.{IsPlaced, places_of}
+use Rattle.packed_part.specs.Inner.PartReading.{IsBlock, item_places, part_in, place_count}
 use Rattle.packed_pattern.proofs.PartBytes.{length-place_bytes, part_again}
 
 -- ---- a number of the bytes

@@ -4,10 +4,11 @@ use Rattle.std.specs.Prelude.{nat_lt, bytes_eq, codes, flat_map, if◌then◌els
 use Rattle.message_pattern.specs.declared.part.ArgumentKind.TheVariants.{Plural, Ordinal, Select}
 use Rattle.packed_list.specs.ListBytes.{two_bytes}
 use Rattle.message_pattern.specs.PatternParts.{Part, PatternPiece, Text, Hash, Argument, Begin, Branch, End, Exactly, Keyword}
-use Rattle.packed_pattern.specs.PartOrder.{is_selector}
-use Rattle.packed_pattern.specs.PartPlaces.{Sought, AnyNumber, Word, argument_length, argument_places, branch_length, branch_place, one_more, is_sought, or_place, places_of}
-use Rattle.packed_pattern.specs.PackedParts.{place_bytes}
-use Rattle.packed_pattern.specs.Inner.PlacesAhead.{ahead_of, behind, ended_at, found_at, has_places, passed, places_ahead, plural_ahead}
+use Rattle.packed_part.specs.PartOrder.{is_selector}
+use Rattle.packed_part.specs.PartPlaces.{Sought, AnyNumber, Word, argument_length, argument_places, branch_length, branch_place, one_more, is_sought, or_place, places_of}
+use Rattle.packed_part.specs.PackedParts.{place_bytes}
+use Rattle.packed_part.specs.Inner.PartViews.{behind}
+use Rattle.packed_pattern.specs.Inner.PlacesAhead.{ahead_of, ended_at, found_at, has_places, passed, places_ahead, plural_ahead}
 use Rattle.packed_pattern.specs.declared.ahead.Ahead.{Ahead}
 use Rattle.packed_pattern.proofs.BehindPlaces.{behind_less, behind_more}
 

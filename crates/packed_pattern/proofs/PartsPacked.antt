@@ -4,7 +4,7 @@ use Rattle.std.specs.Prelude.{if◌then◌else◌}
 use Rattle.std.specs.List.{list_all}
 use Rattle.std.specs.Cmp.Derive.{both_true}
 use Rattle.message_pattern.specs.PatternParts.{Part}
-use Rattle.packed_pattern.specs.PackedParts.{is_packable, items_of}
+use Rattle.packed_part.specs.PackedParts.{is_packable, items_of}
 use Rattle.packed_pattern.specs.PatternBlocks.{first_unpackable}
 
 -- there is an item for each part

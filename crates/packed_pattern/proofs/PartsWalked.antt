@@ -7,9 +7,9 @@ use Rattle.std.proofs.lemmas.Bool.Decides.{nat_tests}
 use Rattle.std.proofs.lemmas.List.{get_or-set_other, get_or-set_same, length-set}
 use Rattle.packed_list.specs.ListBytes.{two_bytes}
 use Rattle.message_pattern.specs.PatternParts.{Part, PatternPiece, Text, Hash, Argument, Begin, Branch, End}
-use Rattle.packed_pattern.specs.PartOrder.{before_all, depth_behind, ends_branch, first_misplaced, is_begin, is_selector, may_follow}
-use Rattle.packed_pattern.specs.PackedParts.{is_packable, is_packable_piece, item_bytes, items_of, place_bytes}
-use Rattle.packed_pattern.specs.Inner.PartReading.{IsBlock, part_in}
+use Rattle.packed_part.specs.PartOrder.{before_all, depth_behind, ends_branch, first_misplaced, is_begin, is_selector, may_follow}
+use Rattle.packed_part.specs.PackedParts.{is_packable, is_packable_piece, item_bytes, items_of, place_bytes}
+use Rattle.packed_part.specs.Inner.PartReading.{IsBlock, part_in}
 use Rattle.packed_pattern.specs.Inner.PlacesAhead.{AreWalked, ahead_of, ended_at, has_places, passed, places_ahead}
 use Rattle.packed_pattern.specs.declared.ahead.Ahead.{Ahead}
 use Rattle.packed_pattern.proofs.PartsAhead.{deeper, nothing_ahead, passed_ahead, places_there}

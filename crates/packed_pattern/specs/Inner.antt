@@ -1,4 +1,4 @@
 -- No definitions of the subject: the reader of items, and views, for private contracts.
-pub mod PartReading
+pub use Rattle.packed_part.specs.Inner.PartReading
 pub mod PlaceViews
 pub mod PlacesAhead

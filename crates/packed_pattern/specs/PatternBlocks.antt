@@ -8,9 +8,9 @@ use Rattle.packed_pattern.specs.declared.error.BlockError.{BlockError}
 use Rattle.packed_pattern.specs.declared.error.BlockError.TheVariants as errors
 use Rattle.packed_pattern.specs.declared.error.PackPatternError.{PackPatternError}
 use Rattle.packed_pattern.specs.declared.error.PackPatternError.TheVariants as packing
-use Rattle.packed_pattern.specs.PartOrder.{before_all, first_misplaced}
-use Rattle.packed_pattern.specs.PackedParts.{item_bytes, items_of, place_bytes, is_packable}
-use Rattle.packed_pattern.specs.Inner.PartReading.{part_in, parts_in, places_in}
+use Rattle.packed_part.specs.PartOrder.{before_all, first_misplaced}
+use Rattle.packed_part.specs.PackedParts.{item_bytes, items_of, place_bytes, is_packable}
+use Rattle.packed_part.specs.Inner.PartReading.{part_in, parts_in, places_in}
 
 -- the bytes encode the parts
 pub record PatternBlock (parts : List Part) (bytes : List ℕ) : Type 0 where

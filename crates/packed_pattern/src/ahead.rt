@@ -3,12 +3,12 @@
 ghost use Rattle.std.specs.Prelude.{◌≡◌, ◌<◌, ◌≤◌, ◌-◌, flat_map};
 ghost use Rattle.message_pattern.specs.PatternParts.{piece_view};
 ghost use Rattle.packed_list.specs.ListBytes.{two_bytes};
-ghost use Rattle.packed_pattern.specs.PartPlaces.{or_place};
-ghost use Rattle.packed_pattern.specs.Inner.PlaceViews.{places_view};
+ghost use Rattle.packed_part.specs.PartPlaces.{or_place};
+ghost use Rattle.packed_part.specs.Inner.PartViews.{places_view};
 ghost use Rattle.packed_pattern.specs.Inner.PlacesAhead.{ended_at, found_at, passed, places_ahead, plural_ahead};
 
-use crate::place_bytes::{PlaceBytes, two_bytes};
 use message_pattern::{ArgumentKind, Piece, Selector};
+use packed_part::{PlaceBytes, two_bytes};
 
 // Where the argument and the branch end that a part at a depth would begin, and where the branches of
 // the argument are: behind their selectors, 0 if there is none.

@@ -3,22 +3,21 @@
 ghost use Rattle.std.specs.Prelude.{◌≡◌, ◌↔◌, ◌≤◌, ◌<◌, ◌+◌, ℕ, List, map, drop, length, slice_get, option_map, IfOk, MatchOption, Ok, Err, Some, None};
 ghost use Rattle.message_pattern.specs.PatternParts.{Part as SpecPart, part_view, parts_view};
 ghost use Rattle.message_pattern.specs.PatternPrinting.{PrintsExactly};
-ghost use Rattle.packed_pattern.specs.PartPlaces.{IsPlaced};
+ghost use Rattle.packed_part.specs.PartPlaces.{IsPlaced};
 ghost use Rattle.packed_pattern.specs.PatternBlocks.{HasBlockFault, IsPatternBlock, PatternBlock, first_item_fault, item_fault, items_fault};
-ghost use Rattle.packed_pattern.specs.Inner.PartReading.{part_in};
+ghost use Rattle.packed_part.specs.Inner.PartReading.{part_in};
 ghost use Rattle.packed_pattern.specs.Inner.PlaceViews.{placed_view};
 
 use crate::error::BlockError;
-use crate::item::{is_item_of, is_packable, part_in, places_in};
-use crate::order::first_misplaced;
 use crate::parts::ItemParts;
 use crate::placed::PlacedPart;
-use crate::places::places_of;
-use crate::source::PartSource;
 use crate::walk::is_block;
 use message_pattern::{Part, Pattern};
 use packed_list::PackedList;
 use packed_list::laws::read_again;
+use packed_part::{
+    PartSource, first_misplaced, is_item_before, is_item_of, is_packable, part_in, places_in,
+};
 use std::alloc::{AllocError, Global};
 use std::marker::Model;
 
@@ -34,7 +33,7 @@ impl<'a> Model for PackedPattern<'a> {
 
     ghost Value = { List SpecPart };
 
-    ghost use Rattle.packed_pattern.specs.Inner.PartReading.{part_in, IsBlock};
+    ghost use Rattle.packed_part.specs.Inner.PartReading.{part_in, IsBlock};
 
     ghost view = { λ pattern. map part_in pattern.list };
 
@@ -198,7 +197,7 @@ fn fault_of(place: usize, item: &[u8], rest: ItemParts<'_, '_>) -> Option<BlockE
     if !is_packable(part) || !is_item_of(item, part, places_in(item)) {
         return Some(BlockError::Part(place));
     }
-    if !is_item_of(item, part, places_of(part, rest).as_slice()) {
+    if !is_item_before(item, part, rest) {
         return Some(BlockError::Place(place));
     }
     None

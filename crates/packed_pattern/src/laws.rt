@@ -3,7 +3,7 @@
 ghost use Rattle.std.specs.Prelude.{◌≡◌, ◌↔◌, ℕ, List};
 ghost use Rattle.message_pattern.specs.PatternParts.{Part};
 ghost use Rattle.packed_pattern.specs.PatternBlocks.{PatternBlock};
-ghost use Rattle.packed_pattern.specs.Inner.PartReading.{parts_in};
+ghost use Rattle.packed_part.specs.Inner.PartReading.{parts_in};
 
 use packed_list::laws::read_again as items_again;
 

@@ -4,15 +4,10 @@
 mod ahead;
 mod block;
 mod error;
-mod item;
 pub mod laws;
-mod order;
 mod packing;
 mod parts;
-mod place_bytes;
 mod placed;
-mod places;
-mod source;
 mod walk;
 
 pub use block::PackedPattern;

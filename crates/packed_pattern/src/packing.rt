@@ -5,17 +5,16 @@ ghost use Rattle.std.specs.Result.{OnErr};
 ghost use Rattle.std.specs.List.{list_all};
 ghost use Rattle.message_pattern.specs.PatternParts.{part_view, parts_view, piece_view};
 ghost use Rattle.packed_list.specs.ListBytes.{StaysInFront, has_high_start};
-ghost use Rattle.packed_pattern.specs.PartOrder.{before_all, first_misplaced};
-ghost use Rattle.packed_pattern.specs.PackedParts.{is_packable, is_packable_piece, items_of, own_bytes};
+ghost use Rattle.packed_part.specs.PartOrder.{before_all, first_misplaced};
+ghost use Rattle.packed_part.specs.PackedParts.{is_packable, is_packable_piece, items_of, own_bytes};
 ghost use Rattle.packed_pattern.specs.PatternBlocks.{PatternBlock, first_unpackable};
 
 use crate::error::PackPatternError;
-use crate::item::{is_packable, offset_digits, piece_tag, selector_bytes};
-use crate::order::first_misplaced;
-use crate::place_bytes::PlaceBytes;
-use crate::places::places_of;
 use message_pattern::{Part, Pattern, Piece};
 use packed_list::{ByteItem, ByteItems, ListWriter, PackError};
+use packed_part::{
+    PlaceBytes, first_misplaced, is_packable, offset_digits, piece_tag, places_of, selector_bytes,
+};
 use std::alloc::{AllocError, Global};
 
 // A part that is packed, and its places.
@@ -28,8 +27,8 @@ struct PartItem<'p> {
 
 impl<'p> ByteItem for PartItem<'p> {
     ghost use Rattle.message_pattern.specs.PatternParts.{part_view};
-    ghost use Rattle.packed_pattern.specs.PackedParts.{item_bytes};
-    ghost use Rattle.packed_pattern.specs.Inner.PlaceViews.{places_view};
+    ghost use Rattle.packed_part.specs.PackedParts.{item_bytes};
+    ghost use Rattle.packed_part.specs.Inner.PartViews.{places_view};
 
     ghost item_bytes = { λ item. item_bytes (part_view item.part) (places_view item.places) };
 
@@ -95,7 +94,7 @@ struct PartItems<'s, 'p> {
 
 impl<'s, 'p> ByteItems for PartItems<'s, 'p> {
     ghost use Rattle.message_pattern.specs.PatternParts.{parts_view};
-    ghost use Rattle.packed_pattern.specs.PackedParts.{items_of};
+    ghost use Rattle.packed_part.specs.PackedParts.{items_of};
 
     type Item = PartItem<'p>;
 

@@ -2,10 +2,9 @@
 
 ghost use Rattle.std.specs.Prelude.{◌≡◌, ◌∷◌, [], map, drop, length, MatchOption};
 
-use crate::item::part_in;
-use crate::source::PartSource;
 use message_pattern::Part;
 use packed_list::PackedList;
+use packed_part::{PartSource, part_in};
 
 // The parts in the items of a list, from a place on.
 #[derive(Clone, Copy)]
@@ -16,7 +15,7 @@ pub(crate) struct ItemParts<'l, 'a> {
 
 impl<'l, 'a> PartSource<'a> for ItemParts<'l, 'a> {
     ghost use Rattle.std.specs.Prelude.{map, drop};
-    ghost use Rattle.packed_pattern.specs.Inner.PartReading.{part_in};
+    ghost use Rattle.packed_part.specs.Inner.PartReading.{part_in};
 
     ghost parts = { λ walk. map part_in (drop walk.next walk.list.now) };
 

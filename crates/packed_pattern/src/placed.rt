@@ -4,8 +4,8 @@ ghost use Rattle.std.specs.Prelude.{◌≡◌, ◌≤◌, ◌<◌, ℕ, slice_in
 ghost use Rattle.message_pattern.specs.PatternParts.{part_view};
 ghost use Rattle.packed_list.specs.Inner.ListReading.{numbers};
 
-use crate::item::{part_in, place_count};
 use message_pattern::Part;
+use packed_part::{part_in, place_count};
 
 /// A part of a packed pattern, and its places: of an argument its length, of a plural then the place
 /// of the first branch by a number, and those of the branches of the categories zero, one, two, few,

@@ -2,14 +2,13 @@
 
 ghost use Rattle.std.specs.Prelude.{◌≡◌, ◌∷◌, ◌+◌, ◌<◌, ◌≤◌, ℕ, [], List, IsTrue, drop, length};
 ghost use Rattle.message_pattern.specs.PatternParts.{part_view};
-ghost use Rattle.packed_pattern.specs.Inner.PartReading.{IsBlock};
+ghost use Rattle.packed_part.specs.Inner.PartReading.{IsBlock};
 ghost use Rattle.packed_pattern.specs.Inner.PlacesAhead.{AreWalked};
 
 use crate::ahead::{Ahead, ended_at, passed, places_ahead};
-use crate::item::{is_item_of, is_packable, part_in};
-use crate::order::may_follow;
 use message_pattern::{DEPTH_LIMIT, Part, Piece};
 use packed_list::PackedList;
+use packed_part::{is_item_of, is_packable, may_follow, part_in};
 
 // How many depths there are.
 const DEPTHS: usize = DEPTH_LIMIT + 1;

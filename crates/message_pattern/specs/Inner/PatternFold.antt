@@ -4,7 +4,7 @@ use Rattle.message_pattern.specs.declared.text.Context.{Context}
 use Rattle.message_pattern.specs.declared.text.Context.TheVariants.{Whole}
 use Rattle.message_pattern.specs.declared.print.Spot.{Spot}
 use Rattle.message_pattern.specs.declared.print.Spot.TheVariants.{Message, Branches}
-use Rattle.message_pattern.specs.PatternBytes.{hash, comma, opening, closing}
+use Rattle.pattern_bytes.specs.PatternBytes.{hash, comma, opening, closing}
 use Rattle.message_pattern.specs.PatternParts.{Part, PatternPiece, Text, Hash, Argument, Begin, Branch, End}
 use Rattle.message_pattern.specs.PatternReading.{context_of}
 use Rattle.message_pattern.specs.PatternPrinting.{end_of_quote, text_text, quoted_behind, kind_text, offset_text, selector_text}

@@ -1,19 +1,7 @@
--- Private types of places, as contracts see them.
-use Rattle.std.specs.Prelude.{ℕ, List, take}
-use Rattle.packed_pattern.specs.declared.places.Sought as code
-use Rattle.packed_pattern.specs.declared.places.Sought.TheVariants as sought
-use Rattle.packed_pattern.specs.declared.place_bytes.PlaceBytes.{PlaceBytes}
+-- A placed part, as contracts see it.
 use Rattle.packed_pattern.specs.declared.placed.PlacedPart as placed
-use Rattle.packed_pattern.specs.PartPlaces.{PlacedPart, Sought, AnyNumber, Word}
-use Rattle.packed_pattern.specs.Inner.PartReading.{item_places, part_in}
-
-abbrev pub sought_view : code.Sought → Sought
-sought_view sought.AnyNumber = AnyNumber
-sought_view (sought.Word word) = Word word.now
-
--- the bytes that are in use
-abbrev pub places_view : PlaceBytes → List ℕ
-places_view p = take p.count p.bytes
+use Rattle.packed_part.specs.PartPlaces.{PlacedPart}
+use Rattle.packed_part.specs.Inner.PartReading.{item_places, part_in}
 
 -- the part that an item holds, with its places
 abbrev pub placed_view : placed.PlacedPart → PlacedPart

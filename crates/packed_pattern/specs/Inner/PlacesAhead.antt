@@ -1,18 +1,15 @@
 -- What stands ahead of a place in the parts of a block, for the check from the last part to the first.
 -- Not a definition of the subject.
-use Rattle.std.specs.Prelude.{◌≡◌, ◌+◌, ◌-◌, ◌≤◌, ℕ, List, [], ◌∷◌, map, nat_eq, bytes_eq, codes, Bool, true, false, if◌then◌else◌, slice_index_or, length, None}
+use Rattle.std.specs.Prelude.{◌≡◌, ◌+◌, ◌-◌, ◌≤◌, ℕ, List, [], ◌∷◌, map, bytes_eq, codes, Bool, true, false, if◌then◌else◌, slice_index_or, length, None}
 use Rattle.std.specs.List.{list_all}
 use Rattle.message_pattern.specs.declared.part.ArgumentKind.TheVariants.{Select}
 use Rattle.message_pattern.specs.PatternParts.{Part, PatternPiece, Begin, Branch, Exactly, Keyword}
 use Rattle.packed_pattern.specs.declared.ahead.Ahead.{Ahead}
-use Rattle.packed_pattern.specs.PartOrder.{first_misplaced, may_follow}
-use Rattle.packed_pattern.specs.PartPlaces.{AnyNumber, Word, argument_length, branch_length, branch_place, or_place}
-use Rattle.packed_pattern.specs.PackedParts.{is_packable, items_of}
-use Rattle.packed_pattern.specs.Inner.PartReading.{part_in}
-
--- a place behind so many parts, if there is one
-abbrev pub behind : ℕ → ℕ → ℕ
-behind count place = if nat_eq place 0 then 0 else count + place
+use Rattle.packed_part.specs.PartOrder.{first_misplaced, may_follow}
+use Rattle.packed_part.specs.PartPlaces.{AnyNumber, Word, argument_length, branch_length, branch_place, or_place}
+use Rattle.packed_part.specs.PackedParts.{is_packable, items_of}
+use Rattle.packed_part.specs.Inner.PartReading.{part_in}
+use Rattle.packed_part.specs.Inner.PartViews.{behind}
 
 -- what stands ahead at a depth in parts of which the first is at an index
 abbrev pub ahead_of : ℕ → ℕ → List Part → Ahead

@@ -1,7 +1,7 @@
 use Rattle.std.proofs.Common.{◌∙◌, ap, map, refl, sym, arith}
 use Rattle.std.proofs.lemmas.List.{length-map}
 use Rattle.packed_pattern.specs.PatternBlocks.{items_fault}
-use Rattle.packed_pattern.specs.Inner.PartReading.{part_in}
+use Rattle.packed_part.specs.Inner.PartReading.{part_in}
 use Rattle.packed_pattern.proofs.BlockItems.{are_items, no_items_fault}
 use Rattle.packed_pattern.proofs.block.items_fault.Goals as goal
 

@@ -1,6 +1,6 @@
 use Rattle.std.proofs.Common.{◌≡◌, ◌++◌, drop, map, length}
 use Rattle.message_pattern.specs.PatternParts.{parts_view}
-use Rattle.packed_pattern.specs.Inner.PartReading.{part_in}
+use Rattle.packed_part.specs.Inner.PartReading.{part_in}
 use Rattle.packed_pattern.proofs.block.parts_of.Given as goal
 
 -- What was taken and what is left are all parts.

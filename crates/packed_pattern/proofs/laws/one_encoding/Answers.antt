@@ -1,8 +1,8 @@
 use Rattle.std.proofs.Common.{sym, ap, ◌∙◌, map}
 use Rattle.packed_list.specs.ListBytes.{list_bytes}
 use Rattle.packed_list.specs.Inner.ListReading.{items_in}
-use Rattle.packed_pattern.specs.PackedParts.{items_of}
-use Rattle.packed_pattern.specs.Inner.PartReading.{part_in}
+use Rattle.packed_part.specs.PackedParts.{items_of}
+use Rattle.packed_part.specs.Inner.PartReading.{part_in}
 use Rattle.packed_pattern.proofs.BlockItems.{parts_in_one}
 use Rattle.packed_pattern.proofs.laws.one_encoding.Goals as goal
 

@@ -2,7 +2,7 @@ use Rattle.std.proofs.Common.{◌∙◌, ◌<◌, arith, length, refl, ap, sym}
 use Rattle.std.specs.Prelude.{Err}
 use Rattle.std.proofs.lemmas.List.{length-map}
 use Rattle.message_pattern.specs.PatternParts.{part_view, parts_view}
-use Rattle.packed_pattern.specs.PackedParts.{items_of}
+use Rattle.packed_part.specs.PackedParts.{items_of}
 use Rattle.packed_pattern.proofs.PartsPacked.{all_packable, length-items_of}
 use Rattle.packed_pattern.proofs.packing.pack.Goals as goal
 

@@ -1,8 +1,8 @@
 use Rattle.std.proofs.Common.{◌≡◌, ◌∙◌, sym, ap, map, None}
 use Rattle.std.specs.Prelude.{Ok, Err}
-use Rattle.packed_pattern.specs.PackedParts.{items_of}
+use Rattle.packed_part.specs.PackedParts.{items_of}
 use Rattle.packed_pattern.specs.PatternBlocks.{items_fault}
-use Rattle.packed_pattern.specs.Inner.PartReading.{part_in}
+use Rattle.packed_part.specs.Inner.PartReading.{part_in}
 use Rattle.packed_pattern.specs.declared.error.BlockError.TheVariants as errors
 use Rattle.packed_pattern.proofs.BlockFaults.{list_refused, item_refused, not_refused}
 use Rattle.packed_pattern.proofs.BlockItems.{is_block, is_pattern, no_items_fault, parts_again}

@@ -1,5 +1,5 @@
 use Rattle.std.proofs.Common.{◌∙◌, ◌∷◌, ◌+◌, arith, ap, sym, drop, map}
-use Rattle.packed_pattern.specs.Inner.PartReading.{part_in}
+use Rattle.packed_part.specs.Inner.PartReading.{part_in}
 use Rattle.packed_pattern.proofs.BlockItems.{items_step}
 use Rattle.packed_pattern.proofs.parts.ItemPartsPartSource.next_part.Goals as goal
 

@@ -1,6 +1,6 @@
 use Rattle.std.proofs.Common.{◌∙◌, ap, sym}
 use Rattle.message_pattern.specs.PatternParts.{part_view}
-use Rattle.packed_pattern.specs.PackedParts.{item_bytes}
+use Rattle.packed_part.specs.PackedParts.{item_bytes}
 use Rattle.packed_pattern.proofs.PartBytes.{same_bytes}
 use Rattle.packed_pattern.proofs.PartsWalked.{one_walked}
 use Rattle.packed_pattern.proofs.walk.Walk.take.Goals as goal

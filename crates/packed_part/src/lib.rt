@@ -1,0 +1,17 @@
+//! Parts of patterns of messages, packed as items of bytes: their places and their order.
+#![tactic(auto)]
+
+mod item;
+mod order;
+mod place_bytes;
+mod places;
+mod source;
+
+pub use item::{
+    is_item_of, is_packable, offset_digits, part_in, piece_tag, place_count, places_in,
+    selector_bytes,
+};
+pub use order::{first_misplaced, may_follow};
+pub use place_bytes::{PlaceBytes, two_bytes};
+pub use places::{is_item_before, places_of};
+pub use source::PartSource;

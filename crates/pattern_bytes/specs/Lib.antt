@@ -1,0 +1,2 @@
+-- the bytes of patterns
+pub mod PatternBytes
