@@ -5,17 +5,18 @@ use Rattle.serde_json.specs.Find.{get}
 use Rattle.icu_plurals.specs.declared.JsonError.{JsonError}
 use Rattle.icu_plurals.specs.declared.PluralRuleType.{PluralRuleType}
 use Rattle.icu_plurals.specs.DocumentJson.{document_of_json, found, rows_for}
-use Rattle.plural_commands.specs.Answer.{AnswersFrom, AnswersLookup, AnswersQuery}
-use Rattle.plural_commands.specs.Input.{WholeDocument, document_in, document_of, document_of_value, or_bad}
-use Rattle.plural_commands.specs.Input.{elements_at_key, elements_for, ranged_for, rules_for, ruled_with}
-use Rattle.plural_commands.specs.Lines.{AreRuleLines, IsCategoryLine, IsElementLine, IsMessageLine, IsRangeLine}
-use Rattle.plural_commands.specs.Queries.{Lookup, number_category, range_category, number_element, number_message, printed_rules}
-use Rattle.plural_commands.specs.Queries.{Query, of_document, truth}
-use Rattle.plural_commands.specs.Inner.CallAnswers.{GivesTextAfterReading, Text}
+use Rattle.plural_queries.specs.LookupAnswers.{AnswersFrom, AnswersLookup}
+use Rattle.plural_commands.specs.Answer.{AnswersQuery}
+use Rattle.plural_queries.specs.Input.{WholeDocument, document_in, document_of, document_of_value, or_bad}
+use Rattle.plural_queries.specs.Input.{elements_at_key, elements_for, ranged_for, rules_for, ruled_with}
+use Rattle.plural_queries.specs.Lines.{AreRuleLines, IsCategoryLine, IsElementLine, IsMessageLine, IsRangeLine}
+use Rattle.plural_queries.specs.Queries.{Lookup, number_category, range_category, number_element, number_message, printed_rules}
+use Rattle.plural_queries.specs.Queries.{Query, of_document, truth}
+use Rattle.plural_queries.specs.CallAnswers.{GivesTextAfterReading, Text}
 use Rattle.plural_documents.specs.Steps.{After, ◌>>=◌, or_fault}
 use Rattle.plural_documents.specs.Inputs.{most_bytes, json_of}
-use Rattle.plural_commands.specs.declared.error.RunError.{RunError}
-use Rattle.plural_commands.specs.declared.error.RunError.TheVariants.{Usage, TooLong, Json, Document, Locale}
+use Rattle.plural_queries.specs.declared.error.RunError.{RunError}
+use Rattle.plural_queries.specs.declared.error.RunError.TheVariants.{Usage, TooLong, Json, Document, Locale}
 
 -- a fault that no document has
 record IsOther (fault : RunError) : Type 0 where

@@ -3,13 +3,14 @@ use Rattle.std.proofs.Common.{◌≡◌, ◌≤◌, ℕ, List, length, Option, S
 use Rattle.std.specs.Cow.{cow_str_bytes}
 use Rattle.std.specs.Prelude.{⊤}
 use Rattle.std.specs.Io.KnownBytes.{Keeps}
-use Rattle.plural_commands.specs.Answer.{IsAnswered, IsNotRead, run_origin}
-use Rattle.plural_commands.specs.Inner.CallAnswers.{GivesTextAfterReading, GivesRunFault, GivesText, Text, input_fault}
-use Rattle.plural_commands.specs.Input.{WholeDocument, document_in, document_of}
+use Rattle.plural_commands.specs.Answer.{IsAnswered, IsNotRead}
+use Rattle.plural_queries.specs.RunFaults.{run_origin}
+use Rattle.plural_queries.specs.CallAnswers.{GivesTextAfterReading, GivesRunFault, GivesText, Text, input_fault}
+use Rattle.plural_queries.specs.Input.{WholeDocument, document_in, document_of}
 use Rattle.plural_documents.specs.Steps.{After}
-use Rattle.plural_commands.specs.declared.error.RunError.{RunError}
-use Rattle.plural_commands.specs.declared.error.RunError.TheVariants.{Usage, Condition, Number, Read, TooLong}
-use Rattle.plural_commands.specs.declared.error.RunError.TheVariants.{Json, Document, Locale, Write, Memory}
+use Rattle.plural_queries.specs.declared.error.RunError.{RunError}
+use Rattle.plural_queries.specs.declared.error.RunError.TheVariants.{Usage, Condition, Number, Read, TooLong}
+use Rattle.plural_queries.specs.declared.error.RunError.TheVariants.{Json, Document, Locale, Write, Memory}
 use Rattle.plural_documents.specs.Inputs.{GivesInput, IsInput, IsRead, IsReadAfter, IsReadToEnd, input_origin, most_bytes}
 use Rattle.plural_documents.specs.declared.InputError.{InputError}
 use Rattle.plural_documents.specs.declared.InputError.TheVariants as cause

@@ -1,18 +1,17 @@
 //! Runs the words of a command line.
 
 ghost use Rattle.std.specs.Prelude.{◌≡◌, ◌≢◌, ◌↔◌, Err, IfErr, List, None, ℕ, map};
-ghost use Rattle.plural_commands.specs.Answer.{AnswersQuery, AnswersWords, IsAnswered, IsNotRead, run_origin};
-ghost use Rattle.plural_commands.specs.Commands.{command_of};
-ghost use Rattle.plural_commands.specs.Inner.CallAnswers.{GivesTextAfterReading, IsOfDocument};
-ghost use Rattle.plural_commands.specs.Inner.PrivateViews.{lookup_view, query_view};
-ghost use Rattle.plural_commands.specs.Queries.{MayRunOut, NeedsInput, of_document};
+ghost use Rattle.plural_commands.specs.Answer.{AnswersQuery, AnswersWords, IsAnswered, IsNotRead};
+ghost use Rattle.plural_queries.specs.RunFaults.{run_origin};
+ghost use Rattle.plural_queries.specs.Commands.{command_of};
+ghost use Rattle.plural_queries.specs.CallAnswers.{GivesTextAfterReading, IsOfDocument};
+ghost use Rattle.plural_queries.specs.QueryViews.{lookup_view, query_view};
+ghost use Rattle.plural_queries.specs.Queries.{MayRunOut, NeedsInput, of_document};
 ghost use Rattle.plural_documents.specs.Inputs.{IsInput, IsRead};
 
 use crate::answer::text_in;
-use crate::error::RunError;
-use crate::query::{Lookup, Query, query_of};
-use crate::test_command::truth_line;
 use plural_documents::{read_input, write_output};
+use plural_queries::{Lookup, Query, RunError, query_of, truth_line};
 use std::alloc::Global;
 use std::borrow::CowStr;
 use std::io::{Read, Write};

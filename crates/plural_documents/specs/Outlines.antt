@@ -6,7 +6,7 @@
 --     GivesHeldText names bytes result      a text that is held, of an outermost object by names
 --     IsOutlineOf keeps choice text part      the outline of what is held of it
 use Rattle.std.specs.Prelude.{◌≡◌, ℕ, ◌<◌, List, length, if◌then◌else◌, Option, Some, None, Result, Ok, Err}
-use Rattle.document_tokens.specs.TextTokens.{is_named}
+pub use Rattle.document_tokens.specs.TextTokens.{is_named}
 use Rattle.plural_documents.specs.Inputs.{json_of}
 use Rattle.document_tokens.specs.declared.error.JsonTextError.{JsonTextError}
 use Rattle.document_tokens.specs.declared.error.JsonTextError.TheVariants as fault

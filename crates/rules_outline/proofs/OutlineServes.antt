@@ -2,8 +2,7 @@
 use Rattle.std.proofs.Common.{◌≡◌, ℕ, zero, suc, ◌<◌, ◌≤◌, List, [], ◌∷◌, Bool, true, false, Option, Some, None, Result, Ok, Err, refl, sym, ap, subst, ◌∙◌, arith}
 use Rattle.std.specs.Prelude.{◌||◌, bytes_eq, codes, IfOk, IfErr, is_some, option_and_then, string_bytes}
 use Rattle.plural_documents.proofs.HeldOutlines.{outline_held}
-use Rattle.document_tokens.specs.TextTokens.{is_named}
-use Rattle.plural_documents.specs.Outlines.{HeldText, IsOutlineOf, outline, part_by_names}
+use Rattle.plural_documents.specs.Outlines.{HeldText, IsOutlineOf, is_named, outline, part_by_names}
 use Rattle.plural_documents.specs.declared.Portion.TheVariants as kept
 use Rattle.plural_fallback.specs.Chain.{next_of}
 use Rattle.plural_fallback.specs.FirstKeys.{NoneBefore, locale_at}

@@ -1,9 +1,9 @@
 use Rattle.std.specs.Cow.{cow_str_bytes}
-use Rattle.plural_commands.specs.Answer.{AnswersLookup}
-use Rattle.plural_commands.specs.Input.{document_of_value}
-use Rattle.plural_commands.specs.Inner.PrivateViews.{document_view, lookup_view}
-use Rattle.plural_commands.proofs.Faults.{value_answer}
-use Rattle.plural_commands.proofs.KeptDocuments.{answer_mapped}
+use Rattle.plural_queries.specs.LookupAnswers.{AnswersLookup}
+use Rattle.plural_queries.specs.Input.{document_of_value}
+use Rattle.plural_queries.specs.QueryViews.{document_view, lookup_view}
+use Rattle.plural_queries.proofs.Faults.{value_answer}
+use Rattle.plural_queries.proofs.KeptDocuments.{answer_mapped}
 use Rattle.plural_commands.proofs.answer.text_by.Goals as goal
 
 pub returns : goal.returns

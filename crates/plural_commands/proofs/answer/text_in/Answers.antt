@@ -1,12 +1,12 @@
 use Rattle.std.proofs.Common.{◌≡◌, Option, Err, sym, subst, refl}
 use Rattle.std.specs.Cow.{cow_str_bytes}
 use Rattle.std.proofs.lemmas.Result.{err_from_is_err_and}
-use Rattle.plural_commands.specs.Answer.{AnswersLookup}
-use Rattle.plural_commands.specs.Input.{document_of, document_of_value}
-use Rattle.plural_commands.specs.Inner.CallAnswers.{GivesText}
-use Rattle.plural_commands.specs.Inner.PrivateViews.{lookup_view}
-use Rattle.plural_commands.specs.declared.error.RunError.TheVariants.{Json}
-use Rattle.plural_commands.proofs.Faults.{handed_on, mapped, value_fault}
+use Rattle.plural_queries.specs.LookupAnswers.{AnswersLookup}
+use Rattle.plural_queries.specs.Input.{document_of, document_of_value}
+use Rattle.plural_queries.specs.CallAnswers.{GivesText}
+use Rattle.plural_queries.specs.QueryViews.{lookup_view}
+use Rattle.plural_queries.specs.declared.error.RunError.TheVariants.{Json}
+use Rattle.plural_queries.proofs.Faults.{handed_on, mapped, value_fault}
 use Rattle.plural_commands.proofs.answer.text_in.Goals as goal
 use Rattle.plural_documents.specs.Inputs.{json_of}
 use Rattle.plural_documents.specs.Steps.{After, ◌>>=◌, or_fault}

@@ -1,9 +1,9 @@
 use Rattle.std.proofs.Common.{Ok, sym, subst, ap}
 use Rattle.plural_commands.specs.Answer.{AnswersQuery}
-use Rattle.plural_commands.specs.Inner.CallAnswers.{GivesTextAfterReading, IsOfDocument}
-use Rattle.plural_commands.specs.Inner.PrivateViews.{lookup_view, query_view}
-use Rattle.plural_commands.specs.Queries.{of_document}
-use Rattle.plural_commands.specs.declared.query.Query.{Query as CodeQuery}
+use Rattle.plural_queries.specs.CallAnswers.{GivesTextAfterReading, IsOfDocument}
+use Rattle.plural_queries.specs.QueryViews.{lookup_view, query_view}
+use Rattle.plural_queries.specs.Queries.{of_document}
+use Rattle.plural_queries.specs.declared.query.Query.{Query as CodeQuery}
 use Rattle.plural_commands.proofs.Lengths.{answer_not_usage}
 use Rattle.plural_documents.proofs.InputLemmas.{some_input}
 use Rattle.plural_commands.proofs.run.answer.Goals as goal

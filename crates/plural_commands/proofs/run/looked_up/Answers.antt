@@ -1,10 +1,10 @@
 use Rattle.std.proofs.lemmas.Result.{err_from_is_err_and}
-use Rattle.plural_commands.specs.Answer.{AnswersLookup}
-use Rattle.plural_commands.specs.Input.{document_of}
-use Rattle.plural_commands.specs.Inner.CallAnswers.{input_fault}
-use Rattle.plural_commands.specs.Inner.PrivateViews.{lookup_view}
+use Rattle.plural_queries.specs.LookupAnswers.{AnswersLookup}
+use Rattle.plural_queries.specs.Input.{document_of}
+use Rattle.plural_queries.specs.CallAnswers.{input_fault}
+use Rattle.plural_queries.specs.QueryViews.{lookup_view}
 use Rattle.plural_documents.specs.Steps.{After}
-use Rattle.plural_commands.proofs.Faults.{handed_on}
+use Rattle.plural_queries.proofs.Faults.{handed_on}
 use Rattle.plural_commands.proofs.Lengths.{text_not_long}
 use Rattle.plural_commands.proofs.Readings.{no_input, of_all, read_on, to_the_end}
 use Rattle.plural_commands.proofs.run.looked_up.Goals as goal

@@ -2,15 +2,16 @@ use Rattle.std.proofs.Common.{ℕ, List, Bor, map, Result, Ok, Err, inl, inr, re
 use Rattle.std.proofs.lemmas.Result.{err_from_is_err_and}
 use Rattle.std.specs.Cow.{cow_str_bytes}
 use Rattle.std.specs.Prelude.{⊤}
-use Rattle.plural_commands.specs.Answer.{AnswersQuery, AnswersWords, run_origin}
-use Rattle.plural_commands.specs.Commands.{command_of}
-use Rattle.plural_commands.specs.Inner.CallAnswers.{Text}
-use Rattle.plural_commands.specs.Inner.PrivateViews.{query_view}
-use Rattle.plural_commands.specs.Queries.{Asks}
-use Rattle.plural_commands.specs.declared.error.RunError.{RunError}
-use Rattle.plural_commands.proofs.Faults.{fault_of_first, handed_on, no_error, same_error, same_fault}
+use Rattle.plural_commands.specs.Answer.{AnswersQuery, AnswersWords}
+use Rattle.plural_queries.specs.RunFaults.{run_origin}
+use Rattle.plural_queries.specs.Commands.{command_of}
+use Rattle.plural_queries.specs.CallAnswers.{Text}
+use Rattle.plural_queries.specs.QueryViews.{query_view}
+use Rattle.plural_queries.specs.Queries.{Asks}
+use Rattle.plural_queries.specs.declared.error.RunError.{RunError}
+use Rattle.plural_queries.proofs.Faults.{fault_of_first, handed_on, no_error, same_error, same_fault}
 use Rattle.plural_documents.proofs.InputLemmas.{implied, some_input, without_reading}
-use Rattle.plural_commands.proofs.Questions.{needs, needs_input, settled}
+use Rattle.plural_queries.proofs.Questions.{needs, needs_input, settled}
 use Rattle.plural_commands.proofs.Readings.{faultless, not_blamed, not_written}
 use Rattle.plural_commands.proofs.run.run.Goals as goal
 

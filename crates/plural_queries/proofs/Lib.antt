@@ -1,0 +1,4 @@
+pub mod Integers
+pub mod Faults
+pub mod KeptDocuments
+pub mod Questions

@@ -1,0 +1,2 @@
+-- No definitions of the subject: views of private types.
+pub mod PrivateViews
