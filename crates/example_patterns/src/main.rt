@@ -14,11 +14,18 @@ fn main(rt: HostRuntime) -> anyhow::Result<()> {
     let data = PluralRulesData::from_texts(alloc, None, one, None, None, None)?;
     let cardinal = &PluralRules::from_data(data);
     let ordinal = cardinal;
+    print_items(&rt, &pattern, &Rules { cardinal, ordinal })
+}
+
+fn print_items(
+    rt: &HostRuntime,
+    pattern: &Pattern<'_>,
+    rules: &Rules<'_, '_>,
+) -> anyhow::Result<()> {
     for number in ["0", "1", "1.0", "2"] {
         let name = "n";
         let value = Value::Number(number);
-        let rules = Rules { cardinal, ordinal };
-        let said = format(alloc, &pattern, &[Argument { name, value }], &rules)?;
+        let said = format(rt.alloc(), pattern, &[Argument { name, value }], rules)?;
         println!(rt; "{}", std::str::from_utf8(&said)?)?;
     }
     Ok(())
