@@ -44,8 +44,8 @@ pub fn read_messages<S: RulesOfLocales>(
 /// Returns what is told of a file that isn't read, and no messages.
 pub fn no_messages(alloc: Global, text: &str) -> Result<FileMessages, AllocError> {
     let mut gathered = Gathered::new(alloc);
-    gathered.tell_not_read(text)?;
-    gathered.finish()
+    let told = gathered.tell_not_read(text);
+    gathered.finish(told)
 }
 
 // The kind of a file.

@@ -22,23 +22,25 @@ pub(crate) fn tell_fault(
 // Tells the byte that isn't UTF-8.
 fn tell_no_text(gathered: &mut Gathered, bytes: &[u8], place: usize) -> Result<(), AllocError> {
     let byte = bytes.get(place).copied().unwrap_or(0);
-    let text = format!(in gathered.alloc;
-        "the byte 0x{byte:02x} isn't UTF-8: convert the file to UTF-8"
-    )?;
-    gathered.tell(Some(line_of(bytes, place)), NoticeCode::Charset, text)
+    gathered.tell(
+        Some(line_of(bytes, place)),
+        NoticeCode::Charset,
+        format_args!("the byte 0x{byte:02x} isn't UTF-8: convert the file to UTF-8"),
+    )
 }
 
 // Tells what isn't JSON.
 fn tell_no_json(gathered: &mut Gathered, fault: &Error) -> Result<(), AllocError> {
     let column = fault.column();
+    let line = u64::try_from(fault.line()).unwrap_or(u64::MAX);
     let what = if fault.is_eof() {
         "it ends there"
     } else {
         "what stands there can't be read"
     };
-    let text = format!(in gathered.alloc;
-        "it is no JSON at column {column}, {what}: correct it there"
-    )?;
-    let line = u64::try_from(fault.line()).unwrap_or(u64::MAX);
-    gathered.tell(Some(line), NoticeCode::Syntax, text)
+    gathered.tell(
+        Some(line),
+        NoticeCode::Syntax,
+        format_args!("it is no JSON at column {column}, {what}: correct it there"),
+    )
 }

@@ -13,23 +13,32 @@ const MOST_TOLD: u64 = 5;
 
 // The charset that a catalog names, if it is another one than UTF-8, and the bytes are no UTF-8.
 pub(crate) fn other_charset(catalog: &Catalog) -> Option<&str> {
-    if !catalog
-        .faults
-        .iter()
-        .any(|it| matches!(it.cause, Cause::NotUtf8))
-    {
+    if !has_other_bytes(catalog) {
         return None;
     }
-    let charset = str::from_utf8(catalog.charset()?).ok()?;
-    if charset.eq_ignore_ascii_case("UTF-8")
+    match str::from_utf8(catalog.charset()?) {
+        Ok(charset) if !is_utf8(charset) => Some(charset),
+        _ => None,
+    }
+}
+
+// Whether bytes of a catalog are no UTF-8.
+fn has_other_bytes(catalog: &Catalog) -> bool {
+    for it in catalog.faults.iter() {
+        if let Cause::NotUtf8 = it.cause {
+            return true;
+        }
+    }
+    false
+}
+
+// Whether a charset is UTF-8, or none.
+fn is_utf8(charset: &str) -> bool {
+    charset.eq_ignore_ascii_case("UTF-8")
         || charset.eq_ignore_ascii_case("UTF8")
         || charset.eq_ignore_ascii_case("ASCII")
         || charset.eq_ignore_ascii_case("US-ASCII")
         || charset == "CHARSET"
-    {
-        return None;
-    }
-    Some(charset)
 }
 
 // How many lines were told, and how many weren't.
@@ -46,12 +55,8 @@ pub(crate) fn tell_faults(gathered: &mut Gathered, catalog: &Catalog) -> Result<
     let mut rest = catalog.faults.as_slice();
     for (index, entry) in catalog.entries.iter().enumerate() {
         let (before, behind) = cut_at_line(rest, entry.line);
+        let (inside, after) = cut_at_line(behind, line_behind(catalog, index));
         tell_strays(gathered, before, &mut told)?;
-        let end = match catalog.entries.get(index.saturating_add(1)) {
-            Some(next) => next.line,
-            None => usize::MAX,
-        };
-        let (inside, after) = cut_at_line(behind, end);
         tell_inside(gathered, entry, inside, &mut told)?;
         rest = after;
     }
@@ -59,9 +64,23 @@ pub(crate) fn tell_faults(gathered: &mut Gathered, catalog: &Catalog) -> Result<
     tell_more(gathered, told.more)
 }
 
+// The line of the entry behind one.
+fn line_behind(catalog: &Catalog, index: usize) -> usize {
+    match catalog.entries.get(index.saturating_add(1)) {
+        Some(next) => next.line,
+        None => usize::MAX,
+    }
+}
+
 // The faults before a line, and those from it on.
 fn cut_at_line(faults: &[Fault], line: usize) -> (&[Fault], &[Fault]) {
-    let count = faults.iter().take_while(|it| it.line < line).count();
+    let mut count = 0usize;
+    for it in faults {
+        if it.line >= line {
+            break;
+        }
+        count = count.saturating_add(1);
+    }
     match faults.split_at_checked(count) {
         Some(parts) => parts,
         None => (faults, &[]),
@@ -78,13 +97,10 @@ fn tell_inside(
     let Standing::Broken = standing_of(entry) else {
         return tell_strays(gathered, faults, told);
     };
+    let text = "a line before it can't be read: correct it";
     match faults.first() {
         Some(fault) => tell(gathered, fault)?,
-        None => {
-            let text = "a line before it can't be read: correct it";
-            let text = String::from_str(gathered.alloc, text)?;
-            gathered.tell(Some(entry.line as u64), NoticeCode::Syntax, text)?;
-        }
+        None => gathered.tell(Some(entry.line as u64), NoticeCode::Syntax, text)?,
     }
     gathered.count(Fate::LeftOut, 1)
 }
@@ -108,13 +124,11 @@ fn tell_strays(
 
 // Tells a fault.
 fn tell(gathered: &mut Gathered, fault: &Fault) -> Result<(), AllocError> {
-    let cause = fault.cause;
-    let text = format!(in gathered.alloc; "{cause}")?;
-    let code = match cause {
+    let code = match fault.cause {
         Cause::NotUtf8 => NoticeCode::Charset,
         _ => NoticeCode::Syntax,
     };
-    gathered.tell(Some(fault.line as u64), code, text)
+    gathered.tell(Some(fault.line as u64), code, fault.cause)
 }
 
 // Tells how many lines aren't told.
@@ -122,6 +136,6 @@ fn tell_more(gathered: &mut Gathered, count: u64) -> Result<(), AllocError> {
     if count == 0 {
         return Ok(());
     }
-    let text = format!(in gathered.alloc; "and {count} more lines that can't be read")?;
+    let text = format_args!("and {count} more lines that can't be read");
     gathered.tell(None, NoticeCode::Syntax, text)
 }

@@ -27,7 +27,7 @@ pub(crate) fn standing_of(entry: &Entry) -> Standing {
     if entry.is_obsolete {
         return Standing::Obsolete;
     }
-    if !entry.is_faulty && entry.forms.iter().all(|it| it.bytes.is_empty()) {
+    if !entry.is_faulty && !has_text(entry) {
         return Standing::Untranslated;
     }
     if entry.is_fuzzy() {
@@ -38,6 +38,16 @@ pub(crate) fn standing_of(entry: &Entry) -> Standing {
     } else {
         Standing::Whole
     }
+}
+
+// Whether a form has a text.
+fn has_text(entry: &Entry) -> bool {
+    for it in entry.forms.iter() {
+        if !it.bytes.is_empty() {
+            return true;
+        }
+    }
+    false
 }
 
 // How many messages with plural forms stand so.
@@ -62,14 +72,15 @@ impl Standings {
 
     // Counts a message.
     fn add(&mut self, standing: Standing) -> Result<(), AllocError> {
-        match standing {
-            Standing::Single => (),
-            Standing::Untranslated => self.untranslated = sum(self.untranslated, 1)?,
-            Standing::Fuzzy => self.fuzzy = sum(self.fuzzy, 1)?,
-            Standing::Obsolete => self.obsolete = sum(self.obsolete, 1)?,
-            Standing::Broken => self.broken = sum(self.broken, 1)?,
-            Standing::Whole => self.whole = sum(self.whole, 1)?,
-        }
+        let count = match standing {
+            Standing::Single => return Ok(()),
+            Standing::Untranslated => &mut self.untranslated,
+            Standing::Fuzzy => &mut self.fuzzy,
+            Standing::Obsolete => &mut self.obsolete,
+            Standing::Broken => &mut self.broken,
+            Standing::Whole => &mut self.whole,
+        };
+        *count = sum(*count, 1)?;
         Ok(())
     }
 }
