@@ -22,8 +22,8 @@ pub(crate) struct MessageHead<'a> {
     pub(crate) line: u64,
 }
 
-// What is gathered of a file. It is passed on by reference, and has one owner: what a function
-// returns with an error drops nothing then.
+// What is gathered of a file. If memory runs out, that is kept, and told in the end alone: nothing that
+// was gathered is returned then.
 #[derive(Drop)]
 pub(crate) struct Gathered {
     pub(crate) alloc: Global,
@@ -43,6 +43,8 @@ pub(crate) struct Gathered {
     lines: Vec<FormLine>,
     placeholder: Option<String>,
     arguments: Vec<Value>,
+    // Whether memory ran out.
+    has_failed: bool,
 }
 
 impl Gathered {
@@ -63,39 +65,46 @@ impl Gathered {
             lines: Vec::new(alloc),
             placeholder: None,
             arguments: Vec::new(alloc),
+            has_failed: false,
         }
     }
 
+    // Keeps whether memory ran out.
+    pub(crate) fn keep(&mut self, done: Result<(), AllocError>) {
+        if let Err(_) = done {
+            self.has_failed = true;
+        }
+    }
+
+    // Keeps that memory ran out.
+    pub(crate) fn fail(&mut self) {
+        self.has_failed = true;
+    }
+
     // Keeps the name of the file.
-    pub(crate) fn keep_name(&mut self, name: &str) -> Result<(), AllocError> {
-        self.name = Some(String::from_str(self.alloc, name)?);
-        Ok(())
+    pub(crate) fn keep_name(&mut self, name: &str) {
+        match String::from_str(self.alloc, name) {
+            Ok(name) => self.name = Some(name),
+            Err(_) => self.fail(),
+        }
     }
 
     // Keeps the locale of the file.
-    pub(crate) fn keep_locale(&mut self, locale: &str) -> Result<(), AllocError> {
-        self.locale = String::from_str(self.alloc, locale)?;
-        Ok(())
+    pub(crate) fn keep_locale(&mut self, locale: &str) {
+        match String::from_str(self.alloc, locale) {
+            Ok(locale) => self.locale = locale,
+            Err(_) => self.fail(),
+        }
     }
 
     // Tells what is wrong.
-    pub(crate) fn tell<T: Display + Drop>(
-        &mut self,
-        line: Option<u64>,
-        code: NoticeCode,
-        text: T,
-    ) -> Result<(), AllocError> {
-        self.add_notice(Severity::Error, line, code, text)
+    pub(crate) fn tell<T: Display + Drop>(&mut self, line: Option<u64>, code: NoticeCode, text: T) {
+        self.add_notice(Severity::Error, line, code, text);
     }
 
     // Tells what isn't checked, or how something is taken.
-    pub(crate) fn note<T: Display + Drop>(
-        &mut self,
-        line: Option<u64>,
-        code: NoticeCode,
-        text: T,
-    ) -> Result<(), AllocError> {
-        self.add_notice(Severity::Note, line, code, text)
+    pub(crate) fn note<T: Display + Drop>(&mut self, line: Option<u64>, code: NoticeCode, text: T) {
+        self.add_notice(Severity::Note, line, code, text);
     }
 
     // Tells why so many messages are left out.
@@ -105,9 +114,9 @@ impl Gathered {
         line: Option<u64>,
         code: NoticeCode,
         text: T,
-    ) -> Result<(), AllocError> {
-        self.tell(line, code, text)?;
-        self.count(Fate::LeftOut, count)
+    ) {
+        self.tell(line, code, text);
+        self.count(Fate::LeftOut, count);
     }
 
     // Adds a notice.
@@ -117,45 +126,49 @@ impl Gathered {
         line: Option<u64>,
         code: NoticeCode,
         text: T,
-    ) -> Result<(), AllocError> {
+    ) {
         match String::format(self.alloc, text) {
-            Ok(text) => push(
-                &mut self.notices,
-                FileNotice {
-                    line,
-                    severity,
-                    code,
-                    text,
-                },
-            ),
-            Err(error) => Err(error),
+            Ok(text) => self.push_notice(FileNotice {
+                line,
+                severity,
+                code,
+                text,
+            }),
+            Err(_) => self.fail(),
         }
     }
 
+    // Appends a notice.
+    fn push_notice(&mut self, notice: FileNotice) {
+        let done = push(&mut self.notices, notice);
+        self.keep(done);
+    }
+
     // Tells that a file isn't read.
-    pub(crate) fn tell_not_read(&mut self, text: &str) -> Result<(), AllocError> {
-        self.tell(None, NoticeCode::NotRead, text)
+    pub(crate) fn tell_not_read(&mut self, text: &str) {
+        self.tell(None, NoticeCode::NotRead, text);
     }
 
     // Tells that a file has no messages.
-    pub(crate) fn note_no_messages(&mut self) -> Result<(), AllocError> {
+    pub(crate) fn note_no_messages(&mut self) {
         let text = "it has no messages with plural forms";
-        self.note(None, NoticeCode::NoMessages, text)
+        self.note(None, NoticeCode::NoMessages, text);
     }
 
     // Counts messages.
-    pub(crate) fn count(&mut self, fate: Fate, count: u64) -> Result<(), AllocError> {
-        self.counts.add(fate, count)
+    pub(crate) fn count(&mut self, fate: Fate, count: u64) {
+        let done = self.counts.add(fate, count);
+        self.keep(done);
     }
 
     // Whether there is a message of this kind and key already, which is told.
-    pub(crate) fn is_twice(&mut self, head: MessageHead<'_>) -> Result<bool, AllocError> {
+    pub(crate) fn is_twice(&mut self, head: MessageHead<'_>) -> bool {
         match self.line_of(head) {
             Some(known) => {
-                self.tell_twice(head, known)?;
-                Ok(true)
+                self.tell_twice(head, known);
+                true
             }
-            None => Ok(false),
+            None => false,
         }
     }
 
@@ -168,7 +181,7 @@ impl Gathered {
     }
 
     // Tells that a message stands twice.
-    fn tell_twice(&mut self, head: MessageHead<'_>, known: u64) -> Result<(), AllocError> {
+    fn tell_twice(&mut self, head: MessageHead<'_>, known: u64) {
         let shown = printed_name(head.key);
         self.leave_out(
             1,
@@ -177,93 +190,103 @@ impl Gathered {
             format_args!(
                 "'{shown}' stands in line {known}, too, and that one is taken: remove one of them"
             ),
-        )
+        );
     }
 
-    // Adds a form to the message.
-    pub(crate) fn put_form(&mut self, form: Form, text: String) -> Result<(), AllocError> {
-        put(
-            &mut self.forms,
-            self.alloc,
-            form.as_str(),
-            Value::String(text),
-        )
+    // Adds a form to the message, with the text that was made, unless memory ran out.
+    pub(crate) fn put_form(&mut self, form: Form, text: Result<String, AllocError>) {
+        let done = match text {
+            Ok(text) => put(
+                &mut self.forms,
+                self.alloc,
+                form.as_str(),
+                Value::String(text),
+            ),
+            Err(error) => Err(error),
+        };
+        self.keep(done);
     }
 
     // Adds the line of a form to the message.
-    pub(crate) fn put_line(&mut self, form: Form, line: u64) -> Result<(), AllocError> {
-        push(&mut self.lines, FormLine { form, line })
+    pub(crate) fn put_line(&mut self, form: Form, line: u64) {
+        let done = push(&mut self.lines, FormLine { form, line });
+        self.keep(done);
     }
 
     // Adds what stands for the number to the message.
-    pub(crate) fn put_placeholder<T: Display + Drop>(&mut self, text: T) -> Result<(), AllocError> {
-        self.placeholder = Some(String::format(self.alloc, text)?);
-        Ok(())
-    }
-
-    // Adds an argument of the source to the message.
-    pub(crate) fn put_argument<T: Display + Drop>(&mut self, text: T) -> Result<(), AllocError> {
+    pub(crate) fn put_placeholder<T: Display + Drop>(&mut self, text: T) {
         match String::format(self.alloc, text) {
-            Ok(text) => push(&mut self.arguments, Value::String(text)),
-            Err(error) => Err(error),
+            Ok(text) => self.placeholder = Some(text),
+            Err(_) => self.fail(),
         }
     }
 
+    // Adds an argument of the source to the message, with the text that was made, unless memory ran
+    // out.
+    pub(crate) fn put_argument(&mut self, text: Result<String, AllocError>) {
+        let done = match text {
+            Ok(text) => push(&mut self.arguments, Value::String(text)),
+            Err(error) => Err(error),
+        };
+        self.keep(done);
+    }
+
     // Ends the message, whose forms were added, and its arguments, if they are known.
-    pub(crate) fn end(
-        &mut self,
-        head: MessageHead<'_>,
-        has_source: bool,
-    ) -> Result<(), AllocError> {
-        self.end_source(head, has_source)?;
-        self.end_forms(head)?;
-        self.end_lines(head)
+    pub(crate) fn end(&mut self, head: MessageHead<'_>, has_source: bool) {
+        self.end_source(head, has_source);
+        self.end_forms(head);
+        self.end_lines(head);
     }
 
     // Adds a message that is a pattern.
-    pub(crate) fn add_pattern(
-        &mut self,
-        head: MessageHead<'_>,
-        text: &str,
-    ) -> Result<(), AllocError> {
-        let text = Value::try_from_str(self.alloc, text)?;
-        put(&mut self.patterns, self.alloc, head.key, text)?;
-        self.end_lines(head)
+    pub(crate) fn add_pattern(&mut self, head: MessageHead<'_>, text: &str) {
+        let done = match Value::try_from_str(self.alloc, text) {
+            Ok(text) => put(&mut self.patterns, self.alloc, head.key, text),
+            Err(error) => Err(error),
+        };
+        self.keep(done);
+        self.end_lines(head);
     }
 
     // Puts the forms of a message.
-    fn end_forms(&mut self, head: MessageHead<'_>) -> Result<(), AllocError> {
+    fn end_forms(&mut self, head: MessageHead<'_>) {
         let alloc = self.alloc;
         let forms = mem::replace(&mut self.forms, Map::new(alloc));
         let members = match head.kind {
             MessageKind::Ordinal => &mut self.ordinal,
             _ => &mut self.cardinal,
         };
-        put(members, alloc, head.key, Value::Object(forms))
+        let done = put(members, alloc, head.key, Value::Object(forms));
+        self.keep(done);
     }
 
     // Puts the lines of a message.
-    fn end_lines(&mut self, head: MessageHead<'_>) -> Result<(), AllocError> {
+    fn end_lines(&mut self, head: MessageHead<'_>) {
+        let alloc = self.alloc;
         let lines = MessageLines {
             line: head.line,
-            forms: mem::replace(&mut self.lines, Vec::new(self.alloc)),
+            forms: mem::replace(&mut self.lines, Vec::new(alloc)),
             placeholder: mem::replace(&mut self.placeholder, None),
         };
-        self.places.insert(self.alloc, self.locale.as_str(), head.kind, head.key, lines)
+        let locale = self.locale.as_str();
+        let done = self
+            .places
+            .insert(alloc, locale, head.kind, head.key, lines);
+        self.keep(done);
     }
 
     // Puts the arguments of a message's source. Two messages of one key share them: where they
     // differ, they aren't known.
-    fn end_source(&mut self, head: MessageHead<'_>, has_source: bool) -> Result<(), AllocError> {
+    fn end_source(&mut self, head: MessageHead<'_>, has_source: bool) {
         let source = self.taken_source();
         if has_source && !self.is_shared(head) {
-            return put(&mut self.source, self.alloc, head.key, source);
+            let done = put(&mut self.source, self.alloc, head.key, source);
+            return self.keep(done);
         }
         if !has_source || self.source.get(head.key) != Some(&source) {
             drop(self.source.remove(head.key));
         }
         drop(source);
-        Ok(())
     }
 
     // The arguments of the message's source, which are taken.
@@ -279,24 +302,17 @@ impl Gathered {
         }
     }
 
-    // What was gathered, unless that failed.
-    pub(crate) fn finish(
-        mut self,
-        gathered: Result<(), AllocError>,
-    ) -> Result<FileMessages, AllocError> {
+    // What was gathered. The only error is out of memory, at any time before.
+    pub(crate) fn finish(mut self) -> Result<FileMessages, AllocError> {
         let mut document = Map::new(self.alloc);
-        let filled = match gathered {
-            Ok(()) => self.fill(&mut document),
-            Err(error) => Err(error),
-        };
-        match filled {
-            Ok(()) => Ok(self.into_messages(document)),
-            Err(error) => {
-                drop(document);
-                drop(self);
-                Err(error)
-            }
+        let filled = self.fill(&mut document);
+        self.keep(filled);
+        if self.has_failed {
+            drop(document);
+            drop(self);
+            return Err(AllocError);
         }
+        Ok(self.into_messages(document))
     }
 
     // These messages, with their document.

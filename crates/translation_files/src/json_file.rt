@@ -68,9 +68,9 @@ pub fn read_json<S: RulesOfLocales>(
         Ok(value) if is_document(&value) => placed_document(alloc, text_of(bytes), value),
         Ok(value) => {
             let mut gathered = Gathered::new(alloc);
-            let read = gather(&mut gathered, name, bytes, &value, rules, locale);
+            gather(&mut gathered, name, bytes, &value, rules, locale);
             drop(value);
-            gathered.finish(read)
+            gathered.finish()
         }
         Err(fault) => no_json(alloc, bytes, &fault),
     }
@@ -82,8 +82,8 @@ fn no_json(alloc: Global, bytes: &[u8], fault: &Error) -> Result<FileMessages, A
         return Err(AllocError);
     }
     let mut gathered = Gathered::new(alloc);
-    let told = tell_fault(&mut gathered, bytes, fault);
-    gathered.finish(told)
+    tell_fault(&mut gathered, bytes, fault);
+    gathered.finish()
 }
 
 /// Returns whether a JSON value is a document of messages, as [`message_report::found_in_files`]
@@ -182,19 +182,18 @@ fn keep_locale<S: RulesOfLocales>(
     named: Option<&str>,
     name: &str,
     count: u64,
-) -> Result<bool, AllocError> {
-    match push_locale(&mut gathered.locale, named, name, rules)? {
-        None => Ok(true),
-        Some(fault) => {
-            gathered.leave_out(
-                count,
-                None,
-                NoticeCode::Language,
-                format_args!("{fault}; messages left out: {count}"),
-            )?;
-            Ok(false)
-        }
+) -> bool {
+    match push_locale(&mut gathered.locale, named, name, rules) {
+        Ok(None) => return true,
+        Ok(Some(fault)) => gathered.leave_out(
+            count,
+            None,
+            NoticeCode::Language,
+            format_args!("{fault}; messages left out: {count}"),
+        ),
+        Err(_) => gathered.fail(),
     }
+    false
 }
 
 // Whether a language has a form zero of its own, or isn't known.
@@ -241,13 +240,13 @@ fn gather<S: RulesOfLocales>(
     value: &Value,
     rules: &S,
     locale: Option<&str>,
-) -> Result<(), AllocError> {
+) {
     if let Some(told) = told_file(value) {
         return gather_told(gathered, value, told, rules, locale);
     }
     match told_catalog(value) {
         Some(told) => {
-            gathered.keep_name(told.name)?;
+            gathered.keep_name(told.name);
             gather_po(gathered, told.name, told.text.as_bytes(), rules, locale)
         }
         None => gather_texts(gathered, name, text_of(bytes), rules, locale),
@@ -261,15 +260,14 @@ fn gather_told<S: RulesOfLocales>(
     told: ToldFile<'_>,
     rules: &S,
     locale: Option<&str>,
-) -> Result<(), AllocError> {
-    gathered.keep_name(told.name)?;
-    add_notices(gathered, value)?;
+) {
+    gathered.keep_name(told.name);
+    add_notices(gathered, value);
     let named = locale.or(told.locale);
     let count = told.messages.len() as u64;
-    if count > 0 && keep_locale(gathered, rules, named, told.name, count)? {
-        add_told(gathered, told.messages)?;
+    if count > 0 && keep_locale(gathered, rules, named, told.name, count) {
+        add_told(gathered, told.messages);
     }
-    Ok(())
 }
 
 // Gathers the texts of a file.
@@ -279,15 +277,13 @@ fn gather_texts<S: RulesOfLocales>(
     text: &str,
     rules: &S,
     locale: Option<&str>,
-) -> Result<(), AllocError> {
+) {
     let mut scratch = Scratch::new(gathered.alloc);
     let mut texts = JsonTexts::new(gathered.alloc);
-    let read = match texts.fill(text, &mut scratch) {
-        Ok(()) => gather_found(gathered, name, &texts, rules, locale),
-        Err(error) => Err(error),
-    };
+    let filled = texts.fill(text, &mut scratch);
+    gathered.keep(filled);
+    gather_found(gathered, name, &texts, rules, locale);
     drop(texts);
-    read
 }
 
 // Gathers the texts that were found in a file.
@@ -297,18 +293,14 @@ fn gather_found<S: RulesOfLocales>(
     texts: &JsonTexts<'_>,
     rules: &S,
     locale: Option<&str>,
-) -> Result<(), AllocError> {
-    tell_repeated(gathered, &texts.keys, &texts.repeated)?;
+) {
+    tell_repeated(gathered, &texts.keys, &texts.repeated);
     let mut found = FoundMessages::new(gathered.alloc);
-    let read = match found.fill(texts) {
-        Ok(()) => {
-            let named = locale.or(texts.locale).or(locale_of_name(name, rules));
-            add_messages(gathered, name, &texts.keys, &found, rules, named)
-        }
-        Err(error) => Err(error),
-    };
+    let filled = found.fill(texts);
+    gathered.keep(filled);
+    let named = locale.or(texts.locale).or(locale_of_name(name, rules));
+    add_messages(gathered, name, &texts.keys, &found, rules, named);
     drop(found);
-    read
 }
 
 // Adds the messages that were found in a file.
@@ -319,14 +311,13 @@ fn add_messages<'a, S: RulesOfLocales>(
     found: &FoundMessages<'a>,
     rules: &S,
     named: Option<&str>,
-) -> Result<(), AllocError> {
+) {
     let count = found.count();
     if count == 0 {
         return gathered.note_no_messages();
     }
-    if keep_locale(gathered, rules, named, name, count)? {
+    if keep_locale(gathered, rules, named, name, count) {
         let has_zero = has_zero(rules, gathered.locale.as_str());
-        add_found(gathered, keys, found, has_zero)?;
+        add_found(gathered, keys, found, has_zero);
     }
-    Ok(())
 }

@@ -43,8 +43,8 @@ pub fn read_po<S: RulesOfLocales>(
     locale: Option<&str>,
 ) -> Result<FileMessages, AllocError> {
     let mut gathered = Gathered::new(alloc);
-    let read = gather_po(&mut gathered, name, bytes, rules, locale);
-    gathered.finish(read)
+    gather_po(&mut gathered, name, bytes, rules, locale);
+    gathered.finish()
 }
 
 // Gathers what is in a catalog.
@@ -54,17 +54,15 @@ pub(crate) fn gather_po<S: RulesOfLocales>(
     bytes: &[u8],
     rules: &S,
     locale: Option<&str>,
-) -> Result<(), AllocError> {
+) {
     match Catalog::read(gathered.alloc, bytes) {
         Ok(mut catalog) => {
-            let read = match catalog.faults.sort_by_key(|it| it.line) {
-                Ok(()) => gather_catalog(gathered, &catalog, name, rules, locale),
-                Err(error) => Err(error),
-            };
+            let sorted = catalog.faults.sort_by_key(|it| it.line);
+            gathered.keep(sorted);
+            gather_catalog(gathered, &catalog, name, rules, locale);
             drop(catalog);
-            read
         }
-        Err(error) => Err(error),
+        Err(_) => gathered.fail(),
     }
 }
 
@@ -75,7 +73,7 @@ fn gather_catalog<S: RulesOfLocales>(
     name: &str,
     rules: &S,
     locale: Option<&str>,
-) -> Result<(), AllocError> {
+) {
     if catalog.entries.is_empty() {
         let text = "it is no file of messages: name a file of gettext, i18next or ARB";
         return gathered.tell_not_read(text);
@@ -83,16 +81,12 @@ fn gather_catalog<S: RulesOfLocales>(
     if let Some(charset) = other_charset(catalog) {
         return refuse_charset(gathered, catalog, charset);
     }
-    read_catalog(gathered, catalog, name, rules, locale)
+    read_catalog(gathered, catalog, name, rules, locale);
 }
 
 // Tells that the file is to be converted.
-fn refuse_charset(
-    gathered: &mut Gathered,
-    catalog: &Catalog,
-    charset: &str,
-) -> Result<(), AllocError> {
-    let count = standings_of(catalog)?.count();
+fn refuse_charset(gathered: &mut Gathered, catalog: &Catalog, charset: &str) {
+    let count = standings_of(catalog).count();
     let shown = printed_name(charset);
     let left = left_out(count);
     gathered.leave_out(
@@ -102,7 +96,7 @@ fn refuse_charset(
         format_args!(
             "its charset is {shown}, and UTF-8 is read: convert the file by msgconv --to-code=UTF-8; {count} {left}"
         ),
-    )
+    );
 }
 
 // Reads the messages of a catalog.
@@ -112,15 +106,15 @@ fn read_catalog<S: RulesOfLocales>(
     name: &str,
     rules: &S,
     locale: Option<&str>,
-) -> Result<(), AllocError> {
-    let standings = standings_of(catalog)?;
-    tell_faults(gathered, catalog)?;
+) {
+    let standings = standings_of(catalog);
+    tell_faults(gathered, catalog);
     if standings.count() == 0 {
         return gathered.note_no_messages();
     }
-    tell_left_out(gathered, &standings)?;
+    tell_left_out(gathered, &standings);
     if standings.whole == 0 {
-        return Ok(());
+        return;
     }
     let file = PoFile {
         catalog,
@@ -128,16 +122,16 @@ fn read_catalog<S: RulesOfLocales>(
         rules,
         locale,
     };
-    read_messages(gathered, &file)
+    read_messages(gathered, &file);
 }
 
 // Tells how many messages need no check.
-fn tell_left_out(gathered: &mut Gathered, standings: &Standings) -> Result<(), AllocError> {
+fn tell_left_out(gathered: &mut Gathered, standings: &Standings) {
     let untranslated = standings.untranslated;
     let fuzzy = standings.fuzzy;
     let obsolete = standings.obsolete;
     if untranslated == 0 && fuzzy == 0 && obsolete == 0 {
-        return Ok(());
+        return;
     }
     gathered.note(
         None,
@@ -145,8 +139,8 @@ fn tell_left_out(gathered: &mut Gathered, standings: &Standings) -> Result<(), A
         format_args!(
             "messages without a text {untranslated}, fuzzy {fuzzy}, obsolete {obsolete}: left out"
         ),
-    )?;
-    gathered.count(Fate::LeftOut, untranslated)?;
-    gathered.count(Fate::LeftOut, fuzzy)?;
-    gathered.count(Fate::LeftOut, obsolete)
+    );
+    gathered.count(Fate::LeftOut, untranslated);
+    gathered.count(Fate::LeftOut, fuzzy);
+    gathered.count(Fate::LeftOut, obsolete);
 }

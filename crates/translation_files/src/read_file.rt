@@ -44,8 +44,8 @@ pub fn read_messages<S: RulesOfLocales>(
 /// Returns what is told of a file that isn't read, and no messages.
 pub fn no_messages(alloc: Global, text: &str) -> Result<FileMessages, AllocError> {
     let mut gathered = Gathered::new(alloc);
-    let told = gathered.tell_not_read(text);
-    gathered.finish(told)
+    gathered.tell_not_read(text);
+    gathered.finish()
 }
 
 // The kind of a file.

@@ -57,12 +57,12 @@ pub(crate) fn add_android_message(
     gathered: &mut Gathered,
     head: MessageHead<'_>,
     forms: &[AndroidForm<'_>],
-) -> Result<(), AllocError> {
+) {
     if have_too_many(forms) {
         return tell_too_many(gathered, head);
     }
-    if gathered.is_twice(head)? {
-        return Ok(());
+    if gathered.is_twice(head) {
+        return;
     }
     let longest = longest_of(forms);
     let singular = singular_of(forms).unwrap_or(longest);
@@ -72,7 +72,7 @@ pub(crate) fn add_android_message(
         forms,
         longest,
         android_number(longest, singular),
-    )
+    );
 }
 
 // Whether a form has more arguments than are read.
@@ -86,14 +86,14 @@ fn have_too_many(forms: &[AndroidForm<'_>]) -> bool {
 }
 
 // Tells that a text has more arguments than are read.
-fn tell_too_many(gathered: &mut Gathered, head: MessageHead<'_>) -> Result<(), AllocError> {
+fn tell_too_many(gathered: &mut Gathered, head: MessageHead<'_>) {
     let shown = printed_name(head.key);
     gathered.leave_out(
         1,
         Some(head.line),
         NoticeCode::TooMany,
         format_args!("'{shown}' has a text with more than 100 arguments: cut it"),
-    )
+    );
 }
 
 // The pieces of the form with the most arguments: of several, that of the last category.
@@ -127,11 +127,11 @@ fn add_forms(
     forms: &[AndroidForm<'_>],
     longest: &[AndroidPiece<'_>],
     number: AndroidNumber<'_>,
-) -> Result<(), AllocError> {
+) {
     for form in forms {
-        put_form(gathered, form, number)?;
+        put_form(gathered, form, number);
     }
-    end(gathered, head, longest, number)?;
+    end(gathered, head, longest, number);
     match number {
         AndroidNumber::Unclear => note_unclear(gathered, head.line, longest),
         _ => gathered.count(Fate::Checked, 1),
@@ -139,17 +139,11 @@ fn add_forms(
 }
 
 // Puts a form.
-fn put_form(
-    gathered: &mut Gathered,
-    form: &AndroidForm<'_>,
-    number: AndroidNumber<'_>,
-) -> Result<(), AllocError> {
+fn put_form(gathered: &mut Gathered, form: &AndroidForm<'_>, number: AndroidNumber<'_>) {
     let name = Form::Category(form.category);
-    match marked(gathered.alloc, &form.pieces, number) {
-        Ok(text) => gathered.put_form(name, text)?,
-        Err(error) => return Err(error),
-    }
-    gathered.put_line(name, form.line)
+    let text = marked(gathered.alloc, &form.pieces, number);
+    gathered.put_form(name, text);
+    gathered.put_line(name, form.line);
 }
 
 // A text with `{}` for its number.
@@ -198,38 +192,36 @@ fn end(
     head: MessageHead<'_>,
     longest: &[AndroidPiece<'_>],
     number: AndroidNumber<'_>,
-) -> Result<(), AllocError> {
+) {
     if let AndroidNumber::Known(known) = number {
-        gathered.put_placeholder(text_of(known.text))?;
+        gathered.put_placeholder(text_of(known.text));
         return gathered.end(head, false);
     }
     for piece in longest {
         if let AndroidPiece::Argument(argument) = piece {
-            gathered.put_argument(text_of(argument.text))?;
+            let text = String::from_str(gathered.alloc, text_of(argument.text));
+            gathered.put_argument(text);
         }
     }
-    gathered.end(head, true)
+    gathered.end(head, true);
 }
 
 // Notes that it isn't clear which argument is the number, and counts the message.
-fn note_unclear(
-    gathered: &mut Gathered,
-    line: u64,
-    longest: &[AndroidPiece<'_>],
-) -> Result<(), AllocError> {
+fn note_unclear(gathered: &mut Gathered, line: u64, longest: &[AndroidPiece<'_>]) {
     let which = if count_arguments(longest) == 1 {
         "whether"
     } else {
         "which of"
     };
     let mut names = String::new(gathered.alloc);
-    push_names(&mut names, longest)?;
+    let pushed = push_names(&mut names, longest);
+    gathered.keep(pushed);
     gathered.note(
         Some(line),
         NoticeCode::NumberUnclear,
         format_args!("{which} {names} is the number isn't clear: it isn't checked"),
-    )?;
-    gathered.count(Fate::Noted, 1)
+    );
+    gathered.count(Fate::Noted, 1);
 }
 
 // Appends the texts of arguments.

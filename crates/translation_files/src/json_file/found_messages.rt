@@ -54,11 +54,7 @@ impl<'a> FoundMessages<'a> {
 }
 
 // Tells which keys stand twice.
-pub(crate) fn tell_repeated(
-    gathered: &mut Gathered,
-    keys: &KeyTree<'_>,
-    repeated: &[Repeated],
-) -> Result<(), AllocError> {
+pub(crate) fn tell_repeated(gathered: &mut Gathered, keys: &KeyTree<'_>, repeated: &[Repeated]) {
     for (index, again) in repeated.iter().enumerate() {
         if index == MOST_TOLD {
             let rest = repeated.len().saturating_sub(MOST_TOLD);
@@ -68,17 +64,12 @@ pub(crate) fn tell_repeated(
                 format_args!("from here on {rest} more keys stand twice"),
             );
         }
-        tell_again(gathered, keys, *again)?;
+        tell_again(gathered, keys, *again);
     }
-    Ok(())
 }
 
 // Tells that a key stands twice.
-fn tell_again(
-    gathered: &mut Gathered,
-    keys: &KeyTree<'_>,
-    again: Repeated,
-) -> Result<(), AllocError> {
+fn tell_again(gathered: &mut Gathered, keys: &KeyTree<'_>, again: Repeated) {
     match shown_key(gathered.alloc, keys, again.place) {
         Ok(key) => {
             let shown = printed_name(key.as_str());
@@ -90,7 +81,7 @@ fn tell_again(
                 ),
             )
         }
-        Err(error) => Err(error),
+        Err(_) => gathered.fail(),
     }
 }
 
@@ -100,15 +91,15 @@ pub(crate) fn add_found<'a>(
     keys: &KeyTree<'a>,
     found: &FoundMessages<'a>,
     has_zero: bool,
-) -> Result<(), AllocError> {
+) {
     let mut message_keys = MessageKeys::new(keys);
     for text in &found.patterns {
-        add_pattern(gathered, keys, &mut message_keys, *text)?;
+        add_pattern(gathered, keys, &mut message_keys, *text);
     }
     for group in &found.groups.groups {
-        add_group(gathered, &mut message_keys, group, has_zero)?;
+        add_group(gathered, &mut message_keys, group, has_zero);
     }
-    tell_left_out(gathered, &message_keys)
+    tell_left_out(gathered, &message_keys);
 }
 
 // Adds the message of a pattern.
@@ -117,14 +108,14 @@ fn add_pattern<'a>(
     keys: &KeyTree<'a>,
     message_keys: &mut MessageKeys<'_, 'a>,
     text: JsonText<'a>,
-) -> Result<(), AllocError> {
+) {
     let Some(piece) = keys.piece(text.place) else {
-        return Ok(());
+        return;
     };
     match message_keys.key_of(piece, text.line) {
         Ok(Some(key)) => add_pattern_message(gathered, key.as_str(), text.text, text.line),
-        Ok(None) => Ok(()),
-        Err(error) => Err(error),
+        Ok(None) => (),
+        Err(_) => gathered.fail(),
     }
 }
 
@@ -134,21 +125,16 @@ fn add_group<'a>(
     message_keys: &mut MessageKeys<'_, 'a>,
     group: &Group<'a>,
     has_zero: bool,
-) -> Result<(), AllocError> {
+) {
     match message_keys.key_of(group.name.base, group.line) {
         Ok(Some(key)) => add_group_under(gathered, key.as_str(), group, has_zero),
-        Ok(None) => Ok(()),
-        Err(error) => Err(error),
+        Ok(None) => (),
+        Err(_) => gathered.fail(),
     }
 }
 
 // Adds the message of texts with suffixes under a key, unless it may be none.
-fn add_group_under(
-    gathered: &mut Gathered,
-    key: &str,
-    group: &Group<'_>,
-    has_zero: bool,
-) -> Result<(), AllocError> {
+fn add_group_under(gathered: &mut Gathered, key: &str, group: &Group<'_>, has_zero: bool) {
     if group.is_doubtful() {
         return note_doubtful(gathered, key, group);
     }
@@ -158,11 +144,11 @@ fn add_group_under(
         MessageKind::Cardinal
     };
     let line = group.line;
-    add_suffix_message(gathered, MessageHead { kind, key, line }, group, has_zero)
+    add_suffix_message(gathered, MessageHead { kind, key, line }, group, has_zero);
 }
 
 // Tells that texts may be no message.
-fn note_doubtful(gathered: &mut Gathered, key: &str, group: &Group<'_>) -> Result<(), AllocError> {
+fn note_doubtful(gathered: &mut Gathered, key: &str, group: &Group<'_>) {
     let shown = printed_name(key);
     let ordinal = if group.name.is_ordinal {
         "_ordinal"
@@ -179,23 +165,20 @@ fn note_doubtful(gathered: &mut Gathered, key: &str, group: &Group<'_>) -> Resul
         format_args!(
             "'{shown}{ordinal}' has {form} without other, so it may be no plural: left out"
         ),
-    )?;
-    gathered.count(Fate::LeftOut, 1)
+    );
+    gathered.count(Fate::LeftOut, 1);
 }
 
 // Tells how many messages have keys that are too long.
-fn tell_left_out(
-    gathered: &mut Gathered,
-    message_keys: &MessageKeys<'_, '_>,
-) -> Result<(), AllocError> {
+fn tell_left_out(gathered: &mut Gathered, message_keys: &MessageKeys<'_, '_>) {
     let count = message_keys.left_out;
     if count == 0 {
-        return Ok(());
+        return;
     }
     gathered.leave_out(
         count,
         message_keys.line,
         NoticeCode::TooMany,
         format_args!("the keys around messages are too long together: messages left out: {count}"),
-    )
+    );
 }

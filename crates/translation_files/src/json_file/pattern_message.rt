@@ -5,31 +5,19 @@ use crate::gathered::{Gathered, MessageHead};
 use crate::json_file::icu_message::{IcuMessage, Written, form_begun, form_text, icu_message};
 use crate::lines::MessageKind;
 use message_pattern::{Part, Pattern, PatternError};
-use std::alloc::AllocError;
 
 // Adds the message of a pattern in a line: its forms, if it is one plural argument with plain forms
 // and nothing besides but white space, else the text as it is.
-pub(crate) fn add_pattern_message(
-    gathered: &mut Gathered,
-    key: &str,
-    text: &str,
-    line: u64,
-) -> Result<(), AllocError> {
+pub(crate) fn add_pattern_message(gathered: &mut Gathered, key: &str, text: &str, line: u64) {
     match Pattern::parse(gathered.alloc, text.as_bytes().trim_ascii()) {
         Ok(pattern) => add_parts(gathered, key, text, line, pattern.parts()),
-        Err(PatternError::Memory) => Err(AllocError),
+        Err(PatternError::Memory) => gathered.fail(),
         Err(PatternError::Fault(_, _)) => add_text(gathered, key, text, line),
     }
 }
 
 // Adds the message of a pattern that has these parts.
-fn add_parts(
-    gathered: &mut Gathered,
-    key: &str,
-    text: &str,
-    line: u64,
-    parts: &[Part<'_>],
-) -> Result<(), AllocError> {
+fn add_parts(gathered: &mut Gathered, key: &str, text: &str, line: u64, parts: &[Part<'_>]) {
     match icu_message(parts) {
         Some(found) => add_forms(gathered, key, line, &found),
         None => add_text(gathered, key, text, line),
@@ -37,64 +25,52 @@ fn add_parts(
 }
 
 // Adds a pattern as it is.
-fn add_text(gathered: &mut Gathered, key: &str, text: &str, line: u64) -> Result<(), AllocError> {
+fn add_text(gathered: &mut Gathered, key: &str, text: &str, line: u64) {
     let kind = MessageKind::Pattern;
     let head = MessageHead { kind, key, line };
-    if gathered.is_twice(head)? {
-        return Ok(());
+    if gathered.is_twice(head) {
+        return;
     }
-    gathered.add_pattern(head, text)?;
-    gathered.count(Fate::Checked, 1)
+    gathered.add_pattern(head, text);
+    gathered.count(Fate::Checked, 1);
 }
 
 // Adds the message of one plural argument.
-fn add_forms(
-    gathered: &mut Gathered,
-    key: &str,
-    line: u64,
-    found: &IcuMessage<'_, '_>,
-) -> Result<(), AllocError> {
+fn add_forms(gathered: &mut Gathered, key: &str, line: u64, found: &IcuMessage<'_, '_>) {
     let kind = if found.is_ordinal {
         MessageKind::Ordinal
     } else {
         MessageKind::Cardinal
     };
     let head = MessageHead { kind, key, line };
-    if gathered.is_twice(head)? {
-        return Ok(());
+    if gathered.is_twice(head) {
+        return;
     }
     let written = found.written();
-    put_forms(gathered, found.parts)?;
-    put_placeholder(gathered, found.name, written)?;
-    gathered.end(head, written == Written::Nowhere)?;
-    gathered.count(Fate::Checked, 1)
+    put_forms(gathered, found.parts);
+    put_placeholder(gathered, found.name, written);
+    gathered.end(head, written == Written::Nowhere);
+    gathered.count(Fate::Checked, 1);
 }
 
 // Puts the forms of these parts.
-fn put_forms(gathered: &mut Gathered, parts: &[Part<'_>]) -> Result<(), AllocError> {
+fn put_forms(gathered: &mut Gathered, parts: &[Part<'_>]) {
     for (index, part) in parts.iter().enumerate() {
         if let Some(form) = form_begun(part) {
             let behind = parts.get(index.saturating_add(1)..).unwrap_or(&[]);
-            match form_text(gathered.alloc, behind) {
-                Ok(text) => gathered.put_form(form, text)?,
-                Err(error) => return Err(error),
-            }
+            let text = form_text(gathered.alloc, behind);
+            gathered.put_form(form, text);
         }
     }
-    Ok(())
 }
 
 // Puts how the number is written: `#`, unless the forms have it as `{n}` alone.
-fn put_placeholder(
-    gathered: &mut Gathered,
-    name: &[u8],
-    written: Written,
-) -> Result<(), AllocError> {
+fn put_placeholder(gathered: &mut Gathered, name: &[u8], written: Written) {
     if written != Written::Argument {
         return gathered.put_placeholder("#");
     }
     match String::from_utf8_lossy(gathered.alloc, name) {
         Ok(name) => gathered.put_placeholder(format_args!("{{{name}}}")),
-        Err(error) => Err(error),
+        Err(_) => gathered.fail(),
     }
 }

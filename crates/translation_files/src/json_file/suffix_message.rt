@@ -6,7 +6,6 @@ use crate::json_file::count_text::{count_text, first_count};
 use crate::json_file::suffix_groups::{Group, GroupForm};
 use icu_plurals::PluralCategory;
 use message_report::Form;
-use std::alloc::AllocError;
 
 // Adds the message. A `_zero` is for exactly 0 where the language has no zero of its own. The
 // arguments of its source aren't known, but that there are none, if no form has the number.
@@ -15,27 +14,25 @@ pub(crate) fn add_suffix_message(
     head: MessageHead<'_>,
     group: &Group<'_>,
     has_zero: bool,
-) -> Result<(), AllocError> {
-    if gathered.is_twice(head)? {
-        return Ok(());
+) {
+    if gathered.is_twice(head) {
+        return;
     }
     let has_zero = has_zero || group.name.is_ordinal;
     for form in &group.forms {
-        put_form(gathered, name_of(form.category, has_zero), form)?;
+        put_form(gathered, name_of(form.category, has_zero), form);
     }
     let number = number_in(&group.forms);
-    gathered.put_placeholder(number.unwrap_or("{{count}}"))?;
-    gathered.end(head, number.is_none())?;
-    gathered.count(Fate::Checked, 1)
+    gathered.put_placeholder(number.unwrap_or("{{count}}"));
+    gathered.end(head, number.is_none());
+    gathered.count(Fate::Checked, 1);
 }
 
 // Puts a form under its name.
-fn put_form(gathered: &mut Gathered, name: Form, form: &GroupForm<'_>) -> Result<(), AllocError> {
-    match count_text(gathered.alloc, form.text) {
-        Ok(text) => gathered.put_form(name, text)?,
-        Err(error) => return Err(error),
-    }
-    gathered.put_line(name, form.line)
+fn put_form(gathered: &mut Gathered, name: Form, form: &GroupForm<'_>) {
+    let text = count_text(gathered.alloc, form.text);
+    gathered.put_form(name, text);
+    gathered.put_line(name, form.line);
 }
 
 // The form of a suffix.

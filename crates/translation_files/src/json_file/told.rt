@@ -54,20 +54,19 @@ struct ToldMessage<'v> {
 }
 
 // Adds the messages that are told.
-pub(crate) fn add_told(gathered: &mut Gathered, messages: &[Value]) -> Result<(), AllocError> {
+pub(crate) fn add_told(gathered: &mut Gathered, messages: &[Value]) {
     for message in messages {
         match told_message(message) {
-            Some(told) => add_message(gathered, told)?,
-            None => tell_untold(gathered, message)?,
+            Some(told) => add_message(gathered, told),
+            None => tell_untold(gathered, message),
         }
     }
-    Ok(())
 }
 
 // Tells that a message isn't of the shape.
-fn tell_untold(gathered: &mut Gathered, message: &Value) -> Result<(), AllocError> {
+fn tell_untold(gathered: &mut Gathered, message: &Value) {
     let text = "a message isn't told as tools/translation-input does: make the file anew";
-    gathered.leave_out(1, line_of(message), NoticeCode::NotRead, text)
+    gathered.leave_out(1, line_of(message), NoticeCode::NotRead, text);
 }
 
 // The line of a thing that is told.
@@ -104,14 +103,12 @@ fn are_texts(forms: &Map<String, Value>) -> bool {
 }
 
 // Adds a message.
-fn add_message(gathered: &mut Gathered, told: ToldMessage<'_>) -> Result<(), AllocError> {
+fn add_message(gathered: &mut Gathered, told: ToldMessage<'_>) {
     let mut forms = Vec::new(gathered.alloc);
-    let added = match push_forms(gathered.alloc, &mut forms, told.forms) {
-        Ok(()) => add_android_message(gathered, told.head, &forms),
-        Err(error) => Err(error),
-    };
+    let pushed = push_forms(gathered.alloc, &mut forms, told.forms);
+    gathered.keep(pushed);
+    add_android_message(gathered, told.head, &forms);
     drop(forms);
-    added
 }
 
 // Appends the forms of a message.
@@ -152,24 +149,22 @@ fn text_of<'v>(name: &str, form: &'v Value) -> Option<AndroidText<'v>> {
 }
 
 // Adds the notices that are told.
-pub(crate) fn add_notices(gathered: &mut Gathered, value: &Value) -> Result<(), AllocError> {
+pub(crate) fn add_notices(gathered: &mut Gathered, value: &Value) {
     let Some(Value::Array(notices)) = value.get("notices") else {
-        return Ok(());
+        return;
     };
     for notice in notices {
-        add_notice(gathered, notice)?;
+        add_notice(gathered, notice);
     }
-    Ok(())
 }
 
 // Adds a notice, and counts the messages that it leaves out.
-fn add_notice(gathered: &mut Gathered, notice: &Value) -> Result<(), AllocError> {
+fn add_notice(gathered: &mut Gathered, notice: &Value) {
     let text = text_under("text", notice).unwrap_or("something is told without a text");
     let code = code_named(text_under("code", notice).unwrap_or(""));
-    gathered.add_notice(severity_of(notice), line_of(notice), code, text)?;
-    match notice.get("left_out") {
-        Some(count) => gathered.count(Fate::LeftOut, count.as_u64().unwrap_or(0)),
-        None => Ok(()),
+    gathered.add_notice(severity_of(notice), line_of(notice), code, text);
+    if let Some(count) = notice.get("left_out") {
+        gathered.count(Fate::LeftOut, count.as_u64().unwrap_or(0));
     }
 }
 

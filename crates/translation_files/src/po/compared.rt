@@ -16,45 +16,31 @@ use po_catalog::{Catalog, Entry, Text};
 use std::alloc::{AllocError, Global};
 
 // Takes the messages of a catalog that are whole.
-pub(crate) fn take_messages(
-    gathered: &mut Gathered,
-    catalog: &Catalog,
-    measure: Measure<'_>,
-) -> Result<(), AllocError> {
+pub(crate) fn take_messages(gathered: &mut Gathered, catalog: &Catalog, measure: Measure<'_>) {
     for entry in catalog.entries.iter() {
         if let Standing::Whole = standing_of(entry) {
-            take_message(gathered, entry, measure)?;
+            take_message(gathered, entry, measure);
         }
     }
-    Ok(())
 }
 
 // Takes a message, or tells why it is left out.
-fn take_message(
-    gathered: &mut Gathered,
-    entry: &Entry,
-    measure: Measure<'_>,
-) -> Result<(), AllocError> {
+fn take_message(gathered: &mut Gathered, entry: &Entry, measure: Measure<'_>) {
     if let Some(indices) = measure.indices() {
-        tell_too_many_forms(gathered, entry, indices.count)?;
+        tell_too_many_forms(gathered, entry, indices.count);
     }
     if has_too_many_signs(entry) {
         return tell_too_many(gathered, entry, measure);
     }
     let mut reads = Vec::new(gathered.alloc);
-    let compared = compare(gathered, entry, measure, &mut reads);
+    compare(gathered, entry, measure, &mut reads);
     drop(reads);
-    compared
 }
 
 // Tells that a message has more forms than its catalog.
-fn tell_too_many_forms(
-    gathered: &mut Gathered,
-    entry: &Entry,
-    count: u64,
-) -> Result<(), AllocError> {
+fn tell_too_many_forms(gathered: &mut Gathered, entry: &Entry, count: u64) {
     if entry.forms.len() as u64 <= count {
-        return Ok(());
+        return;
     }
     gathered.tell(
         line_of(entry, count as usize),
@@ -62,7 +48,7 @@ fn tell_too_many_forms(
         format_args!(
             "it has msgstr[{count}], and the file's nplurals is {count}: remove the form, or correct Plural-Forms"
         ),
-    )
+    );
 }
 
 // Whether a text has more arguments than are read.
@@ -85,14 +71,10 @@ fn bytes_of(text: &Option<Text>) -> &[u8] {
 
 // Tells that a text has more arguments than are read. The message is left out, if it isn't counted
 // already.
-fn tell_too_many(
-    gathered: &mut Gathered,
-    entry: &Entry,
-    measure: Measure<'_>,
-) -> Result<(), AllocError> {
+fn tell_too_many(gathered: &mut Gathered, entry: &Entry, measure: Measure<'_>) {
     let count = if measure.has_rules() { 1 } else { 0 };
     let text = "a text has more than 64 arguments: cut it";
-    gathered.leave_out(count, Some(entry.line as u64), NoticeCode::TooMany, text)
+    gathered.leave_out(count, Some(entry.line as u64), NoticeCode::TooMany, text);
 }
 
 // Reads the texts of a message, and compares the arguments of its forms with those of its source.
@@ -101,9 +83,10 @@ fn compare<'e>(
     entry: &'e Entry,
     measure: Measure<'_>,
     reads: &mut Vec<Read<'e>>,
-) -> Result<(), AllocError> {
+) {
     let format = format_of(entry);
-    push_reads(gathered.alloc, reads, entry, format)?;
+    let read = push_reads(gathered.alloc, reads, entry, format);
+    gathered.keep(read);
     match reads.as_slice() {
         [singular, plural, forms @ ..] => {
             let texts = Texts {
@@ -114,7 +97,7 @@ fn compare<'e>(
             };
             compare_texts(gathered, entry, measure, texts)
         }
-        _ => Ok(()),
+        _ => (),
     }
 }
 
@@ -152,14 +135,12 @@ fn compare_texts(
     entry: &Entry,
     measure: Measure<'_>,
     texts: Texts<'_, '_>,
-) -> Result<(), AllocError> {
+) {
     let mut kept = Vec::new(gathered.alloc);
-    let compared = match push_kept(&mut kept, &texts) {
-        Ok(()) => compare_kept(gathered, entry, measure, texts, kept.as_slice()),
-        Err(error) => Err(error),
-    };
+    let pushed = push_kept(&mut kept, &texts);
+    gathered.keep(pushed);
+    compare_kept(gathered, entry, measure, texts, kept.as_slice());
     drop(kept);
-    compared
 }
 
 // Appends the arguments of the plural that are some: without a flag, those that forms have, too.
@@ -202,7 +183,7 @@ fn compare_kept<'e>(
     measure: Measure<'_>,
     texts: Texts<'_, 'e>,
     kept: &[Argument<'e>],
-) -> Result<(), AllocError> {
+) {
     let number = number_in(kept, texts.plural, texts.singular);
     if texts.are_told() {
         let compared = Compared {
@@ -210,14 +191,14 @@ fn compare_kept<'e>(
             plural: texts.plural,
             number: if measure.has_rules() { number } else { None },
         };
-        tell_mistakes(gathered, entry, measure, &compared, texts.forms)?;
+        tell_mistakes(gathered, entry, measure, &compared, texts.forms);
     }
     let sides = Sides {
         texts,
         kept,
         number,
     };
-    take_sides(gathered, entry, measure, &sides)
+    take_sides(gathered, entry, measure, &sides);
 }
 
 // Tells what is wrong with the arguments of forms that have a text.
@@ -227,46 +208,34 @@ fn tell_mistakes(
     measure: Measure<'_>,
     compared: &Compared<'_, '_>,
     forms: &[Read<'_>],
-) -> Result<(), AllocError> {
+) {
     for (index, form) in forms.iter().enumerate() {
         if !form.text.is_empty() {
             let mut wrong = String::new(gathered.alloc);
-            push_mistakes(&mut wrong, compared, form, measure.is_for_many(index))?;
-            tell_wrong(gathered, entry, index, wrong.as_str())?;
+            let pushed = push_mistakes(&mut wrong, compared, form, measure.is_for_many(index));
+            gathered.keep(pushed);
+            tell_wrong(gathered, entry, index, wrong.as_str());
         }
     }
-    Ok(())
 }
 
 // Tells what is wrong with a form, if something is.
-fn tell_wrong(
-    gathered: &mut Gathered,
-    entry: &Entry,
-    index: usize,
-    wrong: &str,
-) -> Result<(), AllocError> {
+fn tell_wrong(gathered: &mut Gathered, entry: &Entry, index: usize, wrong: &str) {
     if wrong.is_empty() {
-        return Ok(());
+        return;
     }
     gathered.tell(
         line_of(entry, index),
         NoticeCode::Arguments,
         format_args!("msgstr[{index}] {wrong}: write the arguments of msgid_plural"),
-    )
+    );
 }
 
 // Takes what was found of a message.
-fn take_sides(
-    gathered: &mut Gathered,
-    entry: &Entry,
-    measure: Measure<'_>,
-    sides: &Sides<'_, '_>,
-) -> Result<(), AllocError> {
+fn take_sides(gathered: &mut Gathered, entry: &Entry, measure: Measure<'_>, sides: &Sides<'_, '_>) {
     let mut texts = Vec::new(gathered.alloc);
-    let taken = match push_texts(gathered.alloc, &mut texts, sides) {
-        Ok(()) => take_texts(gathered, entry, sides, measure, texts.as_slice()),
-        Err(error) => Err(error),
-    };
+    let pushed = push_texts(gathered.alloc, &mut texts, sides);
+    gathered.keep(pushed);
+    take_texts(gathered, entry, sides, measure, texts.as_slice());
     drop(texts);
-    taken
 }

@@ -5,7 +5,6 @@ use crate::counts::Fate;
 use crate::gathered::Gathered;
 use crate::po::standing::{Standing, standing_of};
 use po_catalog::{Catalog, Cause, Entry, Fault};
-use std::alloc::AllocError;
 use std::str;
 
 // How many lines that are in no message with plural forms are told one by one.
@@ -50,18 +49,18 @@ struct Told {
 
 // Tells which lines can't be read: of a message with plural forms the first one, and of all others
 // the first few. Such messages are left out.
-pub(crate) fn tell_faults(gathered: &mut Gathered, catalog: &Catalog) -> Result<(), AllocError> {
+pub(crate) fn tell_faults(gathered: &mut Gathered, catalog: &Catalog) {
     let mut told = Told { count: 0, more: 0 };
     let mut rest = catalog.faults.as_slice();
     for (index, entry) in catalog.entries.iter().enumerate() {
         let (before, behind) = cut_at_line(rest, entry.line);
         let (inside, after) = cut_at_line(behind, line_behind(catalog, index));
-        tell_strays(gathered, before, &mut told)?;
-        tell_inside(gathered, entry, inside, &mut told)?;
+        tell_strays(gathered, before, &mut told);
+        tell_inside(gathered, entry, inside, &mut told);
         rest = after;
     }
-    tell_strays(gathered, rest, &mut told)?;
-    tell_more(gathered, told.more)
+    tell_strays(gathered, rest, &mut told);
+    tell_more(gathered, told.more);
 }
 
 // The line of the entry behind one.
@@ -88,54 +87,44 @@ fn cut_at_line(faults: &[Fault], line: usize) -> (&[Fault], &[Fault]) {
 }
 
 // Tells the faults of a message.
-fn tell_inside(
-    gathered: &mut Gathered,
-    entry: &Entry,
-    faults: &[Fault],
-    told: &mut Told,
-) -> Result<(), AllocError> {
+fn tell_inside(gathered: &mut Gathered, entry: &Entry, faults: &[Fault], told: &mut Told) {
     let Standing::Broken = standing_of(entry) else {
         return tell_strays(gathered, faults, told);
     };
     let text = "a line before it can't be read: correct it";
     match faults.first() {
-        Some(fault) => tell(gathered, fault)?,
-        None => gathered.tell(Some(entry.line as u64), NoticeCode::Syntax, text)?,
+        Some(fault) => tell(gathered, fault),
+        None => gathered.tell(Some(entry.line as u64), NoticeCode::Syntax, text),
     }
-    gathered.count(Fate::LeftOut, 1)
+    gathered.count(Fate::LeftOut, 1);
 }
 
 // Tells the faults that are of no message with plural forms, unless enough were told.
-fn tell_strays(
-    gathered: &mut Gathered,
-    faults: &[Fault],
-    told: &mut Told,
-) -> Result<(), AllocError> {
+fn tell_strays(gathered: &mut Gathered, faults: &[Fault], told: &mut Told) {
     for fault in faults {
         if told.count < MOST_TOLD {
             told.count += 1;
-            tell(gathered, fault)?;
+            tell(gathered, fault);
         } else {
             told.more = told.more.saturating_add(1);
         }
     }
-    Ok(())
 }
 
 // Tells a fault.
-fn tell(gathered: &mut Gathered, fault: &Fault) -> Result<(), AllocError> {
+fn tell(gathered: &mut Gathered, fault: &Fault) {
     let code = match fault.cause {
         Cause::NotUtf8 => NoticeCode::Charset,
         _ => NoticeCode::Syntax,
     };
-    gathered.tell(Some(fault.line as u64), code, fault.cause)
+    gathered.tell(Some(fault.line as u64), code, fault.cause);
 }
 
 // Tells how many lines aren't told.
-fn tell_more(gathered: &mut Gathered, count: u64) -> Result<(), AllocError> {
+fn tell_more(gathered: &mut Gathered, count: u64) {
     if count == 0 {
-        return Ok(());
+        return;
     }
     let text = format_args!("and {count} more lines that can't be read");
-    gathered.tell(None, NoticeCode::Syntax, text)
+    gathered.tell(None, NoticeCode::Syntax, text);
 }

@@ -31,10 +31,7 @@ pub(crate) struct PoFile<'a, S> {
 }
 
 // Reads the messages by the header.
-pub(crate) fn read_messages<S: RulesOfLocales>(
-    gathered: &mut Gathered,
-    file: &PoFile<'_, S>,
-) -> Result<(), AllocError> {
+pub(crate) fn read_messages<S: RulesOfLocales>(gathered: &mut Gathered, file: &PoFile<'_, S>) {
     if file.catalog.header().is_none() {
         let text = "it has no header, with Language and Plural-Forms: write one (msginit makes it)";
         return refuse(
@@ -57,15 +54,14 @@ fn read_by_forms<S: RulesOfLocales>(
     gathered: &mut Gathered,
     file: &PoFile<'_, S>,
     forms: &PluralForms,
-) -> Result<(), AllocError> {
+) {
     let mut indices = Indices::new(gathered.alloc, forms.count());
-    let read = match indices.fill(gathered.alloc, forms) {
+    match indices.fill(gathered.alloc, forms) {
         Ok(None) => read_indexed(gathered, file, &indices),
         Ok(Some(fault)) => refuse_index(gathered, file.catalog, indices.count, fault),
-        Err(error) => Err(error),
-    };
+        Err(_) => gathered.fail(),
+    }
     drop(indices);
-    read
 }
 
 // Reads the messages whose forms have these indices.
@@ -73,12 +69,13 @@ fn read_indexed<S: RulesOfLocales>(
     gathered: &mut Gathered,
     file: &PoFile<'_, S>,
     indices: &Indices,
-) -> Result<(), AllocError> {
+) {
     let named = file.locale.or(language_of(file.catalog));
     let mut locale = String::new(gathered.alloc);
-    match push_locale(&mut locale, named, file.name, file.rules)? {
-        None => read_said(gathered, file, locale.as_str(), indices),
-        Some(fault) => {
+    match push_locale(&mut locale, named, file.name, file.rules) {
+        Ok(None) => read_said(gathered, file, locale.as_str(), indices),
+        Err(_) => gathered.fail(),
+        Ok(Some(fault)) => {
             let code = NoticeCode::Language;
             refuse(
                 gathered,
@@ -97,12 +94,12 @@ fn read_said<S: RulesOfLocales>(
     file: &PoFile<'_, S>,
     locale: &str,
     indices: &Indices,
-) -> Result<(), AllocError> {
+) {
     if file.locale.is_none() && locale == "pt" && is_portugals(indices) {
-        tell_portugals(gathered, file.catalog)?;
+        tell_portugals(gathered, file.catalog);
         return read_under(gathered, file, "pt-PT", indices);
     }
-    read_under(gathered, file, locale, indices)
+    read_under(gathered, file, locale, indices);
 }
 
 // The language that a header names.
@@ -125,10 +122,10 @@ fn is_portugals(indices: &Indices) -> bool {
 }
 
 // Tells that a catalog is taken as one of Portugal.
-fn tell_portugals(gathered: &mut Gathered, catalog: &Catalog) -> Result<(), AllocError> {
+fn tell_portugals(gathered: &mut Gathered, catalog: &Catalog) {
     let text =
         "its Plural-Forms is Portugal's, so it is taken as pt-PT: write that as its Language, or name another by --locale";
-    gathered.note(line_of_header(catalog), NoticeCode::TakenAs, text)
+    gathered.note(line_of_header(catalog), NoticeCode::TakenAs, text);
 }
 
 // Reads the messages under the rules of a locale.
@@ -137,7 +134,7 @@ fn read_under<S: RulesOfLocales>(
     file: &PoFile<'_, S>,
     locale: &str,
     indices: &Indices,
-) -> Result<(), AllocError> {
+) {
     match file.rules.rules_of(PluralRuleType::Cardinal, locale) {
         Some(rules) => {
             let rules = PluralRules::from_data(rules);
@@ -156,15 +153,14 @@ fn read_by<S>(
     locale: &str,
     indices: &Indices,
     rules: &PluralRules<'_>,
-) -> Result<(), AllocError> {
+) {
     let mut laid = Laid::new(gathered.alloc);
-    let read = match lay(&mut laid, gathered.alloc, indices, rules) {
+    match lay(&mut laid, gathered.alloc, indices, rules) {
         Ok(None) => read_laid(gathered, file, locale, indices, &laid),
         Ok(Some(clash)) => refuse_clash(gathered, file.catalog, locale, indices, clash),
-        Err(error) => Err(error),
-    };
+        Err(_) => gathered.fail(),
+    }
     drop(laid);
-    read
 }
 
 // Reads the messages, whose forms are laid beside the categories.
@@ -174,32 +170,28 @@ fn read_laid<S>(
     locale: &str,
     indices: &Indices,
     laid: &Laid,
-) -> Result<(), AllocError> {
-    tell_differing(gathered, file.catalog, locale, laid.differing.as_slice())?;
-    gathered.keep_locale(locale)?;
+) {
+    tell_differing(gathered, file.catalog, locale, laid.differing.as_slice());
+    gathered.keep_locale(locale);
     let forms = Forms { indices, laid };
-    take_messages(gathered, file.catalog, Measure::Rules(forms))
+    take_messages(gathered, file.catalog, Measure::Rules(forms));
 }
 
 // Tells for which numbers a catalog and the rules differ.
-fn tell_differing(
-    gathered: &mut Gathered,
-    catalog: &Catalog,
-    locale: &str,
-    differing: &[u64],
-) -> Result<(), AllocError> {
+fn tell_differing(gathered: &mut Gathered, catalog: &Catalog, locale: &str, differing: &[u64]) {
     if differing.is_empty() {
-        return Ok(());
+        return;
     }
     let mut numbers = String::new(gathered.alloc);
-    push_numbers(&mut numbers, differing)?;
+    let pushed = push_numbers(&mut numbers, differing);
+    gathered.keep(pushed);
     gathered.note(
         line_of_header(catalog),
         NoticeCode::RulesDiffer,
         format_args!(
             "its Plural-Forms and CLDR's rules of {locale} differ for {numbers}, where the file's are taken: compare it with what plural_forms gettext {locale} prints"
         ),
-    )
+    );
 }
 
 // Appends the first of some numbers, and whether there are more.

@@ -19,7 +19,7 @@ pub(crate) fn take_texts(
     sides: &Sides<'_, '_>,
     measure: Measure<'_>,
     texts: &[String],
-) -> Result<(), AllocError> {
+) {
     if let Some(indices) = measure.indices() {
         tell_missing(
             gathered,
@@ -27,11 +27,11 @@ pub(crate) fn take_texts(
             texts,
             indices.times.as_slice(),
             measure.forms(),
-        )?;
+        );
     }
     match measure {
         Measure::Rules(forms) => add(gathered, entry, sides, forms, texts),
-        _ => Ok(()),
+        _ => (),
     }
 }
 
@@ -43,7 +43,7 @@ fn tell_missing(
     texts: &[String],
     times: &[u64],
     forms: &[FormIndex],
-) -> Result<(), AllocError> {
+) {
     for (index, count) in times.iter().enumerate() {
         if *count > 0 && is_missing(texts, index as u64, forms) {
             return gathered.tell(
@@ -53,7 +53,6 @@ fn tell_missing(
             );
         }
     }
-    Ok(())
 }
 
 // Whether the text at an index is missing, and is the form of no category.
@@ -94,7 +93,7 @@ fn add(
     sides: &Sides<'_, '_>,
     forms: Forms<'_>,
     texts: &[String],
-) -> Result<(), AllocError> {
+) {
     match key_of(gathered.alloc, entry) {
         Ok(key) => {
             let head = MessageHead {
@@ -102,11 +101,10 @@ fn add(
                 key: key.as_str(),
                 line: entry.line as u64,
             };
-            let added = add_under(gathered, head, entry, sides, forms, texts);
+            add_under(gathered, head, entry, sides, forms, texts);
             drop(key);
-            added
         }
-        Err(error) => Err(error),
+        Err(_) => gathered.fail(),
     }
 }
 
@@ -118,16 +116,16 @@ fn add_under(
     sides: &Sides<'_, '_>,
     forms: Forms<'_>,
     texts: &[String],
-) -> Result<(), AllocError> {
-    if gathered.is_twice(head)? {
-        return Ok(());
+) {
+    if gathered.is_twice(head) {
+        return;
     }
-    put_forms(gathered, forms, texts, sides.number.is_some())?;
-    put_lines(gathered, entry, forms)?;
-    put_source(gathered, sides)?;
-    gathered.end(head, true)?;
-    let is_noted = note_number(gathered, head.line, sides)?;
-    gathered.count(if is_noted { Fate::Noted } else { Fate::Checked }, 1)
+    put_forms(gathered, forms, texts, sides.number.is_some());
+    put_lines(gathered, entry, forms);
+    put_source(gathered, sides);
+    gathered.end(head, true);
+    let is_noted = note_number(gathered, head.line, sides);
+    gathered.count(if is_noted { Fate::Noted } else { Fate::Checked }, 1);
 }
 
 // The key of a message: its context and its id.
@@ -159,31 +157,23 @@ fn str_of(text: &Text) -> &str {
 // Puts the texts of a message, which has a number or none, under the names of their forms. Where
 // exactly 0 or 1 has a form of its own without a text, none is shown. A category that no number has
 // takes the last text: gettext's numbers are whole.
-fn put_forms(
-    gathered: &mut Gathered,
-    forms: Forms<'_>,
-    texts: &[String],
-    has_number: bool,
-) -> Result<(), AllocError> {
+fn put_forms(gathered: &mut Gathered, forms: Forms<'_>, texts: &[String], has_number: bool) {
     for it in forms.laid.forms.iter() {
         let text = text_of_form(texts, it, has_number);
         if it.is_second || !text.is_empty() || !is_category(it.form) {
-            put_form(gathered, it.form, text)?;
+            put_form(gathered, it.form, text);
         }
     }
     let last = last_text(texts);
     for category in forms.laid.unused.iter() {
-        put_form(gathered, Form::Category(*category), last)?;
+        put_form(gathered, Form::Category(*category), last);
     }
-    Ok(())
 }
 
 // Puts a form with a text.
-fn put_form(gathered: &mut Gathered, form: Form, text: &str) -> Result<(), AllocError> {
-    match String::from_str(gathered.alloc, text) {
-        Ok(text) => gathered.put_form(form, text),
-        Err(error) => Err(error),
-    }
+fn put_form(gathered: &mut Gathered, form: Form, text: &str) {
+    let text = String::from_str(gathered.alloc, text);
+    gathered.put_form(form, text);
 }
 
 // The text of a form. Of one whose index a larger category has, nothing is told: it has the number.
@@ -216,11 +206,10 @@ fn last_text(texts: &[String]) -> &str {
 }
 
 // Puts the lines of the forms of a message.
-fn put_lines(gathered: &mut Gathered, entry: &Entry, forms: Forms<'_>) -> Result<(), AllocError> {
+fn put_lines(gathered: &mut Gathered, entry: &Entry, forms: Forms<'_>) {
     for it in forms.laid.forms.iter() {
         if let Some(text) = entry.forms.get(it.index as usize) {
-            gathered.put_line(it.form, text.line as u64)?;
+            gathered.put_line(it.form, text.line as u64);
         }
     }
-    Ok(())
 }

@@ -12,7 +12,6 @@ use gettext_plural::{FaultKind, IndexError, PluralFormsError};
 use icu_plurals::provider::RawPluralCategory;
 use plural_documents::printed_name;
 use po_catalog::Catalog;
-use std::alloc::AllocError;
 use std::fmt::Display;
 
 // Tells that the rules haven't a language.
@@ -21,7 +20,7 @@ pub(crate) fn refuse_language(
     catalog: &Catalog,
     locale: &str,
     indices: &Indices,
-) -> Result<(), AllocError> {
+) {
     let shown = printed_name(locale);
     refuse(
         gathered,
@@ -31,7 +30,7 @@ pub(crate) fn refuse_language(
             "the rules have no language '{shown}': name one that has the same forms by --locale"
         ),
         Measure::Indices(indices),
-    )
+    );
 }
 
 // Tells two numbers of one category that have two indices.
@@ -41,7 +40,7 @@ pub(crate) fn refuse_clash(
     locale: &str,
     indices: &Indices,
     clash: Clash,
-) -> Result<(), AllocError> {
+) {
     let category = RawPluralCategory::from(clash.category).as_str();
     let Clash { first, second, .. } = clash;
     let (one, other) = (first.number, second.number);
@@ -54,18 +53,14 @@ pub(crate) fn refuse_clash(
             "{one} and {other} have one form in {locale} ({category}), and by its Plural-Forms two, {left} and {right}: correct it (plural_forms gettext {locale} prints one)"
         ),
         Measure::Indices(indices),
-    )
+    );
 }
 
 // Tells why a text is no `Plural-Forms`.
-pub(crate) fn refuse_forms(
-    gathered: &mut Gathered,
-    catalog: &Catalog,
-    error: PluralFormsError,
-) -> Result<(), AllocError> {
+pub(crate) fn refuse_forms(gathered: &mut Gathered, catalog: &Catalog, error: PluralFormsError) {
     let code = NoticeCode::PluralForms;
     match error {
-        PluralFormsError::Memory => Err(AllocError),
+        PluralFormsError::Memory => gathered.fail(),
         PluralFormsError::Fault(FaultKind::NoCount | FaultKind::BadCount, _) => {
             let text =
                 "it has no Plural-Forms of 1 to 100 forms, as nplurals=2; plural=n != 1; (plural_forms gettext LOCALE prints one)";
@@ -89,7 +84,7 @@ pub(crate) fn refuse_index(
     catalog: &Catalog,
     count: u64,
     fault: IndexFault,
-) -> Result<(), AllocError> {
+) {
     let code = NoticeCode::PluralForms;
     let number = fault.number;
     match fault.error {
@@ -122,8 +117,8 @@ pub(crate) fn refuse<T: Display + Drop>(
     code: NoticeCode,
     why: T,
     measure: Measure<'_>,
-) -> Result<(), AllocError> {
-    let count = standings_of(catalog)?.whole;
+) {
+    let count = standings_of(catalog).whole;
     let (fate, left) = match measure {
         Measure::Nothing => (Fate::LeftOut, left_out(count)),
         _ => (Fate::Noted, checked_alone(count)),
@@ -132,9 +127,9 @@ pub(crate) fn refuse<T: Display + Drop>(
         line_of_header(catalog),
         code,
         format_args!("{why}; {count} {left}"),
-    )?;
-    gathered.count(fate, count)?;
-    take_messages(gathered, catalog, measure)
+    );
+    gathered.count(fate, count);
+    take_messages(gathered, catalog, measure);
 }
 
 // That so many messages are checked without the rules, in the words behind their number.

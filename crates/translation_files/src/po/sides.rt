@@ -8,7 +8,7 @@ use crate::po::read_text::Read;
 use crate::po::source_number::{count_names, find_name, is_first, is_same_name};
 use crate::po::text_format::TextFormat;
 use crate::pushed::push;
-use format_arguments::{Argument, Name};
+use format_arguments::{Argument, Name, stands_for};
 use std::alloc::{AllocError, Global};
 use std::fmt::Write;
 
@@ -51,10 +51,23 @@ impl Sides<'_, '_> {
             None => false,
         }
     }
+
+    // Whether `{}` is put for an argument of a form: it is the number, and stands for that of the
+    // source, or its other conversion is told.
+    pub(crate) fn is_marked(&self, argument: &Argument<'_>) -> bool {
+        self.is_number(argument) && (self.texts.are_told() || self.has(argument))
+    }
+
+    // Whether the source has an argument of a form.
+    fn has(&self, argument: &Argument<'_>) -> bool {
+        match find_name(self.kept, &argument.name) {
+            Some(known) => stands_for(known, argument),
+            None => false,
+        }
+    }
 }
 
-// Appends the texts of the forms, with `{}` for the number, also where another conversion of it is
-// told.
+// Appends the texts of the forms, with `{}` for the number.
 pub(crate) fn push_texts(
     alloc: Global,
     texts: &mut Vec<String>,
@@ -69,41 +82,23 @@ pub(crate) fn push_texts(
 // The text of a form, with `{}` for the number.
 fn marked(alloc: Global, form: &Read<'_>, sides: &Sides<'_, '_>) -> Result<String, AllocError> {
     let mut text = String::new(alloc);
-    match push_marked(
-        &mut text,
-        form,
-        sides.kept,
-        sides.number,
-        sides.texts.are_told(),
-    ) {
+    match push_marked(&mut text, form, sides) {
         Ok(()) => Ok(text),
         Err(error) => Err(error),
     }
 }
 
 // Puts the arguments of the source, `{}` for the number, and what stands for the number there.
-pub(crate) fn put_source(gathered: &mut Gathered, sides: &Sides<'_, '_>) -> Result<(), AllocError> {
+pub(crate) fn put_source(gathered: &mut Gathered, sides: &Sides<'_, '_>) {
     for it in sides.kept {
-        put_argument(gathered, sides, it)?;
+        let text = source_text(gathered.alloc, sides, it);
+        gathered.put_argument(text);
     }
     let Some(number) = sides.number else {
-        return Ok(());
+        return;
     };
-    match find_name(sides.kept, &number) {
-        Some(it) => gathered.put_placeholder(argument_text(sides.texts.plural, it)),
-        None => Ok(()),
-    }
-}
-
-// Puts an argument of the source.
-fn put_argument(
-    gathered: &mut Gathered,
-    sides: &Sides<'_, '_>,
-    argument: &Argument<'_>,
-) -> Result<(), AllocError> {
-    match source_text(gathered.alloc, sides, argument) {
-        Ok(text) => gathered.put_argument(text),
-        Err(error) => Err(error),
+    if let Some(it) = find_name(sides.kept, &number) {
+        gathered.put_placeholder(argument_text(sides.texts.plural, it));
     }
 }
 
@@ -127,27 +122,26 @@ fn source_text(
 }
 
 // Notes why the number isn't checked, if it isn't. Returns whether it isn't.
-pub(crate) fn note_number(
-    gathered: &mut Gathered,
-    line: u64,
-    sides: &Sides<'_, '_>,
-) -> Result<bool, AllocError> {
+pub(crate) fn note_number(gathered: &mut Gathered, line: u64, sides: &Sides<'_, '_>) -> bool {
     let plural = sides.texts.plural;
     if let TextFormat::Unread = sides.texts.format {
         let text = "its format isn't read: the number isn't checked";
-        gathered.note(Some(line), NoticeCode::FormatUnknown, text)?;
-    } else if sides.number.is_some() || plural.items.is_empty() {
-        return Ok(false);
-    } else if sides.kept.is_empty() {
-        note_doubtful(gathered, line, plural)?;
-    } else {
-        note_unclear(gathered, line, plural, sides.kept)?;
+        gathered.note(Some(line), NoticeCode::FormatUnknown, text);
+        return true;
     }
-    Ok(true)
+    if sides.number.is_some() || plural.items.is_empty() {
+        return false;
+    }
+    if sides.kept.is_empty() {
+        note_doubtful(gathered, line, plural);
+    } else {
+        note_unclear(gathered, line, plural, sides.kept);
+    }
+    true
 }
 
 // Notes that no form has the arguments of the plural, which may be none.
-fn note_doubtful(gathered: &mut Gathered, line: u64, plural: &Read<'_>) -> Result<(), AllocError> {
+fn note_doubtful(gathered: &mut Gathered, line: u64, plural: &Read<'_>) {
     match texts_of(gathered.alloc, plural, plural.items.as_slice()) {
         Ok(texts) => gathered.note(
             Some(line),
@@ -156,17 +150,12 @@ fn note_doubtful(gathered: &mut Gathered, line: u64, plural: &Read<'_>) -> Resul
                 "no form has {texts}, and no flag says whether that is an argument: the number isn't checked"
             ),
         ),
-        Err(error) => Err(error),
+        Err(_) => gathered.fail(),
     }
 }
 
 // Notes that it isn't clear which argument is the number.
-fn note_unclear(
-    gathered: &mut Gathered,
-    line: u64,
-    plural: &Read<'_>,
-    kept: &[Argument<'_>],
-) -> Result<(), AllocError> {
+fn note_unclear(gathered: &mut Gathered, line: u64, plural: &Read<'_>, kept: &[Argument<'_>]) {
     let which = if count_names(kept) == 1 {
         "whether"
     } else {
@@ -178,7 +167,7 @@ fn note_unclear(
             NoticeCode::NumberUnclear,
             format_args!("{which} {texts} is the number isn't clear: it isn't checked"),
         ),
-        Err(error) => Err(error),
+        Err(_) => gathered.fail(),
     }
 }
 

@@ -256,21 +256,37 @@ const MOST_BEHIND: usize = 100;
 
 // The first word of a text, which isn't between `<` and `>`.
 fn first_word(text: &[u8]) -> &[u8] {
+    let front = text.get(..MOST_BEHIND).unwrap_or(text);
+    let Some(start) = start_of_word(front) else {
+        return b"";
+    };
+    let word = match end_of_word(front, start) {
+        Some(end) => text.get(start..end),
+        None => text.get(start..),
+    };
+    word.unwrap_or(b"")
+}
+
+// Where the first word begins that isn't between `<` and `>`.
+fn start_of_word(text: &[u8]) -> Option<usize> {
     let mut is_tag = false;
-    let mut start = None;
-    for (index, byte) in text.iter().enumerate().take(MOST_BEHIND) {
-        let is_letter = !is_tag && is_of_word(*byte);
-        match start {
-            None if is_letter => start = Some(index),
-            Some(start) if !is_letter => return text.get(start..index).unwrap_or(b""),
-            _ => (),
+    for (index, byte) in text.iter().enumerate() {
+        if !is_tag && is_of_word(*byte) {
+            return Some(index);
         }
         is_tag = *byte == b'<' || is_tag && *byte != b'>';
     }
-    match start {
-        Some(start) => text.get(start..).unwrap_or(b""),
-        None => b"",
+    None
+}
+
+// Where the word that begins there ends.
+fn end_of_word(text: &[u8], start: usize) -> Option<usize> {
+    for (index, byte) in text.iter().enumerate() {
+        if start < index && !is_of_word(*byte) {
+            return Some(index);
+        }
     }
+    None
 }
 
 // Whether a byte is of a word: a letter, a digit or `_`, or one of a character that isn't ASCII.

@@ -1,8 +1,6 @@
 //! What stands in the way of a message's check.
 
-use plural_documents::sum;
 use po_catalog::{Catalog, Entry};
-use std::alloc::AllocError;
 
 // How a message stands.
 #[derive(Clone, Copy)]
@@ -71,22 +69,21 @@ impl Standings {
     }
 
     // Counts a message.
-    fn add(&mut self, standing: Standing) -> Result<(), AllocError> {
+    fn add(&mut self, standing: Standing) {
         let count = match standing {
-            Standing::Single => return Ok(()),
+            Standing::Single => return,
             Standing::Untranslated => &mut self.untranslated,
             Standing::Fuzzy => &mut self.fuzzy,
             Standing::Obsolete => &mut self.obsolete,
             Standing::Broken => &mut self.broken,
             Standing::Whole => &mut self.whole,
         };
-        *count = sum(*count, 1)?;
-        Ok(())
+        *count = count.saturating_add(1);
     }
 }
 
 // How the messages of a catalog stand.
-pub(crate) fn standings_of(catalog: &Catalog) -> Result<Standings, AllocError> {
+pub(crate) fn standings_of(catalog: &Catalog) -> Standings {
     let mut standings = Standings {
         untranslated: 0,
         fuzzy: 0,
@@ -95,7 +92,7 @@ pub(crate) fn standings_of(catalog: &Catalog) -> Result<Standings, AllocError> {
         whole: 0,
     };
     for entry in catalog.entries.iter() {
-        standings.add(standing_of(entry))?;
+        standings.add(standing_of(entry));
     }
-    Ok(standings)
+    standings
 }
