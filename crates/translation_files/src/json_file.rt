@@ -28,18 +28,20 @@ use crate::code::NoticeCode;
 use crate::counts::{Fate, FileCounts};
 use crate::file_messages::FileMessages;
 use crate::gathered::Gathered;
-use crate::locale_name::{Said, locale_of, text_of};
+use crate::locale_name::{push_locale, text_of};
+use crate::places::Places;
 use crate::po::gather_po;
 use arb_locale::locale_of_name;
-use document_places::{PlacesFound, places_of_document};
+use document_places::add_places;
 use fault::tell_fault;
-use found_messages::{add_found, messages_in, tell_repeated};
+use found_messages::{FoundMessages, add_found, tell_repeated};
 use icu_plurals::{PluralCategory, PluralRuleType};
 use json::Scratch;
+use key_tree::KeyTree;
 use message_report::RulesOfLocales;
 use serde_json::{Error, Map, Value};
 use std::alloc::{AllocError, Global};
-use texts::{JsonTexts, json_texts};
+use texts::JsonTexts;
 use told::{ToldFile, add_notices, add_told, told_catalog, told_file};
 
 /// Reads a JSON file of messages.
@@ -64,13 +66,24 @@ pub fn read_json<S: RulesOfLocales>(
     let bytes = without_mark(bytes);
     match Value::from_slice(alloc, bytes) {
         Ok(value) if is_document(&value) => placed_document(alloc, text_of(bytes), value),
-        read => {
+        Ok(value) => {
             let mut gathered = Gathered::new(alloc);
-            gather(&mut gathered, name, bytes, &read, rules, locale)?;
-            drop(read);
+            gather(&mut gathered, name, bytes, &value, rules, locale);
+            drop(value);
             gathered.finish()
         }
+        Err(fault) => no_json(alloc, bytes, &fault),
     }
+}
+
+// What is told of bytes that aren't JSON.
+fn no_json(alloc: Global, bytes: &[u8], fault: &Error) -> Result<FileMessages, AllocError> {
+    if fault.is_memory() {
+        return Err(AllocError);
+    }
+    let mut gathered = Gathered::new(alloc);
+    tell_fault(&mut gathered, bytes, fault);
+    gathered.finish()
 }
 
 /// Returns whether a JSON value is a document of messages, as [`message_report::found_in_files`]
@@ -169,67 +182,74 @@ fn keep_locale<S: RulesOfLocales>(
     named: Option<&str>,
     name: &str,
     count: u64,
-) -> Result<bool, AllocError> {
-    let alloc = gathered.alloc;
-    match locale_of(alloc, named, name, rules)? {
-        Said::Locale(locale) => {
-            gathered.locale = locale;
-            Ok(true)
-        }
-        Said::Fault(fault) => {
-            let text = format!(in alloc; "{fault}; messages left out: {count}")?;
-            gathered.tell(None, NoticeCode::Language, text)?;
-            gathered.count(Fate::LeftOut, count)?;
-            Ok(false)
-        }
+) -> bool {
+    match push_locale(&mut gathered.locale, named, name, rules) {
+        Ok(None) => return true,
+        Ok(Some(fault)) => gathered.leave_out(
+            count,
+            None,
+            NoticeCode::Language,
+            format_args!("{fault}; messages left out: {count}"),
+        ),
+        Err(_) => gathered.fail(),
     }
+    false
 }
 
 // Whether a language has a form zero of its own, or isn't known.
 fn has_zero<S: RulesOfLocales>(rules: &S, locale: &str) -> bool {
     match rules.rules_of(PluralRuleType::Cardinal, locale) {
-        Some(rules) => rules.zero.is_some(),
+        Some(rules) => {
+            let has_zero = rules.zero.is_some();
+            drop(rules);
+            has_zero
+        }
         None => true,
     }
 }
 
 // A document with the places of its messages.
 fn placed_document(alloc: Global, text: &str, document: Value) -> Result<FileMessages, AllocError> {
-    let mut scratch = Scratch::new(alloc);
-    let PlacesFound { places, count } = places_of_document(alloc, text, &mut scratch)?;
-    let mut counts = FileCounts::none();
-    counts.add(Fate::Checked, count)?;
-    Ok(FileMessages {
+    let mut messages = FileMessages {
         name: None,
         document,
-        places,
+        places: Places::new(alloc),
         notices: Vec::new(alloc),
-        counts,
-    })
+        counts: FileCounts::none(),
+    };
+    match place(alloc, text, &mut messages) {
+        Ok(()) => Ok(messages),
+        Err(error) => {
+            drop(messages);
+            Err(error)
+        }
+    }
 }
 
-// Gathers what is in a file that is no document, given what is read of its bytes.
+// Adds the places of a document's messages.
+fn place(alloc: Global, text: &str, messages: &mut FileMessages) -> Result<(), AllocError> {
+    let count = add_places(alloc, text, &mut messages.places)?;
+    messages.counts.add(Fate::Checked, count)
+}
+
+// Gathers what is in a file that is JSON, and no document.
 fn gather<S: RulesOfLocales>(
     gathered: &mut Gathered,
     name: &str,
     bytes: &[u8],
-    read: &Result<Value, Error>,
+    value: &Value,
     rules: &S,
     locale: Option<&str>,
-) -> Result<(), AllocError> {
-    match read {
-        Ok(value) => {
-            if let Some(told) = told_file(value) {
-                return gather_told(gathered, value, told, rules, locale);
-            }
-            if let Some(told) = told_catalog(value) {
-                gathered.keep_name(told.name)?;
-                return gather_po(gathered, told.name, told.text.as_bytes(), rules, locale);
-            }
-            gather_texts(gathered, name, text_of(bytes), rules, locale)
+) {
+    if let Some(told) = told_file(value) {
+        return gather_told(gathered, value, told, rules, locale);
+    }
+    match told_catalog(value) {
+        Some(told) => {
+            gathered.keep_name(told.name);
+            gather_po(gathered, told.name, told.text.as_bytes(), rules, locale)
         }
-        Err(fault) if fault.is_memory() => Err(AllocError),
-        Err(fault) => tell_fault(gathered, bytes, fault),
+        None => gather_texts(gathered, name, text_of(bytes), rules, locale),
     }
 }
 
@@ -240,15 +260,14 @@ fn gather_told<S: RulesOfLocales>(
     told: ToldFile<'_>,
     rules: &S,
     locale: Option<&str>,
-) -> Result<(), AllocError> {
-    gathered.keep_name(told.name)?;
-    add_notices(gathered, value)?;
+) {
+    gathered.keep_name(told.name);
+    add_notices(gathered, value);
     let named = locale.or(told.locale);
     let count = told.messages.len() as u64;
-    if count > 0 && keep_locale(gathered, rules, named, told.name, count)? {
-        add_told(gathered, told.messages)?;
+    if count > 0 && keep_locale(gathered, rules, named, told.name, count) {
+        add_told(gathered, told.messages);
     }
-    Ok(())
 }
 
 // Gathers the texts of a file.
@@ -258,30 +277,47 @@ fn gather_texts<S: RulesOfLocales>(
     text: &str,
     rules: &S,
     locale: Option<&str>,
-) -> Result<(), AllocError> {
+) {
     let mut scratch = Scratch::new(gathered.alloc);
-    let texts = json_texts(gathered.alloc, text, &mut scratch)?;
-    tell_repeated(gathered, &texts.keys, &texts.repeated)?;
-    let named = locale.or(texts.locale).or(locale_of_name(name, rules));
-    add_texts(gathered, name, &texts, rules, named)
+    let mut texts = JsonTexts::new(gathered.alloc);
+    let filled = texts.fill(text, &mut scratch);
+    gathered.keep(filled);
+    gather_found(gathered, name, &texts, rules, locale);
+    drop(texts);
 }
 
-// Adds the messages in the texts of a file.
-fn add_texts<S: RulesOfLocales>(
+// Gathers the texts that were found in a file.
+fn gather_found<S: RulesOfLocales>(
     gathered: &mut Gathered,
     name: &str,
     texts: &JsonTexts<'_>,
     rules: &S,
+    locale: Option<&str>,
+) {
+    tell_repeated(gathered, &texts.keys, &texts.repeated);
+    let mut found = FoundMessages::new(gathered.alloc);
+    let filled = found.fill(texts);
+    gathered.keep(filled);
+    let named = locale.or(texts.locale).or(locale_of_name(name, rules));
+    add_messages(gathered, name, &texts.keys, &found, rules, named);
+    drop(found);
+}
+
+// Adds the messages that were found in a file.
+fn add_messages<'a, S: RulesOfLocales>(
+    gathered: &mut Gathered,
+    name: &str,
+    keys: &KeyTree<'a>,
+    found: &FoundMessages<'a>,
+    rules: &S,
     named: Option<&str>,
-) -> Result<(), AllocError> {
-    let found = messages_in(gathered.alloc, texts)?;
+) {
     let count = found.count();
     if count == 0 {
         return gathered.note_no_messages();
     }
-    if keep_locale(gathered, rules, named, name, count)? {
+    if keep_locale(gathered, rules, named, name, count) {
         let has_zero = has_zero(rules, gathered.locale.as_str());
-        add_found(gathered, &texts.keys, &found, has_zero)?;
+        add_found(gathered, keys, found, has_zero);
     }
-    Ok(())
 }

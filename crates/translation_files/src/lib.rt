@@ -12,6 +12,7 @@ mod locale_name;
 mod notice;
 mod places;
 mod po;
+mod pushed;
 mod read_file;
 
 pub use code::NoticeCode;

@@ -2,65 +2,76 @@
 
 use icu_plurals::PluralRuleType;
 use message_report::RulesOfLocales;
-use plural_documents::name_text;
-use std::alloc::{AllocError, Global};
-use std::str;
+use plural_documents::printed_name;
+use std::alloc::AllocError;
+use std::{fmt, str};
 
-// What a file or a word says of a locale.
-#[derive(Drop)]
-pub(crate) enum Said {
-    // A locale.
-    Locale(String),
-    // Something else; what is told of it.
-    Fault(String),
+// Why the locale of a file isn't known.
+#[derive(Clone, Copy)]
+pub(crate) enum LocaleFault<'a> {
+    // Nothing names it.
+    Unnamed,
+    // This text is none.
+    NoLocale(&'a str),
 }
 
-// The locale of a file: the one that is named, else that of the file's name or of its folders.
-pub(crate) fn locale_of<S: RulesOfLocales>(
-    alloc: Global,
-    named: Option<&str>,
-    file: &str,
+impl fmt::Display for LocaleFault<'_> {
+    fn fmt<W: fmt::Write>(&self, f: &mut fmt::Formatter<W>) -> fmt::Result {
+        match *self {
+            LocaleFault::Unnamed => {
+                f.write_str("its language isn't known: name it in the file, or by --locale")
+            }
+            LocaleFault::NoLocale(text) => {
+                let shown = printed_name(text);
+                write!(
+                    f,
+                    "'{shown}' is no locale: write one as ru or pt_BR, or name it by --locale"
+                )
+            }
+        }
+    }
+}
+
+// Appends the locale of a file: the one that is named, else that of the file's name or of its
+// folders. Returns why it isn't known, if it isn't.
+pub(crate) fn push_locale<'a, S: RulesOfLocales>(
+    locale: &mut String,
+    named: Option<&'a str>,
+    file: &'a str,
     rules: &S,
-) -> Result<Said, AllocError> {
-    if let Some(named) = named {
-        return locale_written(alloc, named);
-    }
-    match word_of_name(file, rules) {
-        Some(word) => locale_written(alloc, word),
-        None => Ok(Said::Fault(String::from_str(
-            alloc,
-            "its language isn't known: name it in the file, or by --locale",
-        )?)),
+) -> Result<Option<LocaleFault<'a>>, AllocError> {
+    let word = match named {
+        Some(word) => Some(word),
+        None => word_of_name(file, rules),
+    };
+    match word {
+        Some(word) => push_written(locale, word),
+        None => Ok(Some(LocaleFault::Unnamed)),
     }
 }
 
-// The locale that a text writes.
-fn locale_written(alloc: Global, text: &str) -> Result<Said, AllocError> {
-    let locale = spelled(alloc, text)?;
+// Appends the locale that a text writes, unless it writes none.
+fn push_written<'a>(
+    locale: &mut String,
+    text: &'a str,
+) -> Result<Option<LocaleFault<'a>>, AllocError> {
+    push_spelled(locale, text)?;
     if is_locale(locale.as_str()) {
-        return Ok(Said::Locale(locale));
+        return Ok(None);
     }
-    let shown = name_text(alloc, text)?;
-    Ok(Said::Fault(format!(in alloc;
-        "'{shown}' is no locale: write one as ru or pt_BR, or name it by --locale"
-    )?))
+    Ok(Some(LocaleFault::NoLocale(text)))
 }
 
-// A text with `-` between subtags, as `sr-Latn` of `sr@latin`, and `pt-BR` of `pt_BR.UTF-8`. A long
-// modifier is no part of it.
-fn spelled(alloc: Global, text: &str) -> Result<String, AllocError> {
+// Appends a text with `-` between subtags, as `sr-Latn` of `sr@latin`, and `pt-BR` of `pt_BR.UTF-8`.
+// A long modifier is no part of it.
+fn push_spelled(locale: &mut String, text: &str) -> Result<(), AllocError> {
     let (name, modifier) = text.split_once('@').unwrap_or((text, ""));
-    let mut locale = String::new(alloc);
-    push_subtags(&mut locale, without_charset(name))?;
     let script = script_of(without_charset(modifier));
-    if script.is_empty() {
-        return Ok(locale);
-    }
-    if !locale.is_empty() {
+    push_subtags(locale, without_charset(name))?;
+    if !locale.is_empty() && !script.is_empty() {
         locale.push('-')?;
     }
-    push_subtags(&mut locale, script)?;
-    Ok(locale)
+    push_subtags(locale, script)
 }
 
 // What stands before the charset of a name, as `pt_BR` of `pt_BR.UTF-8`.
@@ -112,11 +123,29 @@ fn is_locale(text: &str) -> bool {
 // Whether a subtag may stand in a locale.
 fn is_subtag(subtag: &[u8], is_first: bool) -> bool {
     if is_first {
-        return 2 <= subtag.len()
-            && subtag.len() <= 8
-            && subtag.iter().all(|it| it.is_ascii_alphabetic());
+        return 2 <= subtag.len() && subtag.len() <= 8 && are_letters(subtag);
     }
-    1 <= subtag.len() && subtag.len() <= 8 && subtag.iter().all(|it| it.is_ascii_alphanumeric())
+    1 <= subtag.len() && subtag.len() <= 8 && are_alphanumeric(subtag)
+}
+
+// Whether bytes are letters of ASCII.
+fn are_letters(bytes: &[u8]) -> bool {
+    for it in bytes {
+        if !it.is_ascii_alphabetic() {
+            return false;
+        }
+    }
+    true
+}
+
+// Whether bytes are letters and digits of ASCII.
+fn are_alphanumeric(bytes: &[u8]) -> bool {
+    for it in bytes {
+        if !it.is_ascii_alphanumeric() {
+            return false;
+        }
+    }
+    true
 }
 
 // The locale that a file's name says, up to its first dot, else that of its folder, or of the folder
@@ -132,20 +161,16 @@ fn word_of_name<'a, S: RulesOfLocales>(file: &'a str, rules: &S) -> Option<&'a s
             name = part.as_bytes();
         }
     }
-    let stem = without_charset(text_of(name));
-    let folder = text_of(folder);
-    let above = text_of(above);
-    if is_named(stem, rules) {
-        return Some(stem);
+    for word in [
+        without_charset(text_of(name)),
+        text_of(folder),
+        text_of(above),
+    ] {
+        if is_named(word, rules) {
+            return Some(word);
+        }
     }
-    if is_named(folder, rules) {
-        return Some(folder);
-    }
-    if is_named(above, rules) {
-        Some(above)
-    } else {
-        None
-    }
+    None
 }
 
 // The text of these bytes, which are UTF-8.
@@ -155,30 +180,52 @@ pub(crate) fn text_of(bytes: &[u8]) -> &str {
 
 // Whether a name is that of a locale whose language has rules.
 pub(crate) fn is_named<S: RulesOfLocales>(name: &str, rules: &S) -> bool {
-    let mut is_first = true;
-    let mut language: &[u8] = b"";
-    for subtag in name.split(|it: char| it == '-' || it == '_' || it == '@') {
-        if is_first {
-            if !is_language(subtag.as_bytes()) {
-                return false;
-            }
-            language = subtag.as_bytes();
-        } else if subtag.len() < 2
-            || !subtag
-                .as_bytes()
-                .iter()
-                .all(|it| it.is_ascii_alphanumeric())
-        {
-            return false;
-        }
-        is_first = false;
+    match language_of(name) {
+        Some(language) => has_rules(language, rules),
+        None => false,
     }
-    rules
-        .rules_of(PluralRuleType::Cardinal, text_of(language))
-        .is_some()
+}
+
+// Whether a language has rules.
+fn has_rules<S: RulesOfLocales>(language: &str, rules: &S) -> bool {
+    match rules.rules_of(PluralRuleType::Cardinal, language) {
+        Some(found) => {
+            drop(found);
+            true
+        }
+        None => false,
+    }
+}
+
+// The language of a name that may be that of a locale.
+fn language_of(name: &str) -> Option<&str> {
+    let mut language: Option<&str> = None;
+    for subtag in name.split(|it: char| it == '-' || it == '_' || it == '@') {
+        match language {
+            None if is_language(subtag.as_bytes()) => language = Some(subtag),
+            Some(_) if is_further(subtag.as_bytes()) => (),
+            _ => return None,
+        }
+    }
+    language
 }
 
 // Whether a word may be a language: two or three small letters.
 fn is_language(word: &[u8]) -> bool {
-    2 <= word.len() && word.len() <= 3 && word.iter().all(|it| it.is_ascii_lowercase())
+    2 <= word.len() && word.len() <= 3 && are_small(word)
+}
+
+// Whether a word may stand behind a language: two or more letters and digits.
+fn is_further(word: &[u8]) -> bool {
+    2 <= word.len() && are_alphanumeric(word)
+}
+
+// Whether bytes are small letters of ASCII.
+fn are_small(bytes: &[u8]) -> bool {
+    for it in bytes {
+        if !it.is_ascii_lowercase() {
+            return false;
+        }
+    }
+    true
 }

@@ -33,17 +33,34 @@ impl LocalePlaces {
     // Puts a message.
     fn insert(
         &mut self,
+        alloc: Global,
         kind: MessageKind,
-        key: String,
+        key: &str,
         lines: MessageLines,
     ) -> Result<(), AllocError> {
-        match kind {
-            MessageKind::Cardinal => drop(self.cardinal.insert(key, lines)?),
-            MessageKind::Ordinal => drop(self.ordinal.insert(key, lines)?),
-            MessageKind::Pattern => drop(self.patterns.insert(key, lines)?),
+        let places = match kind {
+            MessageKind::Cardinal => &mut self.cardinal,
+            MessageKind::Ordinal => &mut self.ordinal,
+            MessageKind::Pattern => &mut self.patterns,
+        };
+        match String::from_str(alloc, key) {
+            Ok(key) => insert(places, key, lines),
+            Err(error) => {
+                drop(lines);
+                Err(error)
+            }
         }
-        Ok(())
     }
+}
+
+// Puts a value in place of another one of this key, which is dropped.
+fn insert<T: Drop>(
+    places: &mut BTreeMap<String, T>,
+    key: String,
+    value: T,
+) -> Result<(), AllocError> {
+    drop(places.insert(key, value)?);
+    Ok(())
 }
 
 /// Where the messages of a file stand: by locale, kind and key.
@@ -75,14 +92,25 @@ impl Places {
         key: &str,
         lines: MessageLines,
     ) -> Result<(), AllocError> {
-        let key = String::from_str(alloc, key)?;
-        if let Some(places) = self.locales.get_mut(locale) {
-            return places.insert(kind, key, lines);
+        if let Err(error) = self.add_locale(alloc, locale) {
+            drop(lines);
+            return Err(error);
         }
-        let mut places = LocalePlaces::new(alloc);
-        places.insert(kind, key, lines)?;
-        self.locales
-            .insert(String::from_str(alloc, locale)?, places)?;
-        Ok(())
+        match self.locales.get_mut(locale) {
+            Some(places) => places.insert(alloc, kind, key, lines),
+            None => {
+                drop(lines);
+                Ok(())
+            }
+        }
+    }
+
+    // Adds a locale, unless it is there.
+    fn add_locale(&mut self, alloc: Global, locale: &str) -> Result<(), AllocError> {
+        if self.locales.contains_key(locale) {
+            return Ok(());
+        }
+        let name = String::from_str(alloc, locale)?;
+        insert(&mut self.locales, name, LocalePlaces::new(alloc))
     }
 }

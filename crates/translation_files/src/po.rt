@@ -6,11 +6,13 @@ mod header;
 mod indices;
 mod laid;
 mod marked;
+mod measure;
 mod message;
 mod mistakes;
 mod numbers;
 mod read_text;
 mod refusal;
+mod sides;
 mod source_number;
 mod standing;
 mod text_format;
@@ -22,7 +24,7 @@ use crate::gathered::Gathered;
 use faults::{other_charset, tell_faults};
 use header::{PoFile, read_messages};
 use message_report::RulesOfLocales;
-use plural_documents::name_text;
+use plural_documents::printed_name;
 use po_catalog::Catalog;
 use refusal::{left_out, line_of_header};
 use standing::{Standings, standings_of};
@@ -41,7 +43,7 @@ pub fn read_po<S: RulesOfLocales>(
     locale: Option<&str>,
 ) -> Result<FileMessages, AllocError> {
     let mut gathered = Gathered::new(alloc);
-    gather_po(&mut gathered, name, bytes, rules, locale)?;
+    gather_po(&mut gathered, name, bytes, rules, locale);
     gathered.finish()
 }
 
@@ -52,34 +54,49 @@ pub(crate) fn gather_po<S: RulesOfLocales>(
     bytes: &[u8],
     rules: &S,
     locale: Option<&str>,
-) -> Result<(), AllocError> {
-    let mut catalog = Catalog::read(gathered.alloc, bytes)?;
-    catalog.faults.sort_by_key(|it| it.line)?;
+) {
+    match Catalog::read(gathered.alloc, bytes) {
+        Ok(mut catalog) => {
+            let sorted = catalog.faults.sort_by_key(|it| it.line);
+            gathered.keep(sorted);
+            gather_catalog(gathered, &catalog, name, rules, locale);
+            drop(catalog);
+        }
+        Err(_) => gathered.fail(),
+    }
+}
+
+// Gathers what is in a catalog, whose faults are in the order of their lines.
+fn gather_catalog<S: RulesOfLocales>(
+    gathered: &mut Gathered,
+    catalog: &Catalog,
+    name: &str,
+    rules: &S,
+    locale: Option<&str>,
+) {
     if catalog.entries.is_empty() {
         let text = "it is no file of messages: name a file of gettext, i18next or ARB";
         return gathered.tell_not_read(text);
     }
-    if let Some(charset) = other_charset(&catalog) {
-        return refuse_charset(gathered, &catalog, charset);
+    if let Some(charset) = other_charset(catalog) {
+        return refuse_charset(gathered, catalog, charset);
     }
-    read_catalog(gathered, &catalog, name, rules, locale)
+    read_catalog(gathered, catalog, name, rules, locale);
 }
 
 // Tells that the file is to be converted.
-fn refuse_charset(
-    gathered: &mut Gathered,
-    catalog: &Catalog,
-    charset: &str,
-) -> Result<(), AllocError> {
-    let alloc = gathered.alloc;
-    let count = standings_of(catalog)?.count();
-    let shown = name_text(alloc, charset)?;
-    let left = left_out(alloc, count)?;
-    let text = format!(in alloc;
-        "its charset is {shown}, and UTF-8 is read: convert the file by msgconv --to-code=UTF-8; {left}"
-    )?;
-    gathered.tell(line_of_header(catalog), NoticeCode::Charset, text)?;
-    gathered.count(Fate::LeftOut, count)
+fn refuse_charset(gathered: &mut Gathered, catalog: &Catalog, charset: &str) {
+    let count = standings_of(catalog).count();
+    let shown = printed_name(charset);
+    let left = left_out(count);
+    gathered.leave_out(
+        count,
+        line_of_header(catalog),
+        NoticeCode::Charset,
+        format_args!(
+            "its charset is {shown}, and UTF-8 is read: convert the file by msgconv --to-code=UTF-8; {count} {left}"
+        ),
+    );
 }
 
 // Reads the messages of a catalog.
@@ -89,15 +106,15 @@ fn read_catalog<S: RulesOfLocales>(
     name: &str,
     rules: &S,
     locale: Option<&str>,
-) -> Result<(), AllocError> {
-    let standings = standings_of(catalog)?;
-    tell_faults(gathered, catalog)?;
+) {
+    let standings = standings_of(catalog);
+    tell_faults(gathered, catalog);
     if standings.count() == 0 {
         return gathered.note_no_messages();
     }
-    tell_left_out(gathered, &standings)?;
+    tell_left_out(gathered, &standings);
     if standings.whole == 0 {
-        return Ok(());
+        return;
     }
     let file = PoFile {
         catalog,
@@ -105,23 +122,25 @@ fn read_catalog<S: RulesOfLocales>(
         rules,
         locale,
     };
-    read_messages(gathered, &file)
+    read_messages(gathered, &file);
 }
 
 // Tells how many messages need no check.
-fn tell_left_out(gathered: &mut Gathered, standings: &Standings) -> Result<(), AllocError> {
-    let alloc = gathered.alloc;
+fn tell_left_out(gathered: &mut Gathered, standings: &Standings) {
     let untranslated = standings.untranslated;
     let fuzzy = standings.fuzzy;
     let obsolete = standings.obsolete;
     if untranslated == 0 && fuzzy == 0 && obsolete == 0 {
-        return Ok(());
+        return;
     }
-    let text = format!(in alloc;
-        "messages without a text {untranslated}, fuzzy {fuzzy}, obsolete {obsolete}: left out"
-    )?;
-    gathered.note(None, NoticeCode::LeftOut, text)?;
-    gathered.count(Fate::LeftOut, untranslated)?;
-    gathered.count(Fate::LeftOut, fuzzy)?;
-    gathered.count(Fate::LeftOut, obsolete)
+    gathered.note(
+        None,
+        NoticeCode::LeftOut,
+        format_args!(
+            "messages without a text {untranslated}, fuzzy {fuzzy}, obsolete {obsolete}: left out"
+        ),
+    );
+    gathered.count(Fate::LeftOut, untranslated);
+    gathered.count(Fate::LeftOut, fuzzy);
+    gathered.count(Fate::LeftOut, obsolete);
 }

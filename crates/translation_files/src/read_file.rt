@@ -44,7 +44,7 @@ pub fn read_messages<S: RulesOfLocales>(
 /// Returns what is told of a file that isn't read, and no messages.
 pub fn no_messages(alloc: Global, text: &str) -> Result<FileMessages, AllocError> {
     let mut gathered = Gathered::new(alloc);
-    gathered.tell_not_read(text)?;
+    gathered.tell_not_read(text);
     gathered.finish()
 }
 

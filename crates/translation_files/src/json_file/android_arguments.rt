@@ -3,7 +3,8 @@
 ghost use Rattle.std.specs.Prelude.{◌≤◌, ◌<◌, length, IfSome};
 
 use crate::json_file::text_bytes::{Class, after_byte, behind_run, is_in, split_run};
-use std::alloc::{AllocError, Global};
+use crate::pushed::push;
+use std::alloc::AllocError;
 
 // What an argument converts.
 #[derive(Clone, Copy, PartialEq, Eq)]
@@ -54,12 +55,11 @@ impl AndroidArgument<'_> {
     }
 }
 
-// The pieces of a text.
-pub(crate) fn android_pieces<'t>(
-    alloc: Global,
+// Appends the pieces of a text.
+pub(crate) fn push_pieces<'t>(
+    pieces: &mut Vec<AndroidPiece<'t>>,
     text: &'t [u8],
-) -> Result<Vec<AndroidPiece<'t>>, AllocError> {
-    let mut pieces = Vec::new(alloc);
+) -> Result<(), AllocError> {
     let mut turn: usize = 0;
     let mut rest = text;
     while let [first, after @ ..] = rest {
@@ -69,10 +69,10 @@ pub(crate) fn android_pieces<'t>(
             let (plain, behind) = split_run(Class::Plain, after);
             (AndroidPiece::Text(&rest[..plain.len() + 1]), behind)
         };
-        pieces.push(piece)?;
+        push(pieces, piece)?;
         rest = behind;
     }
-    Ok(pieces)
+    Ok(())
 }
 
 // The piece that begins with a `%`, and what follows it.

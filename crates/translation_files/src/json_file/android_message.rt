@@ -1,18 +1,20 @@
 //! The message of Android's texts.
 
 use crate::code::NoticeCode;
-use crate::gathered::{Message, Note};
-use crate::json_file::android_arguments::{AndroidArgument, AndroidPiece, android_pieces};
-use crate::json_file::android_number::{AndroidNumber, android_number};
+use crate::counts::Fate;
+use crate::gathered::{Gathered, MessageHead};
+use crate::json_file::android_arguments::{AndroidArgument, AndroidPiece, push_pieces};
+use crate::json_file::android_number::{AndroidNumber, android_number, count_arguments};
 use crate::json_file::form_text::FormText;
-use crate::lines::{FormLine, MessageLines};
+use crate::locale_name::text_of;
+use crate::pushed::push;
 use icu_plurals::PluralCategory;
 use message_report::Form;
-use serde_json::{Map, Value, put};
+use plural_documents::printed_name;
 use std::alloc::{AllocError, Global};
 
 // The most arguments of a text that are read.
-pub(crate) const MOST_ARGUMENTS: usize = 100;
+const MOST_ARGUMENTS: usize = 100;
 
 // A form of an Android message.
 #[derive(Clone, Copy)]
@@ -24,48 +26,74 @@ pub(crate) struct AndroidText<'t> {
 
 // A form, taken apart.
 #[derive(Drop)]
-struct AndroidForm<'t> {
+pub(crate) struct AndroidForm<'t> {
     category: PluralCategory,
     line: u64,
     pieces: Vec<AndroidPiece<'t>>,
-    arguments: usize,
 }
 
-// The message of texts in a line; none, if one has more arguments than are read.
-pub(crate) fn android_message(
+// Appends a text, taken apart.
+pub(crate) fn push_form<'t>(
     alloc: Global,
-    texts: &[AndroidText<'_>],
-    line: u64,
-) -> Result<Option<Message>, AllocError> {
-    let mut forms = Vec::new(alloc);
-    for text in texts {
-        let form = android_form(alloc, *text)?;
-        if form.arguments > MOST_ARGUMENTS {
-            return Ok(None);
-        }
-        forms.push(form)?;
+    forms: &mut Vec<AndroidForm<'t>>,
+    text: AndroidText<'t>,
+) -> Result<(), AllocError> {
+    let mut pieces = Vec::new(alloc);
+    match push_pieces(&mut pieces, text.text.as_bytes()) {
+        Ok(()) => push(
+            forms,
+            AndroidForm {
+                category: text.category,
+                line: text.line,
+                pieces,
+            },
+        ),
+        Err(error) => Err(error),
     }
-    let longest = longest_of(&forms);
-    let singular = singular_of(&forms).unwrap_or(longest);
-    let number = android_number(alloc, longest, singular)?;
-    Ok(Some(message_of(alloc, &forms, longest, number, line)?))
 }
 
-// A text, taken apart.
-fn android_form<'t>(alloc: Global, text: AndroidText<'t>) -> Result<AndroidForm<'t>, AllocError> {
-    let pieces = android_pieces(alloc, text.text.as_bytes())?;
-    let mut arguments: usize = 0;
-    for piece in &pieces {
-        if let AndroidPiece::Argument(_) = piece {
-            arguments = arguments.saturating_add(1);
+// Adds the message of forms, unless one has more arguments than are read.
+pub(crate) fn add_android_message(
+    gathered: &mut Gathered,
+    head: MessageHead<'_>,
+    forms: &[AndroidForm<'_>],
+) {
+    if have_too_many(forms) {
+        return tell_too_many(gathered, head);
+    }
+    if gathered.is_twice(head) {
+        return;
+    }
+    let longest = longest_of(forms);
+    let singular = singular_of(forms).unwrap_or(longest);
+    add_forms(
+        gathered,
+        head,
+        forms,
+        longest,
+        android_number(longest, singular),
+    );
+}
+
+// Whether a form has more arguments than are read.
+fn have_too_many(forms: &[AndroidForm<'_>]) -> bool {
+    for form in forms {
+        if count_arguments(&form.pieces) > MOST_ARGUMENTS {
+            return true;
         }
     }
-    Ok(AndroidForm {
-        category: text.category,
-        line: text.line,
-        pieces,
-        arguments,
-    })
+    false
+}
+
+// Tells that a text has more arguments than are read.
+fn tell_too_many(gathered: &mut Gathered, head: MessageHead<'_>) {
+    let shown = printed_name(head.key);
+    gathered.leave_out(
+        1,
+        Some(head.line),
+        NoticeCode::TooMany,
+        format_args!("'{shown}' has a text with more than 100 arguments: cut it"),
+    );
 }
 
 // The pieces of the form with the most arguments: of several, that of the last category.
@@ -73,7 +101,7 @@ fn longest_of<'f, 't>(forms: &'f [AndroidForm<'t>]) -> &'f [AndroidPiece<'t>] {
     let mut longest: &'f [AndroidPiece<'t>] = &[];
     let mut most: Option<(usize, PluralCategory)> = None;
     for form in forms {
-        let size = (form.arguments, form.category);
+        let size = (count_arguments(&form.pieces), form.category);
         if most.is_none() || Some(size) > most {
             most = Some(size);
             longest = form.pieces.as_slice();
@@ -92,35 +120,30 @@ fn singular_of<'f, 't>(forms: &'f [AndroidForm<'t>]) -> Option<&'f [AndroidPiece
     None
 }
 
-// The message of forms whose number is known, or not.
-fn message_of(
-    alloc: Global,
+// Adds forms whose number is known, or not.
+fn add_forms(
+    gathered: &mut Gathered,
+    head: MessageHead<'_>,
     forms: &[AndroidForm<'_>],
     longest: &[AndroidPiece<'_>],
     number: AndroidNumber<'_>,
-    line: u64,
-) -> Result<Message, AllocError> {
-    let mut members = Map::new(alloc);
-    let mut lines = Vec::new(alloc);
+) {
     for form in forms {
-        let name = Form::Category(form.category);
-        let text = marked(alloc, &form.pieces, number)?;
-        put(&mut members, alloc, name.as_str(), Value::String(text))?;
-        lines.push(FormLine {
-            form: name,
-            line: form.line,
-        })?;
+        put_form(gathered, form, number);
     }
-    Ok(Message {
-        value: Value::Object(members),
-        source: source_of(alloc, longest, number)?,
-        lines: MessageLines {
-            line,
-            forms: lines,
-            placeholder: placeholder_of(alloc, number)?,
-        },
-        note: note_of(alloc, longest, number)?,
-    })
+    end(gathered, head, longest, number);
+    match number {
+        AndroidNumber::Unclear => note_unclear(gathered, head.line, longest),
+        _ => gathered.count(Fate::Checked, 1),
+    }
+}
+
+// Puts a form.
+fn put_form(gathered: &mut Gathered, form: &AndroidForm<'_>, number: AndroidNumber<'_>) {
+    let name = Form::Category(form.category);
+    let text = marked(gathered.alloc, &form.pieces, number);
+    gathered.put_form(name, text);
+    gathered.put_line(name, form.line);
 }
 
 // A text with `{}` for its number.
@@ -130,19 +153,28 @@ fn marked(
     number: AndroidNumber<'_>,
 ) -> Result<String, AllocError> {
     let mut text = FormText::new(alloc);
+    match push_marked(&mut text, pieces, number) {
+        Ok(()) => text.text(alloc),
+        Err(error) => Err(error),
+    }
+}
+
+// Appends a text with `{}` for its number.
+fn push_marked(
+    text: &mut FormText,
+    pieces: &[AndroidPiece<'_>],
+    number: AndroidNumber<'_>,
+) -> Result<(), AllocError> {
     for piece in pieces {
         match *piece {
-            AndroidPiece::Text(bytes) => text.push_text(bytes)?,
-            AndroidPiece::Argument(argument) => {
-                if is_number(&argument, number) {
-                    text.push_number()?;
-                } else {
-                    text.push_text(argument.text)?;
-                }
+            AndroidPiece::Argument(argument) if is_number(&argument, number) => {
+                text.push_number()?
             }
+            AndroidPiece::Argument(argument) => text.push_text(argument.text)?,
+            AndroidPiece::Text(bytes) => text.push_text(bytes)?,
         }
     }
-    text.text(alloc)
+    Ok(())
 }
 
 // Whether an argument is the number.
@@ -153,57 +185,53 @@ fn is_number(argument: &AndroidArgument<'_>, number: AndroidNumber<'_>) -> bool 
     }
 }
 
-// The arguments of the source, which isn't known if the number is: then some form has it.
-fn source_of(
-    alloc: Global,
+// Ends the message, with what stands for the number, if that is known: then some form has it. Else
+// with the arguments of the source.
+fn end(
+    gathered: &mut Gathered,
+    head: MessageHead<'_>,
     longest: &[AndroidPiece<'_>],
     number: AndroidNumber<'_>,
-) -> Result<Option<Value>, AllocError> {
-    if let AndroidNumber::Known(_) = number {
-        return Ok(None);
+) {
+    if let AndroidNumber::Known(known) = number {
+        gathered.put_placeholder(text_of(known.text));
+        return gathered.end(head, false);
     }
-    let mut arguments = Vec::new(alloc);
     for piece in longest {
         if let AndroidPiece::Argument(argument) = piece {
-            arguments.push(Value::String(String::from_utf8_lossy(alloc, argument.text)?))?;
+            let text = String::from_str(gathered.alloc, text_of(argument.text));
+            gathered.put_argument(text);
         }
     }
-    Ok(Some(Value::Array(arguments)))
+    gathered.end(head, true);
 }
 
-// How the number is written, if it is known.
-fn placeholder_of(alloc: Global, number: AndroidNumber<'_>) -> Result<Option<String>, AllocError> {
-    match number {
-        AndroidNumber::Known(known) => Ok(Some(String::from_utf8_lossy(alloc, known.text)?)),
-        _ => Ok(None),
-    }
-}
-
-// Why the number isn't checked, if it isn't clear.
-fn note_of(
-    alloc: Global,
-    longest: &[AndroidPiece<'_>],
-    number: AndroidNumber<'_>,
-) -> Result<Option<Note>, AllocError> {
-    let AndroidNumber::Unclear = number else {
-        return Ok(None);
+// Notes that it isn't clear which argument is the number, and counts the message.
+fn note_unclear(gathered: &mut Gathered, line: u64, longest: &[AndroidPiece<'_>]) {
+    let which = if count_arguments(longest) == 1 {
+        "whether"
+    } else {
+        "which of"
     };
-    let mut names = String::new(alloc);
-    let mut count: usize = 0;
-    for piece in longest {
+    let mut names = String::new(gathered.alloc);
+    let pushed = push_names(&mut names, longest);
+    gathered.keep(pushed);
+    gathered.note(
+        Some(line),
+        NoticeCode::NumberUnclear,
+        format_args!("{which} {names} is the number isn't clear: it isn't checked"),
+    );
+    gathered.count(Fate::Noted, 1);
+}
+
+// Appends the texts of arguments.
+fn push_names(names: &mut String, pieces: &[AndroidPiece<'_>]) -> Result<(), AllocError> {
+    for piece in pieces {
         if let AndroidPiece::Argument(argument) = piece {
-            if count > 0 {
-                names.push_str(", ")?;
-            }
-            let name = String::from_utf8_lossy(alloc, argument.text)?;
-            names.push_str(name.as_str())?;
-            count = count.saturating_add(1);
+            let comma = if names.is_empty() { "" } else { ", " };
+            names.push_str(comma)?;
+            names.push_str(text_of(argument.text))?;
         }
     }
-    let which = if count == 1 { "whether" } else { "which of" };
-    let text = format!(in alloc; "{which} {names} is the number isn't clear: it isn't checked")?;
-    Ok(Some(Note {
-        code: NoticeCode::NumberUnclear,
-        text,
-    }))
+    Ok(())
 }

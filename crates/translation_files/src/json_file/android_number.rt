@@ -4,7 +4,6 @@ ghost use Rattle.std.specs.Prelude.{◌≤◌, length};
 
 use crate::json_file::android_arguments::{AndroidArgument, AndroidPiece};
 use crate::json_file::text_bytes::{Class, behind_run, is_in, split_run};
-use std::alloc::{AllocError, Global};
 
 // What is known of the number.
 #[derive(Clone, Copy)]
@@ -19,76 +18,94 @@ pub(crate) enum AndroidNumber<'t> {
 // The number of a message, given its text with the most arguments and that of one: the integer; of
 // several the only one that the text of one lacks, or has before another word; else the first.
 pub(crate) fn android_number<'t>(
-    alloc: Global,
     longest: &[AndroidPiece<'t>],
     singular: &[AndroidPiece<'_>],
-) -> Result<AndroidNumber<'t>, AllocError> {
-    let found = distinct(alloc, longest)?;
-    if found.is_empty() {
-        return Ok(AndroidNumber::Absent);
+) -> AndroidNumber<'t> {
+    if count_arguments(longest) == 0 {
+        return AndroidNumber::Absent;
     }
-    let mut integers = Vec::new(alloc);
-    for argument in &found {
-        if argument.is_integer() {
-            integers.push(*argument)?;
-        }
-    }
-    Ok(match integers.as_slice() {
-        [] => AndroidNumber::Unclear,
-        [number] => AndroidNumber::Known(*number),
-        [first, ..] => number_of_integers(*first, &integers, longest, singular),
-    })
-}
-
-// The first argument of each place.
-fn distinct<'t>(
-    alloc: Global,
-    pieces: &[AndroidPiece<'t>],
-) -> Result<Vec<AndroidArgument<'t>>, AllocError> {
-    let mut found = Vec::new(alloc);
-    for piece in pieces {
+    let mut integers = Integers::none();
+    for (index, piece) in longest.iter().enumerate() {
         if let AndroidPiece::Argument(argument) = *piece {
-            if !has_place(&found, argument.place) {
-                found.push(argument)?;
+            let before = longest.get(..index).unwrap_or(longest);
+            if argument.is_integer() && !has_place(before, argument.place) {
+                integers.add(argument, longest, singular);
             }
         }
     }
-    Ok(found)
+    integers.number()
 }
 
-// Whether an argument has this place.
-fn has_place(found: &[AndroidArgument<'_>], place: usize) -> bool {
-    for known in found {
-        if known.place == place {
-            return true;
+// How many arguments are among pieces.
+pub(crate) fn count_arguments(pieces: &[AndroidPiece<'_>]) -> usize {
+    let mut count: usize = 0;
+    for piece in pieces {
+        if let AndroidPiece::Argument(_) = piece {
+            count = count.saturating_add(1);
+        }
+    }
+    count
+}
+
+// Whether an argument among pieces has this place.
+fn has_place(pieces: &[AndroidPiece<'_>], place: usize) -> bool {
+    for piece in pieces {
+        if let AndroidPiece::Argument(known) = piece {
+            if known.place == place {
+                return true;
+            }
         }
     }
     false
 }
 
-// The number among several integers.
-fn number_of_integers<'t>(
-    first: AndroidArgument<'t>,
-    integers: &[AndroidArgument<'t>],
-    longest: &[AndroidPiece<'t>],
-    singular: &[AndroidPiece<'_>],
-) -> AndroidNumber<'t> {
-    let mut lacking = Choice::none();
-    let mut changing = Choice::none();
-    for integer in integers {
-        match word_behind(singular, integer.place) {
-            None => lacking.add(*integer),
-            Some(word) => {
-                if Some(word) != word_behind(longest, integer.place) {
-                    changing.add(*integer);
-                }
-            }
+// The integers among arguments: all, those that the text of one lacks, and those that it has before
+// another word.
+#[derive(Clone, Copy)]
+struct Integers<'t> {
+    all: Choice<'t>,
+    lacking: Choice<'t>,
+    changing: Choice<'t>,
+}
+
+impl<'t> Integers<'t> {
+    fn none() -> Integers<'t> {
+        Integers {
+            all: Choice::none(),
+            lacking: Choice::none(),
+            changing: Choice::none(),
         }
     }
-    if lacking.count > 0 && changing.count > 0 {
-        return AndroidNumber::Unclear;
+
+    // Adds an integer.
+    fn add(
+        &mut self,
+        integer: AndroidArgument<'t>,
+        longest: &[AndroidPiece<'t>],
+        singular: &[AndroidPiece<'_>],
+    ) {
+        self.all.add(integer);
+        match word_behind(singular, integer.place) {
+            None => self.lacking.add(integer),
+            Some(word) if Some(word) != word_behind(longest, integer.place) => {
+                self.changing.add(integer)
+            }
+            Some(_) => (),
+        }
     }
-    AndroidNumber::Known(lacking.only().or(changing.only()).unwrap_or(first))
+
+    // The number among them.
+    fn number(&self) -> AndroidNumber<'t> {
+        let is_several = self.all.count > 1;
+        if is_several && self.lacking.count > 0 && self.changing.count > 0 {
+            return AndroidNumber::Unclear;
+        }
+        let shown = self.lacking.only().or(self.changing.only());
+        match self.all.only().or(shown).or(self.all.first) {
+            Some(number) => AndroidNumber::Known(number),
+            None => AndroidNumber::Unclear,
+        }
+    }
 }
 
 // Arguments of which one may be chosen: how many, and the first.

@@ -3,6 +3,7 @@
 use crate::json_file::members::{Member, Members};
 use crate::lines::{FormLine, MessageKind, MessageLines};
 use crate::places::Places;
+use crate::pushed::push;
 use icu_plurals::PluralCategory;
 use json::Scratch;
 use message_report::Form;
@@ -11,74 +12,78 @@ use std::mem;
 
 // The places of messages, as they are gathered.
 #[derive(Drop)]
-struct DocumentPlaces<'a> {
+struct DocumentPlaces<'p, 'a> {
     alloc: Global,
-    places: Places,
+    places: &'p mut Places,
     locale: &'a str,
     kind: Option<MessageKind>,
     message: Option<PlacedMessage<'a>>,
+    // The lines of the forms of that message.
+    lines: Vec<FormLine>,
     count: u64,
 }
 
-// The places of a document's messages, and how many messages there are.
-#[derive(Drop)]
-pub(crate) struct PlacesFound {
-    pub(crate) places: Places,
-    pub(crate) count: u64,
-}
-
 // The message whose forms are being read.
-#[derive(Drop)]
+#[derive(Clone, Copy)]
 struct PlacedMessage<'a> {
     kind: MessageKind,
     key: &'a str,
-    lines: MessageLines,
+    line: u64,
 }
 
-// Where the messages of a document stand, whose text is JSON.
-pub(crate) fn places_of_document<'a>(
+// Adds where the messages of a document stand, whose text is JSON. Returns how many there are.
+pub(crate) fn add_places(
     alloc: Global,
-    text: &'a str,
-    scratch: &'a mut Scratch,
-) -> Result<PlacesFound, AllocError> {
-    let gathered = gathered_places(alloc, text, scratch)?;
-    gathered.finish()
+    text: &str,
+    places: &mut Places,
+) -> Result<u64, AllocError> {
+    let mut scratch = Scratch::new(alloc);
+    match Members::of(text, &mut scratch) {
+        Ok(members) => count_places(alloc, members, places),
+        Err(error) => Err(error),
+    }
 }
 
-// The places of the messages, member by member.
-fn gathered_places<'a>(
+// Adds where the messages of some members stand. Returns how many there are.
+fn count_places(
     alloc: Global,
-    text: &'a str,
-    scratch: &'a mut Scratch,
-) -> Result<DocumentPlaces<'a>, AllocError> {
-    let mut members = Members::of(text, scratch)?;
-    let mut gathered = DocumentPlaces::new(alloc);
+    members: Members<'_>,
+    places: &mut Places,
+) -> Result<u64, AllocError> {
+    let mut gathered = DocumentPlaces::new(alloc, places);
+    let taken = take_members(&mut gathered, members);
+    let count = gathered.count;
+    drop(gathered);
+    match taken {
+        Ok(()) => Ok(count),
+        Err(error) => Err(error),
+    }
+}
+
+// Takes members, one after the other.
+fn take_members<'a>(
+    gathered: &mut DocumentPlaces<'_, 'a>,
+    members: Members<'a>,
+) -> Result<(), AllocError> {
+    let mut members = members;
     while let Some(member) = members.next() {
         gathered.take(member)?;
     }
-    Ok(gathered)
+    gathered.end_message()
 }
 
-impl<'a> DocumentPlaces<'a> {
+impl<'p, 'a> DocumentPlaces<'p, 'a> {
     // Nothing yet.
-    fn new(alloc: Global) -> DocumentPlaces<'a> {
+    fn new(alloc: Global, places: &'p mut Places) -> DocumentPlaces<'p, 'a> {
         DocumentPlaces {
             alloc,
-            places: Places::new(alloc),
+            places,
             locale: "",
             kind: None,
             message: None,
+            lines: Vec::new(alloc),
             count: 0,
         }
-    }
-
-    // What was gathered, behind the last member.
-    fn finish(mut self) -> Result<PlacesFound, AllocError> {
-        self.end_message()?;
-        Ok(PlacesFound {
-            places: self.places,
-            count: self.count,
-        })
     }
 
     // Takes a member: a locale, a part, a message or a form.
@@ -97,44 +102,41 @@ impl<'a> DocumentPlaces<'a> {
 
     // Begins a message.
     fn begin_message(&mut self, member: Member<'a>) {
-        let Some(kind) = self.kind else {
-            return;
-        };
-        self.message = Some(PlacedMessage {
-            kind,
-            key: member.key,
-            lines: MessageLines {
-                line: member.line,
-                forms: Vec::new(self.alloc),
-                placeholder: None,
-            },
-        });
+        if let Some(kind) = self.kind {
+            let key = member.key;
+            let line = member.line;
+            self.message = Some(PlacedMessage { kind, key, line });
+        }
     }
 
     // Takes a form of the message.
     fn take_form(&mut self, member: Member<'a>) -> Result<(), AllocError> {
-        let Some(message) = &mut self.message else {
-            return Ok(());
-        };
-        if member.depth > 3 {
+        if self.message.is_none() || member.depth > 3 {
             return Ok(());
         }
-        if let Some(form) = form_named(member.key) {
-            let line = member.line;
-            message.lines.forms.push(FormLine { form, line })?;
+        match form_named(member.key) {
+            Some(form) => {
+                let line = member.line;
+                push(&mut self.lines, FormLine { form, line })
+            }
+            None => Ok(()),
         }
-        Ok(())
     }
 
     // Keeps the place of the message that was read.
     fn end_message(&mut self) -> Result<(), AllocError> {
-        let Some(message) = mem::replace(&mut self.message, None) else {
+        let Some(message) = self.message else {
             return Ok(());
         };
-        let PlacedMessage { kind, key, lines } = message;
+        self.message = None;
         self.count = self.count.saturating_add(1);
+        let lines = MessageLines {
+            line: message.line,
+            forms: mem::replace(&mut self.lines, Vec::new(self.alloc)),
+            placeholder: None,
+        };
         self.places
-            .insert(self.alloc, self.locale, kind, key, lines)
+            .insert(self.alloc, self.locale, message.kind, message.key, lines)
     }
 }
 

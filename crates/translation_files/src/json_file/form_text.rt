@@ -1,5 +1,6 @@
 //! The text of a form as a document has it: `{}` is the number.
 
+use crate::pushed::push;
 use std::alloc::{AllocError, Global};
 
 // Such a text, as it is made.
@@ -8,7 +9,6 @@ pub(crate) struct FormText {
     bytes: Vec<u8>,
     // Whether the last byte is a brace of the text that may open.
     is_open: bool,
-    has_number: bool,
 }
 
 impl FormText {
@@ -17,23 +17,16 @@ impl FormText {
         FormText {
             bytes: Vec::new(alloc),
             is_open: false,
-            has_number: false,
         }
-    }
-
-    // Whether the number is in it.
-    pub(crate) fn has_number(&self) -> bool {
-        self.has_number
     }
 
     // Adds a byte of the file's text: a `{}` that isn't the number becomes `{ }`.
-    fn push(&mut self, byte: u8) -> Result<(), AllocError> {
+    pub(crate) fn push(&mut self, byte: u8) -> Result<(), AllocError> {
         if self.is_open && byte == b'}' {
-            self.bytes.push(b' ')?;
+            push(&mut self.bytes, b' ')?;
         }
         self.is_open = byte == b'{';
-        self.bytes.push(byte)?;
-        Ok(())
+        push(&mut self.bytes, byte)
     }
 
     // Adds bytes of the file's text.
@@ -47,7 +40,6 @@ impl FormText {
     // Adds the number.
     pub(crate) fn push_number(&mut self) -> Result<(), AllocError> {
         self.is_open = false;
-        self.has_number = true;
         self.bytes.extend_from_slice(b"{}")
     }
 

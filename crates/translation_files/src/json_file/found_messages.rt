@@ -2,17 +2,18 @@
 
 use crate::code::NoticeCode;
 use crate::counts::Fate;
-use crate::gathered::Gathered;
+use crate::gathered::{Gathered, MessageHead};
 use crate::json_file::icu_scan::has_plural;
 use crate::json_file::key_tree::KeyTree;
 use crate::json_file::message_keys::{MessageKeys, shown_key};
-use crate::json_file::pattern_message::pattern_message;
+use crate::json_file::pattern_message::add_pattern_message;
 use crate::json_file::suffix_groups::{Group, Groups};
-use crate::json_file::suffix_message::suffix_message;
+use crate::json_file::suffix_message::add_suffix_message;
 use crate::json_file::texts::{JsonText, JsonTexts, Repeated};
 use crate::lines::MessageKind;
+use crate::pushed::push;
 use message_report::Form;
-use plural_documents::name_text;
+use plural_documents::printed_name;
 use std::alloc::{AllocError, Global};
 
 // The most keys that stand twice that are told one by one.
@@ -22,56 +23,66 @@ const MOST_TOLD: usize = 10;
 #[derive(Drop)]
 pub(crate) struct FoundMessages<'a> {
     patterns: Vec<JsonText<'a>>,
-    groups: Vec<Group<'a>>,
+    groups: Groups<'a>,
 }
 
-// Those of a file's texts.
-pub(crate) fn messages_in<'a>(
-    alloc: Global,
-    texts: &JsonTexts<'a>,
-) -> Result<FoundMessages<'a>, AllocError> {
-    let mut patterns = Vec::new(alloc);
-    let mut groups = Groups::new(alloc);
-    for text in &texts.texts {
-        if has_plural(text.text) {
-            patterns.push(*text)?;
-        } else {
-            groups.take(&texts.keys, *text)?;
+impl<'a> FoundMessages<'a> {
+    // None yet.
+    pub(crate) fn new(alloc: Global) -> FoundMessages<'a> {
+        FoundMessages {
+            patterns: Vec::new(alloc),
+            groups: Groups::new(alloc),
         }
     }
-    Ok(FoundMessages {
-        patterns,
-        groups: groups.into_groups(),
-    })
-}
 
-impl FoundMessages<'_> {
+    // Takes those of a file's texts.
+    pub(crate) fn fill(&mut self, texts: &JsonTexts<'a>) -> Result<(), AllocError> {
+        for text in &texts.texts {
+            if has_plural(text.text) {
+                push(&mut self.patterns, *text)?;
+            } else {
+                self.groups.take(&texts.keys, *text)?;
+            }
+        }
+        Ok(())
+    }
+
     // How many there are.
     pub(crate) fn count(&self) -> u64 {
-        self.patterns.len().saturating_add(self.groups.len()) as u64
+        self.patterns.len().saturating_add(self.groups.groups.len()) as u64
     }
 }
 
 // Tells which keys stand twice.
-pub(crate) fn tell_repeated(
-    gathered: &mut Gathered,
-    keys: &KeyTree<'_>,
-    repeated: &[Repeated],
-) -> Result<(), AllocError> {
+pub(crate) fn tell_repeated(gathered: &mut Gathered, keys: &KeyTree<'_>, repeated: &[Repeated]) {
     for (index, again) in repeated.iter().enumerate() {
-        let line = Some(again.line);
         if index == MOST_TOLD {
             let rest = repeated.len().saturating_sub(MOST_TOLD);
-            let text = format!(in gathered.alloc; "from here on {rest} more keys stand twice")?;
-            return gathered.tell(line, NoticeCode::Twice, text);
+            return gathered.tell(
+                Some(again.line),
+                NoticeCode::Twice,
+                format_args!("from here on {rest} more keys stand twice"),
+            );
         }
-        let shown = shown_key(gathered.alloc, keys, again.place)?;
-        let text = format!(in gathered.alloc;
-            "'{shown}' stands twice, and the first one is taken: remove one of them"
-        )?;
-        gathered.tell(line, NoticeCode::Twice, text)?;
+        tell_again(gathered, keys, *again);
     }
-    Ok(())
+}
+
+// Tells that a key stands twice.
+fn tell_again(gathered: &mut Gathered, keys: &KeyTree<'_>, again: Repeated) {
+    match shown_key(gathered.alloc, keys, again.place) {
+        Ok(key) => {
+            let shown = printed_name(key.as_str());
+            gathered.tell(
+                Some(again.line),
+                NoticeCode::Twice,
+                format_args!(
+                    "'{shown}' stands twice, and the first one is taken: remove one of them"
+                ),
+            )
+        }
+        Err(_) => gathered.fail(),
+    }
 }
 
 // Adds the messages of a file. A `_zero` is for exactly 0 where the language has no zero of its own.
@@ -80,15 +91,15 @@ pub(crate) fn add_found<'a>(
     keys: &KeyTree<'a>,
     found: &FoundMessages<'a>,
     has_zero: bool,
-) -> Result<(), AllocError> {
+) {
     let mut message_keys = MessageKeys::new(keys);
     for text in &found.patterns {
-        add_pattern(gathered, keys, &mut message_keys, *text)?;
+        add_pattern(gathered, keys, &mut message_keys, *text);
     }
-    for group in &found.groups {
-        add_group(gathered, &mut message_keys, group, has_zero)?;
+    for group in &found.groups.groups {
+        add_group(gathered, &mut message_keys, group, has_zero);
     }
-    tell_left_out(gathered, &message_keys)
+    tell_left_out(gathered, &message_keys);
 }
 
 // Adds the message of a pattern.
@@ -97,15 +108,15 @@ fn add_pattern<'a>(
     keys: &KeyTree<'a>,
     message_keys: &mut MessageKeys<'_, 'a>,
     text: JsonText<'a>,
-) -> Result<(), AllocError> {
+) {
     let Some(piece) = keys.piece(text.place) else {
-        return Ok(());
+        return;
     };
-    let Some(key) = message_keys.key_of(piece, text.line)? else {
-        return Ok(());
-    };
-    let found = pattern_message(gathered.alloc, text.text, text.line)?;
-    gathered.add(found.kind, key.as_str(), found.message)
+    match message_keys.key_of(piece, text.line) {
+        Ok(Some(key)) => add_pattern_message(gathered, key.as_str(), text.text, text.line),
+        Ok(None) => (),
+        Err(_) => gathered.fail(),
+    }
 }
 
 // Adds the message of texts with suffixes.
@@ -114,53 +125,60 @@ fn add_group<'a>(
     message_keys: &mut MessageKeys<'_, 'a>,
     group: &Group<'a>,
     has_zero: bool,
-) -> Result<(), AllocError> {
-    let Some(key) = message_keys.key_of(group.name.base, group.line)? else {
-        return Ok(());
-    };
+) {
+    match message_keys.key_of(group.name.base, group.line) {
+        Ok(Some(key)) => add_group_under(gathered, key.as_str(), group, has_zero),
+        Ok(None) => (),
+        Err(_) => gathered.fail(),
+    }
+}
+
+// Adds the message of texts with suffixes under a key, unless it may be none.
+fn add_group_under(gathered: &mut Gathered, key: &str, group: &Group<'_>, has_zero: bool) {
     if group.is_doubtful() {
-        return note_doubtful(gathered, key.as_str(), group);
+        return note_doubtful(gathered, key, group);
     }
     let kind = if group.name.is_ordinal {
         MessageKind::Ordinal
     } else {
         MessageKind::Cardinal
     };
-    let message = suffix_message(gathered.alloc, group, has_zero)?;
-    gathered.add(kind, key.as_str(), message)
+    let line = group.line;
+    add_suffix_message(gathered, MessageHead { kind, key, line }, group, has_zero);
 }
 
 // Tells that texts may be no message.
-fn note_doubtful(gathered: &mut Gathered, key: &str, group: &Group<'_>) -> Result<(), AllocError> {
-    let shown = name_text(gathered.alloc, key)?;
+fn note_doubtful(gathered: &mut Gathered, key: &str, group: &Group<'_>) {
+    let shown = printed_name(key);
     let ordinal = if group.name.is_ordinal {
         "_ordinal"
     } else {
         ""
     };
-    let form = match group.forms.as_slice() {
-        [form, ..] => Form::Category(form.category).as_str(),
-        [] => "no form",
+    let form = match group.forms.first() {
+        Some(form) => Form::Category(form.category).as_str(),
+        None => "no form",
     };
-    let text = format!(in gathered.alloc;
-        "'{shown}{ordinal}' has {form} without other, so it may be no plural: left out"
-    )?;
-    gathered.note(Some(group.line), NoticeCode::LeftOut, text)?;
-    gathered.count(Fate::LeftOut, 1)
+    gathered.note(
+        Some(group.line),
+        NoticeCode::LeftOut,
+        format_args!(
+            "'{shown}{ordinal}' has {form} without other, so it may be no plural: left out"
+        ),
+    );
+    gathered.count(Fate::LeftOut, 1);
 }
 
 // Tells how many messages have keys that are too long.
-fn tell_left_out(
-    gathered: &mut Gathered,
-    message_keys: &MessageKeys<'_, '_>,
-) -> Result<(), AllocError> {
+fn tell_left_out(gathered: &mut Gathered, message_keys: &MessageKeys<'_, '_>) {
     let count = message_keys.left_out;
     if count == 0 {
-        return Ok(());
+        return;
     }
-    let text = format!(in gathered.alloc;
-        "the keys around messages are too long together: messages left out: {count}"
-    )?;
-    gathered.tell(message_keys.line, NoticeCode::TooMany, text)?;
-    gathered.count(Fate::LeftOut, count)
+    gathered.leave_out(
+        count,
+        message_keys.line,
+        NoticeCode::TooMany,
+        format_args!("the keys around messages are too long together: messages left out: {count}"),
+    );
 }

@@ -2,118 +2,78 @@
 
 use crate::json_file::form_text::FormText;
 use icu_plurals::PluralCategory;
-use message_pattern::{ArgumentKind, Part, Pattern, PatternError, Piece, Selector};
+use message_pattern::{ArgumentKind, Part, Piece, Selector};
 use message_report::Form;
 use std::alloc::{AllocError, Global};
 
-// A form of a pattern.
-#[derive(Drop)]
-pub(crate) struct IcuForm {
-    pub(crate) form: Form,
-    pub(crate) text: FormText,
-}
-
-// Such a pattern: whether its numbers are ordinal, the name of its argument, and its forms.
-#[derive(Drop)]
-pub(crate) struct IcuMessage<'a> {
+// Such a pattern: whether its numbers are ordinal, the name of its argument, and the parts of its
+// forms.
+#[derive(Clone, Copy)]
+pub(crate) struct IcuMessage<'p, 'a> {
     pub(crate) is_ordinal: bool,
     pub(crate) name: &'a [u8],
-    pub(crate) forms: Vec<IcuForm>,
-    // Whether a form has the number as `#`.
-    pub(crate) has_hash: bool,
+    pub(crate) parts: &'p [Part<'a>],
 }
 
-// The message of a text that is one plural argument with plain forms, and nothing besides but white
-// space; else, or if the text is no pattern, none.
-pub(crate) fn icu_message(alloc: Global, text: &str) -> Result<Option<IcuMessage<'_>>, AllocError> {
-    match Pattern::parse(alloc, text.as_bytes().trim_ascii()) {
-        Ok(pattern) => message_of_parts(alloc, pattern.parts()),
-        Err(PatternError::Memory) => Err(AllocError),
-        Err(PatternError::Fault(_, _)) => Ok(None),
+// The message of the parts of a pattern that are one plural argument with plain forms, and nothing
+// besides; else none.
+pub(crate) fn icu_message<'p, 'a>(parts: &'p [Part<'a>]) -> Option<IcuMessage<'p, 'a>> {
+    let [first, inner @ .., last] = parts else {
+        return None;
+    };
+    let Piece::End = last.piece else {
+        return None;
+    };
+    match first.piece {
+        Piece::Begin(ArgumentKind::Select, _, _) => None,
+        Piece::Begin(kind, name, None) if are_plain(inner, name) => Some(IcuMessage {
+            is_ordinal: kind == ArgumentKind::Ordinal,
+            name,
+            parts: inner,
+        }),
+        _ => None,
     }
 }
 
-// The message of the parts of a pattern, if they are those of one plural argument.
-fn message_of_parts<'a>(
-    alloc: Global,
-    parts: &[Part<'a>],
-) -> Result<Option<IcuMessage<'a>>, AllocError> {
-    let [first, rest @ ..] = parts else {
-        return Ok(None);
-    };
-    let Piece::Begin(kind, name, None) = first.piece else {
-        return Ok(None);
-    };
-    if let ArgumentKind::Select = kind {
-        return Ok(None);
-    }
-    let mut message = IcuMessage {
-        is_ordinal: kind == ArgumentKind::Ordinal,
-        name,
-        forms: Vec::new(alloc),
-        has_hash: false,
-    };
-    for (index, part) in rest.iter().enumerate() {
-        if let Piece::End = part.piece {
-            return Ok(if index + 1 == rest.len() {
-                Some(message)
-            } else {
-                None
-            });
-        }
-        if !message.take(alloc, part.piece)? {
-            return Ok(None);
+// Whether parts are those of plain forms, each of which stands once.
+fn are_plain(parts: &[Part<'_>], name: &[u8]) -> bool {
+    for (index, part) in parts.iter().enumerate() {
+        let before = parts.get(..index).unwrap_or(parts);
+        if !is_plain(before, part.piece, name) {
+            return false;
         }
     }
-    Ok(None)
+    true
 }
 
-impl<'a> IcuMessage<'a> {
-    // Takes a piece, unless it is of no plain form.
-    fn take(&mut self, alloc: Global, piece: Piece<'a>) -> Result<bool, AllocError> {
-        match piece {
-            Piece::Branch(selector) => self.begin_form(alloc, selector),
-            Piece::Text(text) => self.push_text(text),
-            Piece::Hash => {
-                self.has_hash = true;
-                self.push_number()
-            }
-            Piece::Argument(name) if name == self.name => self.push_number(),
-            _ => Ok(false),
+// Whether a piece is of a plain form behind others.
+fn is_plain(before: &[Part<'_>], piece: Piece<'_>, name: &[u8]) -> bool {
+    match piece {
+        Piece::Branch(selector) => match form_of(selector) {
+            Some(form) => !has_form(before, form),
+            None => false,
+        },
+        Piece::Text(_) | Piece::Hash => !before.is_empty(),
+        Piece::Argument(other) => other == name && !before.is_empty(),
+        _ => false,
+    }
+}
+
+// Whether a form is among parts.
+fn has_form(parts: &[Part<'_>], form: Form) -> bool {
+    for part in parts {
+        if form_begun(part) == Some(form) {
+            return true;
         }
     }
+    false
+}
 
-    // Begins the form of a selector, unless it names none, or there is one.
-    fn begin_form(&mut self, alloc: Global, selector: Selector<'_>) -> Result<bool, AllocError> {
-        let Some(form) = form_of(selector) else {
-            return Ok(false);
-        };
-        for known in self.forms.iter() {
-            if known.form == form {
-                return Ok(false);
-            }
-        }
-        let text = FormText::new(alloc);
-        self.forms.push(IcuForm { form, text })?;
-        Ok(true)
-    }
-
-    // Adds text to the last form.
-    fn push_text(&mut self, text: &[u8]) -> Result<bool, AllocError> {
-        let Some(form) = self.forms.last_mut() else {
-            return Ok(false);
-        };
-        form.text.push_text(text)?;
-        Ok(true)
-    }
-
-    // Adds the number to the last form.
-    fn push_number(&mut self) -> Result<bool, AllocError> {
-        let Some(form) = self.forms.last_mut() else {
-            return Ok(false);
-        };
-        form.text.push_number()?;
-        Ok(true)
+// The form that a part begins.
+pub(crate) fn form_begun(part: &Part<'_>) -> Option<Form> {
+    match part.piece {
+        Piece::Branch(selector) => form_of(selector),
+        _ => None,
     }
 }
 
@@ -128,4 +88,48 @@ fn form_of(selector: Selector<'_>) -> Option<Form> {
             None => None,
         },
     }
+}
+
+// How the number is written in the forms: as `#`, else as `{n}`; none if no form has it.
+#[derive(Clone, Copy, PartialEq, Eq)]
+pub(crate) enum Written {
+    Hash,
+    Argument,
+    Nowhere,
+}
+
+impl IcuMessage<'_, '_> {
+    // How the number is written.
+    pub(crate) fn written(&self) -> Written {
+        let mut written = Written::Nowhere;
+        for part in self.parts {
+            match part.piece {
+                Piece::Hash => return Written::Hash,
+                Piece::Argument(_) => written = Written::Argument,
+                _ => (),
+            }
+        }
+        written
+    }
+}
+
+// The text of the form that begins before these parts.
+pub(crate) fn form_text(alloc: Global, parts: &[Part<'_>]) -> Result<String, AllocError> {
+    let mut text = FormText::new(alloc);
+    match push_form(&mut text, parts) {
+        Ok(()) => text.text(alloc),
+        Err(error) => Err(error),
+    }
+}
+
+// Appends the text of the form that begins before these parts.
+fn push_form(text: &mut FormText, parts: &[Part<'_>]) -> Result<(), AllocError> {
+    for part in parts {
+        match part.piece {
+            Piece::Text(bytes) => text.push_text(bytes)?,
+            Piece::Hash | Piece::Argument(_) => text.push_number()?,
+            _ => return Ok(()),
+        }
+    }
+    Ok(())
 }

@@ -1,7 +1,6 @@
 //! The keys of messages, with the keys of the objects around them.
 
 use crate::json_file::key_tree::{KeyTree, Piece};
-use plural_documents::name_text;
 use std::alloc::{AllocError, Global};
 
 // The most bytes that the objects around keys may add to these, in all messages of a file: so the
@@ -46,22 +45,24 @@ impl<'k, 'a> MessageKeys<'k, 'a> {
             return Ok(None);
         }
         self.room = self.room.saturating_sub(around);
-        Ok(Some(self.keys.key(piece)?))
+        match self.keys.key(piece) {
+            Ok(key) => Ok(Some(key)),
+            Err(error) => Err(error),
+        }
     }
 }
 
-// What is printed for the key of a place: with the objects around it, if these aren't long.
+// The key of a place as it is shown: with the objects around it, if these aren't long.
 pub(crate) fn shown_key(
     alloc: Global,
     keys: &KeyTree<'_>,
     place: usize,
 ) -> Result<String, AllocError> {
-    let Some(piece) = keys.piece(place) else {
-        return Ok(String::new(alloc));
-    };
-    if keys.length(piece.parent) > MOST_SHOWN {
-        return name_text(alloc, piece.name);
+    match keys.piece(place) {
+        Some(piece) if keys.length(piece.parent) > MOST_SHOWN => {
+            String::from_str(alloc, piece.name)
+        }
+        Some(piece) => keys.key(piece),
+        None => Ok(String::new(alloc)),
     }
-    let key = keys.key(piece)?;
-    name_text(alloc, key.as_str())
 }

@@ -1,88 +1,76 @@
 //! The message of an ICU pattern: its forms, or the pattern as it is.
 
-use crate::gathered::Message;
-use crate::json_file::icu_message::{IcuMessage, icu_message};
-use crate::json_file::suffix_message::source_of;
-use crate::lines::{MessageKind, MessageLines};
-use serde_json::{Map, Value, put};
-use std::alloc::{AllocError, Global};
+use crate::counts::Fate;
+use crate::gathered::{Gathered, MessageHead};
+use crate::json_file::icu_message::{IcuMessage, Written, form_begun, form_text, icu_message};
+use crate::lines::MessageKind;
+use message_pattern::{Part, Pattern, PatternError};
 
-// A message, and its kind.
-#[derive(Drop)]
-pub(crate) struct KindMessage {
-    pub(crate) kind: MessageKind,
-    pub(crate) message: Message,
-}
-
-// The message of a pattern in a line.
-pub(crate) fn pattern_message(
-    alloc: Global,
-    text: &str,
-    line: u64,
-) -> Result<KindMessage, AllocError> {
-    match icu_message(alloc, text)? {
-        Some(found) => plain_message(alloc, &found, line),
-        None => Ok(KindMessage {
-            kind: MessageKind::Pattern,
-            message: Message {
-                value: Value::String(String::from_str(alloc, text)?),
-                source: None,
-                lines: MessageLines {
-                    line,
-                    forms: Vec::new(alloc),
-                    placeholder: None,
-                },
-                note: None,
-            },
-        }),
+// Adds the message of a pattern in a line: its forms, if it is one plural argument with plain forms
+// and nothing besides but white space, else the text as it is.
+pub(crate) fn add_pattern_message(gathered: &mut Gathered, key: &str, text: &str, line: u64) {
+    match Pattern::parse(gathered.alloc, text.as_bytes().trim_ascii()) {
+        Ok(pattern) => add_parts(gathered, key, text, line, pattern.parts()),
+        Err(PatternError::Memory) => gathered.fail(),
+        Err(PatternError::Fault(_, _)) => add_text(gathered, key, text, line),
     }
 }
 
-// The message of one plural argument.
-fn plain_message(
-    alloc: Global,
-    found: &IcuMessage<'_>,
-    line: u64,
-) -> Result<KindMessage, AllocError> {
-    let mut forms = Map::new(alloc);
-    let mut has_number = false;
-    for form in &found.forms {
-        has_number = has_number || form.text.has_number();
-        put(
-            &mut forms,
-            alloc,
-            form.form.as_str(),
-            Value::String(form.text.text(alloc)?),
-        )?;
+// Adds the message of a pattern that has these parts.
+fn add_parts(gathered: &mut Gathered, key: &str, text: &str, line: u64, parts: &[Part<'_>]) {
+    match icu_message(parts) {
+        Some(found) => add_forms(gathered, key, line, &found),
+        None => add_text(gathered, key, text, line),
     }
-    Ok(KindMessage {
-        kind: if found.is_ordinal {
-            MessageKind::Ordinal
-        } else {
-            MessageKind::Cardinal
-        },
-        message: Message {
-            value: Value::Object(forms),
-            source: source_of(alloc, has_number),
-            lines: MessageLines {
-                line,
-                forms: Vec::new(alloc),
-                placeholder: Some(placeholder_of(alloc, found, has_number)?),
-            },
-            note: None,
-        },
-    })
 }
 
-// How the number is written: `#`, unless the forms have it as `{n}` alone.
-fn placeholder_of(
-    alloc: Global,
-    found: &IcuMessage<'_>,
-    has_number: bool,
-) -> Result<String, AllocError> {
-    if found.has_hash || !has_number {
-        return String::from_str(alloc, "#");
+// Adds a pattern as it is.
+fn add_text(gathered: &mut Gathered, key: &str, text: &str, line: u64) {
+    let kind = MessageKind::Pattern;
+    let head = MessageHead { kind, key, line };
+    if gathered.is_twice(head) {
+        return;
     }
-    let name = String::from_utf8_lossy(alloc, found.name)?;
-    format!(in alloc; "{{{name}}}")
+    gathered.add_pattern(head, text);
+    gathered.count(Fate::Checked, 1);
+}
+
+// Adds the message of one plural argument.
+fn add_forms(gathered: &mut Gathered, key: &str, line: u64, found: &IcuMessage<'_, '_>) {
+    let kind = if found.is_ordinal {
+        MessageKind::Ordinal
+    } else {
+        MessageKind::Cardinal
+    };
+    let head = MessageHead { kind, key, line };
+    if gathered.is_twice(head) {
+        return;
+    }
+    let written = found.written();
+    put_forms(gathered, found.parts);
+    put_placeholder(gathered, found.name, written);
+    gathered.end(head, written == Written::Nowhere);
+    gathered.count(Fate::Checked, 1);
+}
+
+// Puts the forms of these parts.
+fn put_forms(gathered: &mut Gathered, parts: &[Part<'_>]) {
+    for (index, part) in parts.iter().enumerate() {
+        if let Some(form) = form_begun(part) {
+            let behind = parts.get(index.saturating_add(1)..).unwrap_or(&[]);
+            let text = form_text(gathered.alloc, behind);
+            gathered.put_form(form, text);
+        }
+    }
+}
+
+// Puts how the number is written: `#`, unless the forms have it as `{n}` alone.
+fn put_placeholder(gathered: &mut Gathered, name: &[u8], written: Written) {
+    if written != Written::Argument {
+        return gathered.put_placeholder("#");
+    }
+    match String::from_utf8_lossy(gathered.alloc, name) {
+        Ok(name) => gathered.put_placeholder(format_args!("{{{name}}}")),
+        Err(_) => gathered.fail(),
+    }
 }

@@ -3,6 +3,7 @@
 use crate::json_file::key_suffix::{SuffixedKey, suffixed_key};
 use crate::json_file::key_tree::{KeyTree, Piece, ROOT};
 use crate::json_file::texts::JsonText;
+use crate::pushed::push;
 use icu_plurals::PluralCategory;
 use std::alloc::{AllocError, Global};
 use std::collections::BTreeMap;
@@ -34,7 +35,8 @@ pub(crate) struct Group<'a> {
 #[derive(Drop)]
 pub(crate) struct Groups<'a> {
     alloc: Global,
-    groups: Vec<Group<'a>>,
+    // In the order of the file.
+    pub(crate) groups: Vec<Group<'a>>,
     known: BTreeMap<GroupName<'a>, usize>,
 }
 
@@ -46,17 +48,6 @@ impl<'a> Groups<'a> {
             groups: Vec::new(alloc),
             known: BTreeMap::new(alloc),
         }
-    }
-
-    // The messages, in the order of the file.
-    pub(crate) fn into_groups(self) -> Vec<Group<'a>> {
-        let Groups {
-            alloc: _,
-            groups,
-            known,
-        } = self;
-        drop(known);
-        groups
     }
 
     // Takes a text, if its key has a suffix.
@@ -89,15 +80,15 @@ impl<'a> Groups<'a> {
             is_ordinal: key.is_ordinal,
         };
         let index = self.index(name, text.line)?;
-        let Some(group) = self.groups.get_mut(index) else {
-            return Ok(());
-        };
-        group.forms.push(GroupForm {
+        let form = GroupForm {
             category: key.category,
             text: text.text,
             line: text.line,
-        })?;
-        Ok(())
+        };
+        match self.groups.get_mut(index) {
+            Some(group) => push(&mut group.forms, form),
+            None => Ok(()),
+        }
     }
 
     // The index of a message, which is added if it is new.
@@ -106,7 +97,7 @@ impl<'a> Groups<'a> {
         let index = *self.known.entry(name)?.or_insert(next);
         if index == next {
             let forms = Vec::new(self.alloc);
-            self.groups.push(Group { name, line, forms })?;
+            push(&mut self.groups, Group { name, line, forms })?;
         }
         Ok(index)
     }

@@ -1,48 +1,38 @@
 //! The message of i18next's texts that differ in the suffixes of their keys.
 
-use crate::gathered::Message;
+use crate::counts::Fate;
+use crate::gathered::{Gathered, MessageHead};
 use crate::json_file::count_text::{count_text, first_count};
 use crate::json_file::suffix_groups::{Group, GroupForm};
-use crate::lines::{FormLine, MessageLines};
 use icu_plurals::PluralCategory;
 use message_report::Form;
-use serde_json::{Map, Value, put};
-use std::alloc::{AllocError, Global};
 
-// The message. A `_zero` is for exactly 0 where the language has no zero of its own.
-pub(crate) fn suffix_message(
-    alloc: Global,
+// Adds the message. A `_zero` is for exactly 0 where the language has no zero of its own. The
+// arguments of its source aren't known, but that there are none, if no form has the number.
+pub(crate) fn add_suffix_message(
+    gathered: &mut Gathered,
+    head: MessageHead<'_>,
     group: &Group<'_>,
     has_zero: bool,
-) -> Result<Message, AllocError> {
-    let mut forms = Map::new(alloc);
-    let mut lines = Vec::new(alloc);
-    let mut has_number = false;
-    for form in &group.forms {
-        let name = name_of(form.category, has_zero || group.name.is_ordinal);
-        let text = count_text(alloc, form.text)?;
-        has_number = has_number || text.has_number();
-        put(
-            &mut forms,
-            alloc,
-            name.as_str(),
-            Value::String(text.text(alloc)?),
-        )?;
-        lines.push(FormLine {
-            form: name,
-            line: form.line,
-        })?;
+) {
+    if gathered.is_twice(head) {
+        return;
     }
-    Ok(Message {
-        value: Value::Object(forms),
-        source: source_of(alloc, has_number),
-        lines: MessageLines {
-            line: group.line,
-            forms: lines,
-            placeholder: Some(placeholder_of(alloc, &group.forms)?),
-        },
-        note: None,
-    })
+    let has_zero = has_zero || group.name.is_ordinal;
+    for form in &group.forms {
+        put_form(gathered, name_of(form.category, has_zero), form);
+    }
+    let number = number_in(&group.forms);
+    gathered.put_placeholder(number.unwrap_or("{{count}}"));
+    gathered.end(head, number.is_none());
+    gathered.count(Fate::Checked, 1);
+}
+
+// Puts a form under its name.
+fn put_form(gathered: &mut Gathered, name: Form, form: &GroupForm<'_>) {
+    let text = count_text(gathered.alloc, form.text);
+    gathered.put_form(name, text);
+    gathered.put_line(name, form.line);
 }
 
 // The form of a suffix.
@@ -54,21 +44,13 @@ fn name_of(category: PluralCategory, has_zero: bool) -> Form {
     }
 }
 
-// The arguments of a source that isn't known: none, if no form has the number.
-pub(crate) fn source_of(alloc: Global, has_number: bool) -> Option<Value> {
-    if has_number {
-        None
-    } else {
-        Some(Value::Array(Vec::new(alloc)))
-    }
-}
-
 // How the first form with the number writes it.
-fn placeholder_of(alloc: Global, forms: &[GroupForm<'_>]) -> Result<String, AllocError> {
+fn number_in<'a>(forms: &[GroupForm<'a>]) -> Option<&'a str> {
     for form in forms {
-        if let Some(written) = first_count(form.text) {
-            return String::from_utf8_lossy(alloc, written);
+        let number = first_count(form.text);
+        if number.is_some() {
+            return number;
         }
     }
-    String::from_str(alloc, "{{count}}")
+    None
 }

@@ -2,6 +2,7 @@
 
 use crate::json_file::key_tree::{KeyTree, ROOT};
 use crate::json_file::members::{Member, MemberValue, Members};
+use crate::pushed::push;
 use json::Scratch;
 use std::alloc::{AllocError, Global};
 
@@ -32,41 +33,48 @@ pub(crate) struct JsonTexts<'a> {
     open: Vec<usize>,
 }
 
-// The texts of a JSON text.
-pub(crate) fn json_texts<'a>(
-    alloc: Global,
-    text: &'a str,
-    scratch: &'a mut Scratch,
-) -> Result<JsonTexts<'a>, AllocError> {
-    let mut members = Members::of(text, scratch)?;
-    let mut texts = JsonTexts::new(alloc)?;
-    while let Some(member) = members.next() {
-        if is_note(member.key) {
-            texts.take_note(member);
-            if let MemberValue::Object = member.value {
-                members.pass_object();
-            }
-        } else {
-            texts.take(member)?;
-        }
-    }
-    Ok(texts)
-}
-
 // Whether a key is that of a note on a message, or on the file, as ARB has them.
 fn is_note(key: &str) -> bool {
     key.starts_with("@")
 }
 
 impl<'a> JsonTexts<'a> {
-    fn new(alloc: Global) -> Result<JsonTexts<'a>, AllocError> {
-        Ok(JsonTexts {
-            keys: KeyTree::new(alloc)?,
+    // No text yet.
+    pub(crate) fn new(alloc: Global) -> JsonTexts<'a> {
+        JsonTexts {
+            keys: KeyTree::new(alloc),
             texts: Vec::new(alloc),
             repeated: Vec::new(alloc),
             locale: None,
             open: Vec::new(alloc),
-        })
+        }
+    }
+
+    // Takes the texts of a JSON text.
+    pub(crate) fn fill(
+        &mut self,
+        text: &'a str,
+        scratch: &'a mut Scratch,
+    ) -> Result<(), AllocError> {
+        match Members::of(text, scratch) {
+            Ok(members) => self.take_all(members),
+            Err(error) => Err(error),
+        }
+    }
+
+    // Takes members, one after the other.
+    fn take_all(&mut self, members: Members<'a>) -> Result<(), AllocError> {
+        let mut members = members;
+        while let Some(member) = members.next() {
+            if !is_note(member.key) {
+                self.take(member)?;
+            } else if let MemberValue::Object = member.value {
+                members.pass_object();
+            } else {
+                self.take_note(member);
+            }
+        }
+        Ok(())
     }
 
     // Takes what a note says of the file.
@@ -85,8 +93,7 @@ impl<'a> JsonTexts<'a> {
         match member.value {
             MemberValue::Object => {
                 let place = self.keys.place_of(parent, member.key)?;
-                self.open.push(place)?;
-                Ok(())
+                push(&mut self.open, place)
             }
             MemberValue::Text(text) => self.take_text(parent, member, text),
             MemberValue::Other => Ok(()),
@@ -102,11 +109,10 @@ impl<'a> JsonTexts<'a> {
     ) -> Result<(), AllocError> {
         let place = self.keys.place_of(parent, member.key)?;
         let line = member.line;
-        if self.keys.keep_line(place, line).is_some() {
-            self.repeated.push(Repeated { place, line })?;
+        if self.keys.keep_line(place, line) {
+            push(&mut self.texts, JsonText { place, text, line })
         } else {
-            self.texts.push(JsonText { place, text, line })?;
+            push(&mut self.repeated, Repeated { place, line })
         }
-        Ok(())
     }
 }

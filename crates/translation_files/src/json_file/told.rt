@@ -2,11 +2,11 @@
 
 use crate::code::NoticeCode;
 use crate::counts::Fate;
-use crate::gathered::Gathered;
-use crate::json_file::android_message::{AndroidText, android_message};
+use crate::gathered::{Gathered, MessageHead};
+use crate::json_file::android_message::{AndroidForm, AndroidText, add_android_message, push_form};
 use crate::lines::MessageKind;
 use icu_plurals::PluralCategory;
-use plural_documents::name_text;
+use message_report::Severity;
 use serde_json::{Map, Value};
 use std::alloc::{AllocError, Global};
 
@@ -46,17 +46,27 @@ pub(crate) fn told_catalog(value: &Value) -> Option<ToldCatalog<'_>> {
     })
 }
 
+// A message that is told, under whose forms are texts.
+#[derive(Clone, Copy)]
+struct ToldMessage<'v> {
+    head: MessageHead<'v>,
+    forms: &'v Map<String, Value>,
+}
+
 // Adds the messages that are told.
-pub(crate) fn add_told(gathered: &mut Gathered, messages: &[Value]) -> Result<(), AllocError> {
+pub(crate) fn add_told(gathered: &mut Gathered, messages: &[Value]) {
     for message in messages {
-        if add_message(gathered, message)?.is_none() {
-            let text = "a message isn't told as tools/translation-input does: make the file anew";
-            let text = String::from_str(gathered.alloc, text)?;
-            gathered.tell(line_of(message), NoticeCode::NotRead, text)?;
-            gathered.count(Fate::LeftOut, 1)?;
+        match told_message(message) {
+            Some(told) => add_message(gathered, told),
+            None => tell_untold(gathered, message),
         }
     }
-    Ok(())
+}
+
+// Tells that a message isn't of the shape.
+fn tell_untold(gathered: &mut Gathered, message: &Value) {
+    let text = "a message isn't told as tools/translation-input does: make the file anew";
+    gathered.leave_out(1, line_of(message), NoticeCode::NotRead, text);
 }
 
 // The line of a thing that is told.
@@ -64,28 +74,55 @@ fn line_of(told: &Value) -> Option<u64> {
     told.get("line")?.as_u64()
 }
 
-// Adds a message; none, if it isn't of the shape.
-fn add_message(gathered: &mut Gathered, message: &Value) -> Result<Option<()>, AllocError> {
-    let Some(key) = text_under("key", message) else {
-        return Ok(None);
-    };
-    let Some(line) = line_of(message) else {
-        return Ok(None);
-    };
-    let Some(kind) = kind_of(message) else {
-        return Ok(None);
-    };
-    let Some(Value::Object(forms)) = message.get("forms") else {
-        return Ok(None);
-    };
-    let Some(texts) = texts_of(gathered.alloc, forms)? else {
-        return Ok(None);
-    };
-    match android_message(gathered.alloc, &texts, line)? {
-        Some(message) => gathered.add(kind, key, message)?,
-        None => tell_too_many(gathered, key, line)?,
+// A message, if it is of the shape.
+fn told_message(message: &Value) -> Option<ToldMessage<'_>> {
+    let head = head_of(message)?;
+    match message.get("forms")? {
+        Value::Object(forms) if are_texts(forms) => Some(ToldMessage { head, forms }),
+        _ => None,
     }
-    Ok(Some(()))
+}
+
+// What a message is known by.
+fn head_of(message: &Value) -> Option<MessageHead<'_>> {
+    Some(MessageHead {
+        kind: kind_of(message)?,
+        key: text_under("key", message)?,
+        line: line_of(message)?,
+    })
+}
+
+// Whether each form has a text.
+fn are_texts(forms: &Map<String, Value>) -> bool {
+    for (name, form) in forms.iter() {
+        if text_of(name.as_str(), form).is_none() {
+            return false;
+        }
+    }
+    true
+}
+
+// Adds a message.
+fn add_message(gathered: &mut Gathered, told: ToldMessage<'_>) {
+    let mut forms = Vec::new(gathered.alloc);
+    let pushed = push_forms(gathered.alloc, &mut forms, told.forms);
+    gathered.keep(pushed);
+    add_android_message(gathered, told.head, &forms);
+    drop(forms);
+}
+
+// Appends the forms of a message.
+fn push_forms<'v>(
+    alloc: Global,
+    forms: &mut Vec<AndroidForm<'v>>,
+    told: &'v Map<String, Value>,
+) -> Result<(), AllocError> {
+    for (name, form) in told.iter() {
+        if let Some(text) = text_of(name.as_str(), form) {
+            push_form(alloc, forms, text)?;
+        }
+    }
+    Ok(())
 }
 
 // The text under a key.
@@ -102,21 +139,6 @@ fn kind_of(message: &Value) -> Option<MessageKind> {
     }
 }
 
-// The texts of forms; none, if one isn't of the shape.
-fn texts_of(
-    alloc: Global,
-    forms: &Map<String, Value>,
-) -> Result<Option<Vec<AndroidText<'_>>>, AllocError> {
-    let mut texts = Vec::new(alloc);
-    for (name, form) in forms.iter() {
-        let Some(text) = text_of(name.as_str(), form) else {
-            return Ok(None);
-        };
-        texts.push(text)?;
-    }
-    Ok(Some(texts))
-}
-
 // The text of a form.
 fn text_of<'v>(name: &str, form: &'v Value) -> Option<AndroidText<'v>> {
     Some(AndroidText {
@@ -126,43 +148,31 @@ fn text_of<'v>(name: &str, form: &'v Value) -> Option<AndroidText<'v>> {
     })
 }
 
-// Tells that a text has more arguments than are read.
-fn tell_too_many(gathered: &mut Gathered, key: &str, line: u64) -> Result<(), AllocError> {
-    let shown = name_text(gathered.alloc, key)?;
-    let text = format!(in gathered.alloc;
-        "'{shown}' has a text with more than 100 arguments: cut it"
-    )?;
-    gathered.tell(Some(line), NoticeCode::TooMany, text)?;
-    gathered.count(Fate::LeftOut, 1)
-}
-
 // Adds the notices that are told.
-pub(crate) fn add_notices(gathered: &mut Gathered, value: &Value) -> Result<(), AllocError> {
+pub(crate) fn add_notices(gathered: &mut Gathered, value: &Value) {
     let Some(Value::Array(notices)) = value.get("notices") else {
-        return Ok(());
+        return;
     };
     for notice in notices {
-        add_notice(gathered, notice)?;
+        add_notice(gathered, notice);
     }
-    Ok(())
 }
 
 // Adds a notice, and counts the messages that it leaves out.
-fn add_notice(gathered: &mut Gathered, notice: &Value) -> Result<(), AllocError> {
-    let text = String::from_str(
-        gathered.alloc,
-        text_under("text", notice).unwrap_or("something is told without a text"),
-    )?;
-    let line = line_of(notice);
+fn add_notice(gathered: &mut Gathered, notice: &Value) {
+    let text = text_under("text", notice).unwrap_or("something is told without a text");
     let code = code_named(text_under("code", notice).unwrap_or(""));
-    if text_under("severity", notice) == Some("note") {
-        gathered.note(line, code, text)?;
-    } else {
-        gathered.tell(line, code, text)?;
+    gathered.add_notice(severity_of(notice), line_of(notice), code, text);
+    if let Some(count) = notice.get("left_out") {
+        gathered.count(Fate::LeftOut, count.as_u64().unwrap_or(0));
     }
-    match notice.get("left_out") {
-        Some(count) => gathered.count(Fate::LeftOut, count.as_u64().unwrap_or(0)),
-        None => Ok(()),
+}
+
+// How grave a notice is.
+fn severity_of(notice: &Value) -> Severity {
+    match text_under("severity", notice) {
+        Some("note") => Severity::Note,
+        _ => Severity::Error,
     }
 }
 

@@ -2,15 +2,19 @@
 
 use crate::code::NoticeCode;
 use crate::gathered::Gathered;
-use crate::locale_name::{Said, locale_of};
-use crate::po::indices::{Indices, Read, indices_of};
-use crate::po::laid::lay;
-use crate::po::message::{Forms, add_messages};
-use crate::po::refusal::{line_of_header, refuse, refuse_clash, refuse_language};
+use crate::locale_name::push_locale;
+use crate::po::compared::take_messages;
+use crate::po::indices::Indices;
+use crate::po::laid::{Laid, lay};
+use crate::po::measure::{Forms, Measure};
+use crate::po::refusal::{
+    line_of_header, refuse, refuse_clash, refuse_forms, refuse_index, refuse_language,
+};
+use gettext_plural::PluralForms;
 use icu_plurals::{PluralRuleType, PluralRules};
 use message_report::RulesOfLocales;
 use po_catalog::Catalog;
-use std::alloc::{AllocError, Global};
+use std::alloc::AllocError;
 use std::fmt::Write;
 use std::str;
 
@@ -27,22 +31,37 @@ pub(crate) struct PoFile<'a, S> {
 }
 
 // Reads the messages by the header.
-pub(crate) fn read_messages<S: RulesOfLocales>(
-    gathered: &mut Gathered,
-    file: &PoFile<'_, S>,
-) -> Result<(), AllocError> {
+pub(crate) fn read_messages<S: RulesOfLocales>(gathered: &mut Gathered, file: &PoFile<'_, S>) {
     if file.catalog.header().is_none() {
         let text = "it has no header, with Language and Plural-Forms: write one (msginit makes it)";
-        return refuse(gathered, file.catalog, NoticeCode::Header, text, None);
+        return refuse(
+            gathered,
+            file.catalog,
+            NoticeCode::Header,
+            text,
+            Measure::Nothing,
+        );
     }
     let text = file.catalog.header_field(b"Plural-Forms").unwrap_or(b"");
-    match indices_of(gathered.alloc, text)? {
-        Read::Indices(indices) => read_indexed(gathered, file, &indices),
-        Read::Fault(text) => {
-            let code = NoticeCode::PluralForms;
-            refuse(gathered, file.catalog, code, text.as_str(), None)
-        }
+    match PluralForms::parse(gathered.alloc, text) {
+        Ok(forms) => read_by_forms(gathered, file, &forms),
+        Err(error) => refuse_forms(gathered, file.catalog, error),
     }
+}
+
+// Reads the messages of a file that has a rule.
+fn read_by_forms<S: RulesOfLocales>(
+    gathered: &mut Gathered,
+    file: &PoFile<'_, S>,
+    forms: &PluralForms,
+) {
+    let mut indices = Indices::new(gathered.alloc, forms.count());
+    match indices.fill(gathered.alloc, forms) {
+        Ok(None) => read_indexed(gathered, file, &indices),
+        Ok(Some(fault)) => refuse_index(gathered, file.catalog, indices.count, fault),
+        Err(_) => gathered.fail(),
+    }
+    drop(indices);
 }
 
 // Reads the messages whose forms have these indices.
@@ -50,13 +69,21 @@ fn read_indexed<S: RulesOfLocales>(
     gathered: &mut Gathered,
     file: &PoFile<'_, S>,
     indices: &Indices,
-) -> Result<(), AllocError> {
+) {
     let named = file.locale.or(language_of(file.catalog));
-    match locale_of(gathered.alloc, named, file.name, file.rules)? {
-        Said::Locale(locale) => read_said(gathered, file, locale.as_str(), indices),
-        Said::Fault(text) => {
+    let mut locale = String::new(gathered.alloc);
+    match push_locale(&mut locale, named, file.name, file.rules) {
+        Ok(None) => read_said(gathered, file, locale.as_str(), indices),
+        Err(_) => gathered.fail(),
+        Ok(Some(fault)) => {
             let code = NoticeCode::Language;
-            refuse(gathered, file.catalog, code, text.as_str(), Some(indices))
+            refuse(
+                gathered,
+                file.catalog,
+                code,
+                fault,
+                Measure::Indices(indices),
+            )
         }
     }
 }
@@ -67,12 +94,12 @@ fn read_said<S: RulesOfLocales>(
     file: &PoFile<'_, S>,
     locale: &str,
     indices: &Indices,
-) -> Result<(), AllocError> {
+) {
     if file.locale.is_none() && locale == "pt" && is_portugals(indices) {
-        tell_portugals(gathered, file.catalog)?;
+        tell_portugals(gathered, file.catalog);
         return read_under(gathered, file, "pt-PT", indices);
     }
-    read_under(gathered, file, locale, indices)
+    read_under(gathered, file, locale, indices);
 }
 
 // The language that a header names.
@@ -83,19 +110,22 @@ fn language_of(catalog: &Catalog) -> Option<&str> {
 // Whether the forms are those of Portugal, where 0 has the form of 2; in Brazil it has that of 1.
 fn is_portugals(indices: &Indices) -> bool {
     let one = indices.index_of(1);
-    indices.count == 2
-        && indices
-            .tried
-            .iter()
-            .all(|it| (Some(it.index) == one) == (it.number == 1))
+    if indices.count != 2 {
+        return false;
+    }
+    for it in indices.tried.iter() {
+        if (Some(it.index) == one) != (it.number == 1) {
+            return false;
+        }
+    }
+    true
 }
 
 // Tells that a catalog is taken as one of Portugal.
-fn tell_portugals(gathered: &mut Gathered, catalog: &Catalog) -> Result<(), AllocError> {
+fn tell_portugals(gathered: &mut Gathered, catalog: &Catalog) {
     let text =
         "its Plural-Forms is Portugal's, so it is taken as pt-PT: write that as its Language, or name another by --locale";
-    let text = String::from_str(gathered.alloc, text)?;
-    gathered.note(line_of_header(catalog), NoticeCode::TakenAs, text)
+    gathered.note(line_of_header(catalog), NoticeCode::TakenAs, text);
 }
 
 // Reads the messages under the rules of a locale.
@@ -104,7 +134,7 @@ fn read_under<S: RulesOfLocales>(
     file: &PoFile<'_, S>,
     locale: &str,
     indices: &Indices,
-) -> Result<(), AllocError> {
+) {
     match file.rules.rules_of(PluralRuleType::Cardinal, locale) {
         Some(rules) => {
             let rules = PluralRules::from_data(rules);
@@ -123,46 +153,55 @@ fn read_by<S>(
     locale: &str,
     indices: &Indices,
     rules: &PluralRules<'_>,
-) -> Result<(), AllocError> {
-    let laid = match lay(gathered.alloc, indices, rules)? {
-        Ok(laid) => laid,
-        Err(clash) => return refuse_clash(gathered, file.catalog, locale, indices, clash),
-    };
-    tell_differing(gathered, file.catalog, locale, laid.differing.as_slice())?;
-    gathered.locale = String::from_str(gathered.alloc, locale)?;
-    let laid = &laid;
-    add_messages(gathered, file.catalog, Forms { indices, laid })
+) {
+    let mut laid = Laid::new(gathered.alloc);
+    match lay(&mut laid, gathered.alloc, indices, rules) {
+        Ok(None) => read_laid(gathered, file, locale, indices, &laid),
+        Ok(Some(clash)) => refuse_clash(gathered, file.catalog, locale, indices, clash),
+        Err(_) => gathered.fail(),
+    }
+    drop(laid);
+}
+
+// Reads the messages, whose forms are laid beside the categories.
+fn read_laid<S>(
+    gathered: &mut Gathered,
+    file: &PoFile<'_, S>,
+    locale: &str,
+    indices: &Indices,
+    laid: &Laid,
+) {
+    tell_differing(gathered, file.catalog, locale, laid.differing.as_slice());
+    gathered.keep_locale(locale);
+    let forms = Forms { indices, laid };
+    take_messages(gathered, file.catalog, Measure::Rules(forms));
 }
 
 // Tells for which numbers a catalog and the rules differ.
-fn tell_differing(
-    gathered: &mut Gathered,
-    catalog: &Catalog,
-    locale: &str,
-    differing: &[u64],
-) -> Result<(), AllocError> {
+fn tell_differing(gathered: &mut Gathered, catalog: &Catalog, locale: &str, differing: &[u64]) {
     if differing.is_empty() {
-        return Ok(());
+        return;
     }
-    let alloc = gathered.alloc;
-    let numbers = numbers_text(alloc, differing)?;
-    let text = format!(in alloc;
-        "its Plural-Forms and CLDR's rules of {locale} differ for {numbers}, where the file's are taken: compare it with what plural_forms gettext {locale} prints"
-    )?;
-    gathered.note(line_of_header(catalog), NoticeCode::RulesDiffer, text)
+    let mut numbers = String::new(gathered.alloc);
+    let pushed = push_numbers(&mut numbers, differing);
+    gathered.keep(pushed);
+    gathered.note(
+        line_of_header(catalog),
+        NoticeCode::RulesDiffer,
+        format_args!(
+            "its Plural-Forms and CLDR's rules of {locale} differ for {numbers}, where the file's are taken: compare it with what plural_forms gettext {locale} prints"
+        ),
+    );
 }
 
-// The first of some numbers, and whether there are more.
-fn numbers_text(alloc: Global, numbers: &[u64]) -> Result<String, AllocError> {
-    let mut text = String::new(alloc);
-    for number in numbers.iter().take(MOST_NAMED) {
-        if !text.is_empty() {
-            text.push_str(", ")?;
+// Appends the first of some numbers, and whether there are more.
+fn push_numbers(text: &mut String, numbers: &[u64]) -> Result<(), AllocError> {
+    for (index, number) in numbers.iter().enumerate() {
+        if index == MOST_NAMED {
+            return text.push_str(" and more");
         }
-        write!(text, "{number}")?;
+        let comma = if index == 0 { "" } else { ", " };
+        write!(text, "{comma}{number}")?;
     }
-    if numbers.len() > MOST_NAMED {
-        text.push_str(" and more")?;
-    }
-    Ok(text)
+    Ok(())
 }

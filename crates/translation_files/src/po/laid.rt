@@ -2,6 +2,7 @@
 
 use crate::po::indices::{Indices, NumberIndex};
 use crate::po::numbers::TRIED_BELOW;
+use crate::pushed::push;
 use icu_plurals::{PluralCategory, PluralOperands, PluralRules};
 use message_report::Form;
 use std::alloc::{AllocError, Global};
@@ -64,50 +65,101 @@ struct Tried {
     category: PluralCategory,
 }
 
-// Lays the indices of a catalog beside the categories of its language. A category has the index of
-// its least two numbers, so that what is said of these two is true.
-pub(crate) fn lay(
-    alloc: Global,
-    indices: &Indices,
-    rules: &PluralRules<'_>,
-) -> Result<Result<Laid, Clash>, AllocError> {
-    let tried = tried_of(alloc, indices, rules)?;
-    let own = own_of(indices, tried.as_slice());
-    let mut groups = Vec::new(alloc);
-    let mut unused = Vec::new(alloc);
-    for category in rules.categories() {
-        let group = group_of(category, tried.as_slice(), own);
-        if group.first.is_none() {
-            unused.push(category)?;
-        } else {
-            groups.push(group)?;
+impl Laid {
+    // No forms yet.
+    pub(crate) fn new(alloc: Global) -> Laid {
+        Laid {
+            forms: Vec::new(alloc),
+            unused: Vec::new(alloc),
+            differing: Vec::new(alloc),
         }
     }
-    if let Some(clash) = clash_of(groups.as_slice()) {
-        return Ok(Err(clash));
-    }
-    let forms = forms_of(alloc, indices, own, groups.as_slice())?;
-    let differing = differing_of(alloc, indices, tried.as_slice(), own, groups.as_slice())?;
-    Ok(Ok(Laid {
-        forms,
-        unused,
-        differing,
-    }))
 }
 
-// The category of each number that is tried.
-fn tried_of(
+// Lays the indices of a catalog beside the categories of its language. A category has the index of
+// its least two numbers, so that what is said of these two is true: of one that has two the numbers
+// are returned.
+pub(crate) fn lay(
+    laid: &mut Laid,
     alloc: Global,
     indices: &Indices,
     rules: &PluralRules<'_>,
-) -> Result<Vec<Tried>, AllocError> {
+) -> Result<Option<Clash>, AllocError> {
     let mut tried = Vec::new(alloc);
+    let clash = match push_tried(&mut tried, indices, rules) {
+        Ok(()) => lay_tried(laid, alloc, indices, rules, tried.as_slice()),
+        Err(error) => Err(error),
+    };
+    drop(tried);
+    clash
+}
+
+// Appends the category of each number that is tried.
+fn push_tried(
+    tried: &mut Vec<Tried>,
+    indices: &Indices,
+    rules: &PluralRules<'_>,
+) -> Result<(), AllocError> {
     for number in indices.tried.iter() {
         let number = *number;
         let category = rules.category_for(PluralOperands::from(number.number));
-        tried.push(Tried { number, category })?;
+        push(tried, Tried { number, category })?;
     }
-    Ok(tried)
+    Ok(())
+}
+
+// Lays the indices of numbers beside their categories.
+fn lay_tried(
+    laid: &mut Laid,
+    alloc: Global,
+    indices: &Indices,
+    rules: &PluralRules<'_>,
+    tried: &[Tried],
+) -> Result<Option<Clash>, AllocError> {
+    let own = own_of(indices, tried);
+    let mut groups = Vec::new(alloc);
+    let clash = match push_groups(&mut groups, &mut laid.unused, rules, tried, own) {
+        Ok(()) => lay_groups(laid, indices, tried, own, groups.as_slice()),
+        Err(error) => Err(error),
+    };
+    drop(groups);
+    clash
+}
+
+// Appends the categories that numbers have, and those that none has.
+fn push_groups(
+    groups: &mut Vec<Group>,
+    unused: &mut Vec<PluralCategory>,
+    rules: &PluralRules<'_>,
+    tried: &[Tried],
+    own: Own,
+) -> Result<(), AllocError> {
+    for category in rules.categories() {
+        let group = group_of(category, tried, own);
+        if group.first.is_none() {
+            push(unused, category)?;
+        } else {
+            push(groups, group)?;
+        }
+    }
+    Ok(())
+}
+
+// Lays the indices of numbers beside these categories.
+fn lay_groups(
+    laid: &mut Laid,
+    indices: &Indices,
+    tried: &[Tried],
+    own: Own,
+    groups: &[Group],
+) -> Result<Option<Clash>, AllocError> {
+    let clash = clash_of(groups);
+    if clash.is_none() {
+        push_own(&mut laid.forms, indices, own)?;
+        push_forms(&mut laid.forms, groups)?;
+        push_differing(&mut laid.differing, indices, tried, own, groups)?;
+    }
+    Ok(clash)
 }
 
 // Whether exactly 0 and exactly 1 have forms of their own: first those whose index no other number
@@ -143,9 +195,13 @@ fn is_alone(indices: &Indices, tried: &[Tried], own: Own, number: u64) -> bool {
     if indices.times_of(found.number.index) != 1 {
         return false;
     }
-    tried.iter().any(|it| it.category == found.category
-        && it.number.number != number
-        && !own.has(it.number.number))
+    for it in tried {
+        let other = it.number.number;
+        if it.category == found.category && other != number && !own.has(other) {
+            return true;
+        }
+    }
+    false
 }
 
 // Whether a number has another index than the least number of its category from 2 on.
@@ -202,37 +258,34 @@ fn clash_of(groups: &[Group]) -> Option<Clash> {
     None
 }
 
-// The index of each form.
-fn forms_of(
-    alloc: Global,
-    indices: &Indices,
-    own: Own,
-    groups: &[Group],
-) -> Result<Vec<FormIndex>, AllocError> {
-    let mut forms = Vec::new(alloc);
+// Appends the forms of exactly 0 and 1.
+fn push_own(forms: &mut Vec<FormIndex>, indices: &Indices, own: Own) -> Result<(), AllocError> {
     if own.zero
         && let Some(index) = indices.index_of(0)
     {
-        forms.push(own_form(Form::ExplicitZero, index))?;
+        push(forms, own_form(Form::ExplicitZero, index))?;
     }
     if own.one
         && let Some(index) = indices.index_of(1)
     {
-        forms.push(own_form(Form::ExplicitOne, index))?;
+        push(forms, own_form(Form::ExplicitOne, index))?;
     }
+    Ok(())
+}
+
+// Appends the forms of categories.
+fn push_forms(forms: &mut Vec<FormIndex>, groups: &[Group]) -> Result<(), AllocError> {
     for (place, group) in groups.iter().enumerate() {
         if let Some(first) = group.first {
-            let form = Form::Category(group.category);
-            let index = first.index;
-            let is_second = has_larger(groups, place, group);
-            forms.push(FormIndex {
-                form,
-                index,
-                is_second,
-            })?;
+            let form = FormIndex {
+                form: Form::Category(group.category),
+                index: first.index,
+                is_second: has_larger(groups, place, group),
+            };
+            push(forms, form)?;
         }
     }
-    Ok(forms)
+    Ok(())
 }
 
 // The form of exactly one number.
@@ -244,34 +297,39 @@ fn own_form(form: Form, index: u64) -> FormIndex {
     }
 }
 
-// The numbers for which the indices and the categories differ, in their order.
-fn differing_of(
-    alloc: Global,
+// Appends the numbers for which the indices and the categories differ, in their order.
+fn push_differing(
+    differing: &mut Vec<u64>,
     indices: &Indices,
     tried: &[Tried],
     own: Own,
     groups: &[Group],
-) -> Result<Vec<u64>, AllocError> {
-    let mut differing = Vec::new(alloc);
+) -> Result<(), AllocError> {
     for it in tried {
-        let number = it.number;
-        if own.has(number.number) {
-            if indices.times_of(number.index) > 1 {
-                differing.push(number.number)?;
-            }
-        } else if number.number < TRIED_BELOW
-            && (has_other_index(it, groups) || is_told_apart(it, groups))
-        {
-            differing.push(number.number)?;
+        if differs_from_groups(it, indices, own, groups) {
+            push(differing, it.number.number)?;
         }
     }
-    Ok(differing)
+    Ok(())
+}
+
+// Whether the index and the category of a number differ.
+fn differs_from_groups(tried: &Tried, indices: &Indices, own: Own, groups: &[Group]) -> bool {
+    let number = tried.number;
+    if own.has(number.number) {
+        return indices.times_of(number.index) > 1;
+    }
+    number.number < TRIED_BELOW && (has_other_index(tried, groups) || is_told_apart(tried, groups))
 }
 
 // Whether a number has another index than its category.
 fn has_other_index(tried: &Tried, groups: &[Group]) -> bool {
-    groups.iter().any(|it| it.category == tried.category
-        && index_of(it) != Some(tried.number.index))
+    for it in groups {
+        if it.category == tried.category && index_of(it) != Some(tried.number.index) {
+            return true;
+        }
+    }
+    false
 }
 
 // The index of a category.

@@ -1,41 +1,25 @@
 //! Texts with `{}` for the number.
 
 use crate::po::read_text::Read;
-use crate::po::source_number::{find_name, is_same_name};
-use format_arguments::{Argument, Name, stands_for};
-use std::alloc::{AllocError, Global};
+use crate::po::sides::Sides;
+use std::alloc::AllocError;
 use std::str;
 
-// A text with `{}` for its number, where an argument stands for one of the source, or its other
-// conversion is told, and `{ }` for any other `{}`.
-pub(crate) fn marked(
-    alloc: Global,
-    read: &Read<'_>,
-    source: &[Argument<'_>],
-    number: Option<Name<'_>>,
-    is_told: bool,
-) -> Result<String, AllocError> {
-    let mut text = String::new(alloc);
+// Appends the text of a form with `{}` for its number, and `{ }` for any other `{}`.
+pub(crate) fn push_marked(
+    text: &mut String,
+    form: &Read<'_>,
+    sides: &Sides<'_, '_>,
+) -> Result<(), AllocError> {
     let mut end = 0usize;
-    if let Some(number) = number {
-        for it in read.items.iter() {
-            if is_same_name(&it.name, &number) && (is_told || is_known(it, source)) {
-                push_plain(&mut text, read.text.get(end..it.start).unwrap_or(b""))?;
-                text.push_str("{}")?;
-                end = it.end;
-            }
+    for it in form.items.iter() {
+        if sides.is_marked(it) {
+            push_plain(text, form.text.get(end..it.start).unwrap_or(b""))?;
+            text.push_str("{}")?;
+            end = it.end;
         }
     }
-    push_plain(&mut text, read.text.get(end..).unwrap_or(b""))?;
-    Ok(text)
-}
-
-// Whether the source has an argument.
-fn is_known(argument: &Argument<'_>, source: &[Argument<'_>]) -> bool {
-    match find_name(source, &argument.name) {
-        Some(known) => stands_for(known, argument),
-        None => false,
-    }
+    push_plain(text, form.text.get(end..).unwrap_or(b""))
 }
 
 // Appends a text, with `{ }` for any `{}`.

@@ -1,10 +1,10 @@
 //! What is wrong with the arguments of a form.
 
 use crate::po::read_text::{Read, directive};
-use crate::po::source_number::{find_name, is_same_name, unique};
+use crate::po::source_number::{find_name, is_first, is_same_name};
 use format_arguments::{Argument, Name, stands_for};
-use plural_documents::name_text;
-use std::alloc::{AllocError, Global};
+use plural_documents::{PrintedKey, printed_name};
+use std::alloc::AllocError;
 use std::fmt::Write;
 use std::str;
 
@@ -23,12 +23,8 @@ pub(crate) fn argument_text<'t>(read: &Read<'t>, argument: &Argument<'_>) -> &'t
 }
 
 // The text of an argument, as it is printed.
-pub(crate) fn shown_argument(
-    alloc: Global,
-    read: &Read<'_>,
-    argument: &Argument<'_>,
-) -> Result<String, AllocError> {
-    name_text(alloc, argument_text(read, argument))
+pub(crate) fn shown_argument<'t>(read: &Read<'t>, argument: &Argument<'_>) -> PrintedKey<'t> {
+    printed_name(argument_text(read, argument))
 }
 
 impl<'a, 't> Compared<'a, 't> {
@@ -50,65 +46,72 @@ impl<'a, 't> Compared<'a, 't> {
     }
 }
 
-// What is wrong with the arguments of a form: it has to have those of the source, if it is one of
-// many numbers, but for the number, which is the rules' matter. The text is empty if all is right.
-pub(crate) fn mistakes(
-    alloc: Global,
+// Appends what is wrong with the arguments of a form: it has to have those of the source, if it is
+// one of many numbers, but for the number, which is the rules' matter. Nothing if all is right.
+pub(crate) fn push_mistakes(
+    wrong: &mut String,
     compared: &Compared<'_, '_>,
     form: &Read<'_>,
     is_for_many: bool,
-) -> Result<String, AllocError> {
-    let mut wrong = String::new(alloc);
+) -> Result<(), AllocError> {
     if let Some(fault) = form.fault {
-        push_fault(&mut wrong, form.text.get(fault).copied())?;
+        wrong.push_str(fault_text(form.text.get(fault).copied()))?;
     }
-    for it in unique(alloc, form.items.as_slice())?.iter() {
-        push_foreign(alloc, &mut wrong, compared, form, it)?;
-    }
-    if is_for_many {
-        for it in unique(alloc, compared.plural.items.as_slice())?.iter() {
-            push_lacking(alloc, &mut wrong, compared, form, it)?;
+    let items = form.items.as_slice();
+    for (index, it) in items.iter().enumerate() {
+        if is_first(items, index, it) {
+            push_foreign(wrong, compared, form, it)?;
         }
     }
-    Ok(wrong)
-}
-
-// Begins what is wrong next.
-fn begin(wrong: &mut String) -> Result<(), AllocError> {
-    if wrong.is_empty() {
-        return Ok(());
+    if is_for_many {
+        push_all_lacking(wrong, compared, form)?;
     }
-    wrong.push_str(" and ")
+    Ok(())
 }
 
-// Appends that a sign begins no argument.
-fn push_fault(wrong: &mut String, byte: Option<u8>) -> Result<(), AllocError> {
+// Appends which arguments of the source the form lacks.
+fn push_all_lacking(
+    wrong: &mut String,
+    compared: &Compared<'_, '_>,
+    form: &Read<'_>,
+) -> Result<(), AllocError> {
+    let items = compared.plural.items.as_slice();
+    for (index, it) in items.iter().enumerate() {
+        if is_first(items, index, it) {
+            push_lacking(wrong, compared, form, it)?;
+        }
+    }
+    Ok(())
+}
+
+// What stands before the next thing that is wrong.
+fn joint(wrong: &str) -> &'static str {
+    if wrong.is_empty() { "" } else { " and " }
+}
+
+// What is wrong with a sign that begins no argument.
+fn fault_text(byte: Option<u8>) -> &'static str {
     match byte {
-        Some(b'{') => wrong.push_str("has a { that begins no argument"),
-        Some(b'}') => wrong.push_str("has a } that ends no argument"),
-        _ => wrong.push_str("has a % that begins no argument"),
+        Some(b'{') => "has a { that begins no argument",
+        Some(b'}') => "has a } that ends no argument",
+        _ => "has a % that begins no argument",
     }
 }
 
 // Appends that the source hasn't an argument of the form, or has another one.
 fn push_foreign(
-    alloc: Global,
     wrong: &mut String,
     compared: &Compared<'_, '_>,
     form: &Read<'_>,
     argument: &Argument<'_>,
 ) -> Result<(), AllocError> {
+    let and = joint(wrong.as_str());
+    let text = shown_argument(form, argument);
     match compared.known(&argument.name) {
-        None => {
-            begin(wrong)?;
-            let text = shown_argument(alloc, form, argument)?;
-            write!(wrong, "has {text}, which msgid_plural hasn't")
-        }
+        None => write!(wrong, "{and}has {text}, which msgid_plural hasn't"),
         Some((known, source)) if !stands_for(known, argument) => {
-            begin(wrong)?;
-            let text = shown_argument(alloc, form, argument)?;
-            let other = shown_argument(alloc, source, known)?;
-            write!(wrong, "has {text} where msgid_plural has {other}")
+            let other = shown_argument(source, known);
+            write!(wrong, "{and}has {text} where msgid_plural has {other}")
         }
         Some(_) => Ok(()),
     }
@@ -116,7 +119,6 @@ fn push_foreign(
 
 // Appends that the form lacks an argument of the source.
 fn push_lacking(
-    alloc: Global,
     wrong: &mut String,
     compared: &Compared<'_, '_>,
     form: &Read<'_>,
@@ -125,7 +127,7 @@ fn push_lacking(
     if compared.is_number(argument) || find_name(form.items.as_slice(), &argument.name).is_some() {
         return Ok(());
     }
-    begin(wrong)?;
-    let text = shown_argument(alloc, compared.plural, argument)?;
-    write!(wrong, "lacks {text}")
+    let and = joint(wrong.as_str());
+    let text = shown_argument(compared.plural, argument);
+    write!(wrong, "{and}lacks {text}")
 }

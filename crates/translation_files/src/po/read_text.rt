@@ -1,6 +1,7 @@
 //! The arguments of a message's texts.
 
 use crate::po::text_format::TextFormat;
+use crate::pushed::push;
 use format_arguments::{Argument, Format, Name, arguments};
 use std::alloc::{AllocError, Global};
 
@@ -16,22 +17,19 @@ pub(crate) struct Read<'t> {
     pub(crate) text: &'t [u8],
     pub(crate) items: Vec<Argument<'t>>,
     pub(crate) fault: Option<usize>,
-}
-
-impl<'t> Read<'t> {
-    // No arguments yet.
-    fn new(alloc: Global, text: &'t [u8]) -> Read<'t> {
-        Read {
-            text,
-            items: Vec::new(alloc),
-            fault: None,
-        }
-    }
+    // How many arguments come in turn before the next one.
+    turns: usize,
 }
 
 // Whether a text has more percent signs or braces than are read.
 pub(crate) fn has_too_many(text: &[u8]) -> bool {
-    text.iter().filter(|it| is_sign(**it)).count() > MOST_SIGNS
+    let mut count = 0usize;
+    for byte in text {
+        if is_sign(*byte) {
+            count = count.saturating_add(1);
+        }
+    }
+    count > MOST_SIGNS
 }
 
 // Whether a byte begins arguments.
@@ -46,71 +44,134 @@ pub(crate) fn read_text<'t>(
     format: TextFormat,
     text: &'t [u8],
 ) -> Result<Read<'t>, AllocError> {
-    match format {
-        TextFormat::Flagged(format) => read_flagged(alloc, format, text),
-        TextFormat::Unflagged => read_unflagged(alloc, text),
-        TextFormat::Unread => Ok(Read::new(alloc, text)),
-    }
-}
-
-// The arguments of a text in a format, those behind its faults among them.
-fn read_flagged<'t>(alloc: Global, format: Format, text: &'t [u8]) -> Result<Read<'t>, AllocError> {
     let mut read = Read::new(alloc, text);
-    let mut start = 0usize;
-    let mut turns = 0usize;
-    for _ in 0..MOST_SIGNS + 1 {
-        let Some(rest) = text.get(start..) else {
-            return Ok(read);
-        };
-        let found = arguments(alloc, format, rest)?;
-        turns = push_moved(&mut read, start, turns, found.items.as_slice())?;
-        let Some(fault) = found.fault else {
-            return Ok(read);
-        };
-        let place = start.saturating_add(fault);
-        if read.fault.is_none() {
-            read.fault = Some(place);
-        }
-        start = place.saturating_add(1);
+    let filled = match format {
+        TextFormat::Flagged(format) => read.fill_flagged(alloc, format),
+        TextFormat::Unflagged => read.fill_unflagged(alloc),
+        TextFormat::Unread => Ok(()),
+    };
+    match filled {
+        Ok(()) => Ok(read),
+        Err(error) => Err(error),
     }
-    Ok(read)
 }
 
-// Appends the arguments of what stands from a byte on, where so many come before them in turn.
-// Returns how many come before the next ones.
-fn push_moved<'t>(
-    read: &mut Read<'t>,
-    start: usize,
-    turns: usize,
-    items: &[Argument<'t>],
-) -> Result<usize, AllocError> {
-    let mut last = turns;
-    for it in items {
-        let mut moved = *it;
-        moved.start = start.saturating_add(it.start);
-        moved.end = start.saturating_add(it.end);
-        if let Name::Place(written) = it.name {
-            let bytes = directive(read.text, &moved);
+impl<'t> Read<'t> {
+    // No arguments yet.
+    fn new(alloc: Global, text: &'t [u8]) -> Read<'t> {
+        Read {
+            text,
+            items: Vec::new(alloc),
+            fault: None,
+            turns: 0,
+        }
+    }
+
+    // Takes the arguments in a format, those behind its faults among them.
+    fn fill_flagged(&mut self, alloc: Global, format: Format) -> Result<(), AllocError> {
+        let mut start = 0usize;
+        for _ in 0..MOST_SIGNS + 1 {
+            let Some(fault) = self.take_from(alloc, format, start)? else {
+                return Ok(());
+            };
+            self.fault = self.fault.or(Some(fault));
+            start = fault.saturating_add(1);
+        }
+        Ok(())
+    }
+
+    // Takes the arguments in a format from a byte on, up to their fault, which is returned.
+    fn take_from(
+        &mut self,
+        alloc: Global,
+        format: Format,
+        start: usize,
+    ) -> Result<Option<usize>, AllocError> {
+        let Some(rest) = self.text.get(start..) else {
+            return Ok(None);
+        };
+        match arguments(alloc, format, rest) {
+            Ok(found) => self.push_moved(start, found.items.as_slice(), found.fault),
+            Err(error) => Err(error),
+        }
+    }
+
+    // Appends the arguments of what stands from a byte on. Returns where their fault is.
+    fn push_moved(
+        &mut self,
+        start: usize,
+        items: &[Argument<'t>],
+        fault: Option<usize>,
+    ) -> Result<Option<usize>, AllocError> {
+        let turns = self.turns;
+        for it in items {
+            let moved = self.moved(start, turns, it);
+            push(&mut self.items, moved)?;
+        }
+        Ok(match fault {
+            Some(fault) => Some(start.saturating_add(fault)),
+            None => None,
+        })
+    }
+
+    // An argument of what stands from a byte on, where so many come before that in turn.
+    fn moved(&mut self, start: usize, turns: usize, argument: &Argument<'t>) -> Argument<'t> {
+        let mut moved = *argument;
+        moved.start = start.saturating_add(argument.start);
+        moved.end = start.saturating_add(argument.end);
+        if let Name::Place(written) = argument.name {
+            let bytes = directive(self.text, &moved);
             let place = if has_own_place(bytes) {
                 written
             } else {
                 turns.saturating_add(written)
             };
             moved.name = Name::Place(place);
-            last = last.max(if bytes.starts_with(b"{") {
-                place.saturating_add(1)
-            } else {
-                place
-            });
+            self.turns = self.turns.max(turns_behind(bytes, place));
         }
-        read.items.push(moved)?;
+        moved
     }
-    Ok(last)
+
+    // Takes what looks like an argument, where no flag tells of any.
+    fn fill_unflagged(&mut self, alloc: Global) -> Result<(), AllocError> {
+        let text = self.text;
+        let mut behind = 0usize;
+        for (start, byte) in text.iter().enumerate() {
+            if behind <= start && is_sign(*byte) {
+                behind = self.take_front(alloc, start)?;
+            }
+        }
+        Ok(())
+    }
+
+    // Takes the argument that begins at a sign, if one does. Returns where to go on.
+    fn take_front(&mut self, alloc: Global, start: usize) -> Result<usize, AllocError> {
+        let rest = self.text.get(start..).unwrap_or(b"");
+        if is_doubled(rest) {
+            return Ok(start.saturating_add(2));
+        }
+        match first_argument(alloc, rest)? {
+            Some(found) => {
+                self.push_moved(start, &[found], None)?;
+                Ok(start.saturating_add(found.end))
+            }
+            None => Ok(start),
+        }
+    }
 }
 
 // The bytes of an argument.
 pub(crate) fn directive<'t>(text: &'t [u8], argument: &Argument<'_>) -> &'t [u8] {
     text.get(argument.start..argument.end).unwrap_or(b"")
+}
+
+// How many arguments come in turn before the one behind a place.
+fn turns_behind(directive: &[u8], place: usize) -> usize {
+    if directive.starts_with(b"{") {
+        place.saturating_add(1)
+    } else {
+        place
+    }
 }
 
 // Whether a directive writes its place.
@@ -130,26 +191,6 @@ fn ends_in_digit(directive: &[u8]) -> bool {
         Some(last) => last.is_ascii_digit() || *last == b'%',
         None => false,
     }
-}
-
-// The arguments of a text that no flag tells of: whatever looks like one.
-fn read_unflagged<'t>(alloc: Global, text: &'t [u8]) -> Result<Read<'t>, AllocError> {
-    let mut read = Read::new(alloc, text);
-    let mut behind = 0usize;
-    let mut turns = 0usize;
-    for (start, byte) in text.iter().enumerate() {
-        if start < behind || !is_sign(*byte) {
-            continue;
-        }
-        let rest = text.get(start..).unwrap_or(b"");
-        if is_doubled(rest) {
-            behind = start.saturating_add(2);
-        } else if let Some(found) = first_argument(alloc, rest)? {
-            turns = push_moved(&mut read, start, turns, &[found])?;
-            behind = start.saturating_add(found.end);
-        }
-    }
-    Ok(read)
 }
 
 // Whether a sign stands twice, and so for itself.
@@ -188,9 +229,16 @@ fn front_argument<'t>(
     format: Format,
     front: &'t [u8],
 ) -> Result<Option<Argument<'t>>, AllocError> {
-    let read = arguments(alloc, format, front)?;
-    match read.items.first() {
-        Some(found) if found.start == 0 => Ok(Some(*found)),
-        _ => Ok(None),
+    match arguments(alloc, format, front) {
+        Ok(read) => Ok(argument_at_start(read.items.as_slice())),
+        Err(error) => Err(error),
+    }
+}
+
+// The first argument, if it stands at the start.
+fn argument_at_start<'t>(items: &[Argument<'t>]) -> Option<Argument<'t>> {
+    match items.first() {
+        Some(found) if found.start == 0 => Some(*found),
+        _ => None,
     }
 }

@@ -2,7 +2,6 @@
 
 use crate::po::read_text::{Read, directive};
 use format_arguments::{Argument, Kind, Name, number_of};
-use std::alloc::{AllocError, Global};
 use std::str;
 
 // Whether two names are one.
@@ -27,18 +26,20 @@ pub(crate) fn find_name<'a, 't>(
     None
 }
 
-// The first argument of each name.
-pub(crate) fn unique<'t>(
-    alloc: Global,
-    items: &[Argument<'t>],
-) -> Result<Vec<Argument<'t>>, AllocError> {
-    let mut first = Vec::new(alloc);
-    for it in items {
-        if find_name(first.as_slice(), &it.name).is_none() {
-            first.push(*it)?;
+// Whether an argument is the first one of its name.
+pub(crate) fn is_first(items: &[Argument<'_>], index: usize, argument: &Argument<'_>) -> bool {
+    find_name(items.get(..index).unwrap_or(items), &argument.name).is_none()
+}
+
+// How many names arguments have.
+pub(crate) fn count_names(items: &[Argument<'_>]) -> usize {
+    let mut count = 0usize;
+    for (index, it) in items.iter().enumerate() {
+        if is_first(items, index, it) {
+            count = count.saturating_add(1);
         }
     }
-    Ok(first)
+    count
 }
 
 // What an argument of a text is, its style in braces considered.
@@ -142,9 +143,15 @@ impl<'t> Source<'_, 't> {
         }
     }
 
-    // How many arguments show so.
+    // How many arguments show so, of each name the first one.
     fn count(&self, sign: Sign, items: &[Argument<'_>]) -> usize {
-        items.iter().filter(|it| self.shows(sign, *it)).count()
+        let mut count = 0usize;
+        for (index, it) in items.iter().enumerate() {
+            if is_first(items, index, it) && self.shows(sign, it) {
+                count = count.saturating_add(1);
+            }
+        }
+        count
     }
 
     // The only argument that shows so; none if there are none or several.
@@ -157,8 +164,8 @@ impl<'t> Source<'_, 't> {
 
     // The first argument that shows so.
     fn first(&self, sign: Sign, items: &[Argument<'t>]) -> Option<Name<'t>> {
-        for it in items {
-            if self.shows(sign, it) {
+        for (index, it) in items.iter().enumerate() {
+            if is_first(items, index, it) && self.shows(sign, it) {
                 return Some(it.name);
             }
         }
@@ -189,29 +196,34 @@ impl<'t> Source<'_, 't> {
 
 // The name of the argument that is the number, and none if there is none or it isn't clear which.
 pub(crate) fn number_in<'t>(
-    alloc: Global,
     kept: &[Argument<'t>],
     plural: &Read<'t>,
     singular: &Read<'t>,
-) -> Result<Option<Name<'t>>, AllocError> {
-    let distinct = unique(alloc, kept)?;
-    let items = distinct.as_slice();
+) -> Option<Name<'t>> {
     let source = Source { plural, singular };
-    match source.count(Sign::Integer, items) {
-        0 => Ok(source.of_others(items)),
-        1 => Ok(source.only(Sign::Integer, items)),
-        _ => Ok(source.of_integers(items)),
+    match source.count(Sign::Integer, kept) {
+        0 => source.of_others(kept),
+        1 => source.only(Sign::Integer, kept),
+        _ => source.of_integers(kept),
     }
 }
 
 // The number, if it is the only argument, and has a place.
 fn number_alone<'t>(plural: &Read<'_>, items: &[Argument<'t>]) -> Option<Name<'t>> {
-    match items {
-        [only] if is_unknown(plural, only) => match only.name {
-            Name::Place(_) => Some(only.name),
-            Name::Word(_) => None,
-        },
+    if count_names(items) != 1 {
+        return None;
+    }
+    match items.first() {
+        Some(only) if has_place(only) && is_unknown(plural, only) => Some(only.name),
         _ => None,
+    }
+}
+
+// Whether an argument has a place.
+fn has_place(argument: &Argument<'_>) -> bool {
+    match argument.name {
+        Name::Place(_) => true,
+        Name::Word(_) => false,
     }
 }
 
@@ -244,21 +256,37 @@ const MOST_BEHIND: usize = 100;
 
 // The first word of a text, which isn't between `<` and `>`.
 fn first_word(text: &[u8]) -> &[u8] {
+    let front = text.get(..MOST_BEHIND).unwrap_or(text);
+    let Some(start) = start_of_word(front) else {
+        return b"";
+    };
+    let word = match end_of_word(front, start) {
+        Some(end) => text.get(start..end),
+        None => text.get(start..),
+    };
+    word.unwrap_or(b"")
+}
+
+// Where the first word begins that isn't between `<` and `>`.
+fn start_of_word(text: &[u8]) -> Option<usize> {
     let mut is_tag = false;
-    let mut start = None;
-    for (index, byte) in text.iter().enumerate().take(MOST_BEHIND) {
-        let is_letter = !is_tag && is_of_word(*byte);
-        match start {
-            None if is_letter => start = Some(index),
-            Some(start) if !is_letter => return text.get(start..index).unwrap_or(b""),
-            _ => (),
+    for (index, byte) in text.iter().enumerate() {
+        if !is_tag && is_of_word(*byte) {
+            return Some(index);
         }
         is_tag = *byte == b'<' || is_tag && *byte != b'>';
     }
-    match start {
-        Some(start) => text.get(start..).unwrap_or(b""),
-        None => b"",
+    None
+}
+
+// Where the word that begins there ends.
+fn end_of_word(text: &[u8], start: usize) -> Option<usize> {
+    for (index, byte) in text.iter().enumerate() {
+        if start < index && !is_of_word(*byte) {
+            return Some(index);
+        }
     }
+    None
 }
 
 // Whether a byte is of a word: a letter, a digit or `_`, or one of a character that isn't ASCII.

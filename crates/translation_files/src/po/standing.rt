@@ -1,8 +1,6 @@
 //! What stands in the way of a message's check.
 
-use plural_documents::sum;
 use po_catalog::{Catalog, Entry};
-use std::alloc::AllocError;
 
 // How a message stands.
 #[derive(Clone, Copy)]
@@ -27,7 +25,7 @@ pub(crate) fn standing_of(entry: &Entry) -> Standing {
     if entry.is_obsolete {
         return Standing::Obsolete;
     }
-    if !entry.is_faulty && entry.forms.iter().all(|it| it.bytes.is_empty()) {
+    if !entry.is_faulty && !has_text(entry) {
         return Standing::Untranslated;
     }
     if entry.is_fuzzy() {
@@ -38,6 +36,16 @@ pub(crate) fn standing_of(entry: &Entry) -> Standing {
     } else {
         Standing::Whole
     }
+}
+
+// Whether a form has a text.
+fn has_text(entry: &Entry) -> bool {
+    for it in entry.forms.iter() {
+        if !it.bytes.is_empty() {
+            return true;
+        }
+    }
+    false
 }
 
 // How many messages with plural forms stand so.
@@ -61,21 +69,21 @@ impl Standings {
     }
 
     // Counts a message.
-    fn add(&mut self, standing: Standing) -> Result<(), AllocError> {
-        match standing {
-            Standing::Single => (),
-            Standing::Untranslated => self.untranslated = sum(self.untranslated, 1)?,
-            Standing::Fuzzy => self.fuzzy = sum(self.fuzzy, 1)?,
-            Standing::Obsolete => self.obsolete = sum(self.obsolete, 1)?,
-            Standing::Broken => self.broken = sum(self.broken, 1)?,
-            Standing::Whole => self.whole = sum(self.whole, 1)?,
-        }
-        Ok(())
+    fn add(&mut self, standing: Standing) {
+        let count = match standing {
+            Standing::Single => return,
+            Standing::Untranslated => &mut self.untranslated,
+            Standing::Fuzzy => &mut self.fuzzy,
+            Standing::Obsolete => &mut self.obsolete,
+            Standing::Broken => &mut self.broken,
+            Standing::Whole => &mut self.whole,
+        };
+        *count = count.saturating_add(1);
     }
 }
 
 // How the messages of a catalog stand.
-pub(crate) fn standings_of(catalog: &Catalog) -> Result<Standings, AllocError> {
+pub(crate) fn standings_of(catalog: &Catalog) -> Standings {
     let mut standings = Standings {
         untranslated: 0,
         fuzzy: 0,
@@ -84,7 +92,7 @@ pub(crate) fn standings_of(catalog: &Catalog) -> Result<Standings, AllocError> {
         whole: 0,
     };
     for entry in catalog.entries.iter() {
-        standings.add(standing_of(entry))?;
+        standings.add(standing_of(entry));
     }
-    Ok(standings)
+    standings
 }

@@ -39,25 +39,42 @@ const ALIKE: [(&str, Format); 3] = [
 
 // The format that a message's flags name.
 pub(crate) fn format_of(entry: &Entry) -> TextFormat {
+    match flagged(entry).or(alike(entry)) {
+        Some(format) => TextFormat::Flagged(format),
+        None if names_other(entry) => TextFormat::Unread,
+        None => TextFormat::Unflagged,
+    }
+}
+
+// The format that is flagged.
+fn flagged(entry: &Entry) -> Option<Format> {
     for format in FORMATS {
         if entry.has_flag(format.flag()) {
-            return TextFormat::Flagged(with_plurals(format));
+            return Some(with_plurals(format));
         }
     }
+    None
+}
+
+// The format that is like one that is flagged.
+fn alike(entry: &Entry) -> Option<Format> {
     for (flag, format) in ALIKE {
         if entry.has_flag(flag.as_bytes()) {
-            return TextFormat::Flagged(format);
+            return Some(format);
         }
     }
-    for flag in str::from_utf8(entry.flags.as_slice())
-        .unwrap_or("")
-        .split(',')
-    {
+    None
+}
+
+// Whether a flag names some format.
+fn names_other(entry: &Entry) -> bool {
+    let flags = str::from_utf8(entry.flags.as_slice()).unwrap_or("");
+    for flag in flags.split(',') {
         if names_format(flag) {
-            return TextFormat::Unread;
+            return true;
         }
     }
-    TextFormat::Unflagged
+    false
 }
 
 // A format where texts have plural forms: Qt's tools write one flag for all messages.

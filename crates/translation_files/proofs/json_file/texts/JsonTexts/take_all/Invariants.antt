@@ -1,5 +1,5 @@
 use Rattle.std.proofs.Common.{length}
-use Rattle.translation_files.proofs.json_file.document_places.gathered_places.Given as goal
+use Rattle.translation_files.proofs.json_file.texts.JsonTexts.take_all.Given as goal
 
 abbrev pub decreases-loop-member : goal.decreases-loop-member
 decreases-loop-member l = length l.members

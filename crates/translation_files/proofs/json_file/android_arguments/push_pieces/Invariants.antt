@@ -1,5 +1,5 @@
 use Rattle.std.proofs.Common.{length}
-use Rattle.translation_files.proofs.json_file.android_arguments.android_pieces.Given as goal
+use Rattle.translation_files.proofs.json_file.android_arguments.push_pieces.Given as goal
 
 abbrev pub decreases-loop-rest : goal.decreases-loop-rest
 decreases-loop-rest l = length l.rest
