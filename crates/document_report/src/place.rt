@@ -13,9 +13,16 @@ use std::marker::Model;
 /// The printed text of a locale's key: control characters of ASCII and the backslash as `\x` and
 /// two hexadecimal digits, and `\(300 bytes)` in place of a key that would print more than 64
 /// bytes.
-#[derive(Debug, Drop)]
+#[derive(Debug)]
 pub struct Locale {
     text: String,
+}
+
+// Written out, so that each end of a value is one call.
+impl Drop for Locale {
+    fn drop(self) {
+        let Locale { text: _ } = self;
+    }
 }
 
 impl Model for Locale {

@@ -19,9 +19,16 @@ use std::marker::Model;
 const ROOM: usize = 16;
 
 /// A pattern of messages: the flat list of its parts, which borrow from the text.
-#[derive(Debug, Drop)]
+#[derive(Debug)]
 pub struct Pattern<'p> {
     pub(crate) parts: Vec<Part<'p>>,
+}
+
+// Written out, so that each end of a value is one call.
+impl Drop for Pattern<'_> {
+    fn drop(self) {
+        let Pattern { parts: _ } = self;
+    }
 }
 
 impl<'p> Model for Pattern<'p> {

@@ -19,9 +19,16 @@ use std::marker::Model;
 /// `{n, number}`: the flat list of its parts, which borrow from the text. An argument that doesn't
 /// choose is an [`Argument`](crate::Piece::Argument) with all that stands between its braces:
 /// [`StyledArgument::of`](crate::StyledArgument::of) takes it apart.
-#[derive(Debug, Drop)]
+#[derive(Debug)]
 pub struct StyledPattern<'p> {
     parts: Vec<Part<'p>>,
+}
+
+// Written out, so that each end of a value is one call.
+impl Drop for StyledPattern<'_> {
+    fn drop(self) {
+        let StyledPattern { parts: _ } = self;
+    }
 }
 
 impl<'p> Model for StyledPattern<'p> {
@@ -68,7 +75,7 @@ impl<'p> StyledPattern<'p> {
     pub fn into_pattern(self) -> Pattern<'p>
         ensures { result ≡ unstyled self.entry }
     {
-        let mut parts = self.parts;
+        let StyledPattern { mut parts } = self;
         leave_out_formats(&mut parts);
         Pattern { parts }
     }

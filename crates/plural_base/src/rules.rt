@@ -67,9 +67,16 @@ use std::mem;
 /// 3: Few
 /// 5: Other
 /// ```
-#[derive(Debug, Drop)]
+#[derive(Debug)]
 pub struct PluralRules<'data> {
     pub(crate) data: PluralRulesData<'data>,
+}
+
+// Written out, so that each end of a value is one call.
+impl Drop for PluralRules<'_> {
+    fn drop(self) {
+        let PluralRules { data: _ } = self;
+    }
 }
 
 impl<'data> Model for PluralRules<'data> {

@@ -11,11 +11,21 @@ use std::alloc::Global;
 use std::marker::Model;
 
 /// A JSON text that was read once, and what is held of it: any outlines are made of this.
-#[derive(Drop)]
 pub struct JsonTokens<'a> {
     text: &'a str,
     names: Option<&'a [&'a str]>,
     pub(crate) tokens: Vec<HeldToken<'a>>,
+}
+
+// Written out, so that each end of a value is one call.
+impl Drop for JsonTokens<'_> {
+    fn drop(self) {
+        let JsonTokens {
+            text: _,
+            names: _,
+            tokens: _,
+        } = self;
+    }
 }
 
 impl<'a> Model for JsonTokens<'a> {

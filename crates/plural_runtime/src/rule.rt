@@ -27,9 +27,16 @@ use std::marker::Model;
 ///
 /// let one = Rule::parse_bytes(bytes)?;
 /// ```
-#[derive(Debug, Drop)]
+#[derive(Debug)]
 pub struct Rule<'data> {
     bytes: CowSlice<'data, u8>,
+}
+
+// Written out, so that each end of a value is one call.
+impl Drop for Rule<'_> {
+    fn drop(self) {
+        let Rule { bytes: _ } = self;
+    }
 }
 
 impl<'data> Model for Rule<'data> {

@@ -11,13 +11,24 @@ use std::vec::IntoIter;
 ///
 /// The first fault is kept, and ends in the place of the result. So an argument that isn't what it
 /// should be is taken as an empty value, and the call goes on.
-#[derive(Drop)]
 pub struct Call {
     /// The memory of the call.
     pub alloc: Global,
     left: IntoIter<Value>,
     printed: String,
     fault: Option<RowFault>,
+}
+
+// Written out, so that each end of a value is one call.
+impl Drop for Call {
+    fn drop(self) {
+        let Call {
+            alloc: _,
+            left: _,
+            printed: _,
+            fault: _,
+        } = self;
+    }
 }
 
 impl Call {

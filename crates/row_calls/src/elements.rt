@@ -20,7 +20,6 @@ const NAMES: [&str; 8] = [
 ];
 
 /// Elements by category: all but that of other may be absent.
-#[derive(Drop)]
 pub struct Elements {
     other: Element,
     zero: Option<Element>,
@@ -30,6 +29,22 @@ pub struct Elements {
     many: Option<Element>,
     explicit_zero: Option<Element>,
     explicit_one: Option<Element>,
+}
+
+// Written out, so that each end of a value is one call.
+impl Drop for Elements {
+    fn drop(self) {
+        let Elements {
+            other: _,
+            zero: _,
+            one: _,
+            two: _,
+            few: _,
+            many: _,
+            explicit_zero: _,
+            explicit_one: _,
+        } = self;
+    }
 }
 
 // A text with metadata.

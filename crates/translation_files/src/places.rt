@@ -64,9 +64,15 @@ fn insert<T: Drop>(
 }
 
 /// Where the messages of a file stand: by locale, kind and key.
-#[derive(Drop)]
 pub struct Places {
     locales: BTreeMap<String, LocalePlaces>,
+}
+
+// Written out, so that each end of a value is one call.
+impl Drop for Places {
+    fn drop(self) {
+        let Places { locales: _ } = self;
+    }
 }
 
 impl Places {

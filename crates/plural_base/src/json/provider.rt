@@ -24,11 +24,22 @@ use std::collections::BTreeMap;
 use std::marker::Model;
 
 /// Rules and ranges by locale that were read from a JSON document. It owns them.
-#[derive(Debug, Drop)]
+#[derive(Debug)]
 pub struct JsonProvider {
     pub(crate) cardinal: BTreeMap<String, PluralRulesData<'static>>,
     pub(crate) ordinal: BTreeMap<String, PluralRulesData<'static>>,
     pub(crate) ranges: BTreeMap<String, PluralRanges>,
+}
+
+// Written out, so that each end of a value is one call.
+impl Drop for JsonProvider {
+    fn drop(self) {
+        let JsonProvider {
+            cardinal: _,
+            ordinal: _,
+            ranges: _,
+        } = self;
+    }
 }
 
 impl Model for JsonProvider {

@@ -29,9 +29,16 @@ const FEW_BEFORE_ORDER: u64 = 128;
 /// Rules that are asked for the categories of many numbers, in the way that costs least for so
 /// many: as they are, by their tables ([`PreparedRules`]), or, where they have many ranges, with
 /// these in order. The categories are those of the rules in each way.
-#[derive(Debug, Drop)]
+#[derive(Debug)]
 pub struct AskedRules<'data> {
     way: Way<'data>,
+}
+
+// Written out, so that each end of a value is one call.
+impl Drop for AskedRules<'_> {
+    fn drop(self) {
+        let AskedRules { way: _ } = self;
+    }
 }
 
 // How rules are asked.

@@ -26,7 +26,7 @@ use std::marker::Model;
 /// below 128, and one of the remainders by 100, for all numbers above the ends of the rules.
 /// Where the remainder doesn't tell, as under a modulus 1000000, the rules are asked. Beside them
 /// is the category of all numbers that show a fraction, if the rules have one for all.
-#[derive(Debug, Drop)]
+#[derive(Debug)]
 pub struct PreparedRules<'data> {
     rules: PluralRules<'data>,
     bound: u64,
@@ -34,6 +34,20 @@ pub struct PreparedRules<'data> {
     cycle: [Option<PluralCategory>; 100],
     shown: Option<PluralCategory>,
     not_zero: Option<PluralCategory>,
+}
+
+// Written out, so that each end of a value is one call.
+impl Drop for PreparedRules<'_> {
+    fn drop(self) {
+        let PreparedRules {
+            rules: _,
+            bound: _,
+            low: _,
+            cycle: _,
+            shown: _,
+            not_zero: _,
+        } = self;
+    }
 }
 
 impl<'data> Model for PreparedRules<'data> {
