@@ -41,7 +41,7 @@ use std::marker::Model;
 /// ```
 ///
 /// [`get`]: PluralElements::get
-#[derive(Debug, Drop, PartialEq, Eq)]
+#[derive(Debug, PartialEq, Eq)]
 pub struct PluralElements<T> {
     pub(crate) other: T,
     pub(crate) zero: Option<T>,
@@ -51,6 +51,22 @@ pub struct PluralElements<T> {
     pub(crate) many: Option<T>,
     pub(crate) explicit_zero: Option<T>,
     pub(crate) explicit_one: Option<T>,
+}
+
+// Written out, so that each end of a value is one call.
+impl<T: Drop> Drop for PluralElements<T> {
+    fn drop(self) {
+        let PluralElements {
+            other: _,
+            zero: _,
+            one: _,
+            two: _,
+            few: _,
+            many: _,
+            explicit_zero: _,
+            explicit_one: _,
+        } = self;
+    }
 }
 
 impl<T> Model for PluralElements<T> {

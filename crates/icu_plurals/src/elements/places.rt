@@ -49,11 +49,20 @@ macro_rules! make_elements {
         }
     }};
     ($from:expr, |$value:ident| $first:expr, |$a:ident, $b:ident, $c:ident| $three:expr,
-        |$place:ident| $last:expr) => {
+        |$place:ident| $last:expr) => {{
+        let $crate::PluralElements {
+            other,
+            zero,
+            one,
+            two,
+            few,
+            many,
+            explicit_zero,
+            explicit_one,
+        } = $from;
         make_elements!(@each |$value| $first, |$a, $b, $c| $three, |$place| $last,
-            $from.other, $from.zero, $from.one, $from.two, $from.few, $from.many,
-            $from.explicit_zero, $from.explicit_one)
-    };
+            other, zero, one, two, few, many, explicit_zero, explicit_one)
+    }};
 }
 
 /// Does the first step for a reference to the value of other, the second one for references to each

@@ -11,8 +11,9 @@ impl<T: PartialEq + Drop> PluralElements<T> {
     pub fn with_zero_value(self, zero: Option<T>) -> PluralElements<T>
         ensures { result ≡ record self { zero = unless_equal T.eq self.other zero } }
     {
-        let zero = unless_equal(zero, &self.other);
-        PluralElements { zero, ..self }
+        let mut elements = self;
+        elements.zero = unless_equal(zero, &elements.other);
+        elements
     }
 
     /// Returns the same elements with this value of one; without one, if it is `None` or equals
@@ -32,8 +33,9 @@ impl<T: PartialEq + Drop> PluralElements<T> {
     pub fn with_one_value(self, one: Option<T>) -> PluralElements<T>
         ensures { result ≡ record self { one = unless_equal T.eq self.other one } }
     {
-        let one = unless_equal(one, &self.other);
-        PluralElements { one, ..self }
+        let mut elements = self;
+        elements.one = unless_equal(one, &elements.other);
+        elements
     }
 
     /// Returns the same elements with this value of two; without one, if it is `None` or equals
@@ -41,8 +43,9 @@ impl<T: PartialEq + Drop> PluralElements<T> {
     pub fn with_two_value(self, two: Option<T>) -> PluralElements<T>
         ensures { result ≡ record self { two = unless_equal T.eq self.other two } }
     {
-        let two = unless_equal(two, &self.other);
-        PluralElements { two, ..self }
+        let mut elements = self;
+        elements.two = unless_equal(two, &elements.other);
+        elements
     }
 
     /// Returns the same elements with this value of few; without one, if it is `None` or equals
@@ -50,8 +53,9 @@ impl<T: PartialEq + Drop> PluralElements<T> {
     pub fn with_few_value(self, few: Option<T>) -> PluralElements<T>
         ensures { result ≡ record self { few = unless_equal T.eq self.other few } }
     {
-        let few = unless_equal(few, &self.other);
-        PluralElements { few, ..self }
+        let mut elements = self;
+        elements.few = unless_equal(few, &elements.other);
+        elements
     }
 
     /// Returns the same elements with this value of many; without one, if it is `None` or equals
@@ -59,8 +63,9 @@ impl<T: PartialEq + Drop> PluralElements<T> {
     pub fn with_many_value(self, many: Option<T>) -> PluralElements<T>
         ensures { result ≡ record self { many = unless_equal T.eq self.other many } }
     {
-        let many = unless_equal(many, &self.other);
-        PluralElements { many, ..self }
+        let mut elements = self;
+        elements.many = unless_equal(many, &elements.other);
+        elements
     }
 
     /// Returns the same elements with this value for exactly 0, even if it equals that of other;
@@ -68,10 +73,9 @@ impl<T: PartialEq + Drop> PluralElements<T> {
     pub fn with_explicit_zero_value(self, explicit_zero: Option<T>) -> PluralElements<T>
         ensures { result ≡ record self { explicit_zero = explicit_zero } }
     {
-        PluralElements {
-            explicit_zero,
-            ..self
-        }
+        let mut elements = self;
+        elements.explicit_zero = explicit_zero;
+        elements
     }
 
     /// Returns the same elements with this value for exactly 1, even if it equals that of other;
@@ -87,10 +91,9 @@ impl<T: PartialEq + Drop> PluralElements<T> {
     pub fn with_explicit_one_value(self, explicit_one: Option<T>) -> PluralElements<T>
         ensures { result ≡ record self { explicit_one = explicit_one } }
     {
-        PluralElements {
-            explicit_one,
-            ..self
-        }
+        let mut elements = self;
+        elements.explicit_one = explicit_one;
+        elements
     }
 }
 
