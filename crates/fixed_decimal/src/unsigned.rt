@@ -40,12 +40,24 @@ use std::marker::Model;
 /// -1: 7
 /// -2: 0
 /// ```
-#[derive(Debug, Drop)]
+#[derive(Debug)]
 pub struct UnsignedDecimal {
     whole_places: u16,
     fraction_places: u16,
     leading_zeros: u16,
     span: SmallVec<u8, INLINE_DIGITS>,
+}
+
+// Written out, so that each end of a value is one call.
+impl Drop for UnsignedDecimal {
+    fn drop(self) {
+        let UnsignedDecimal {
+            whole_places: _,
+            fraction_places: _,
+            leading_zeros: _,
+            span: _,
+        } = self;
+    }
 }
 
 impl Model for UnsignedDecimal {

@@ -124,16 +124,16 @@ fn packed(
 fn read_elements(value: &Value) -> Option<PluralElements<(FourBitMetadata, &str)>>
     ensures { option_map (each_by lent_value) result ≡ elements_in_json (view value.now) }
 {
-    let other = read_value(value.get("other")?)?;
-    let mut elements = PluralElements::new(other);
-    elements.zero = read_optional(value.get("zero"))?;
-    elements.one = read_optional(value.get("one"))?;
-    elements.two = read_optional(value.get("two"))?;
-    elements.few = read_optional(value.get("few"))?;
-    elements.many = read_optional(value.get("many"))?;
-    elements.explicit_zero = read_optional(value.get("explicit_zero"))?;
-    elements.explicit_one = read_optional(value.get("explicit_one"))?;
-    Some(elements)
+    Some(PluralElements {
+        other: read_value(value.get("other")?)?,
+        zero: read_optional(value.get("zero"))?,
+        one: read_optional(value.get("one"))?,
+        two: read_optional(value.get("two"))?,
+        few: read_optional(value.get("few"))?,
+        many: read_optional(value.get("many"))?,
+        explicit_zero: read_optional(value.get("explicit_zero"))?,
+        explicit_one: read_optional(value.get("explicit_one"))?,
+    })
 }
 
 // A value that may be absent or null.

@@ -1,11 +1,10 @@
 //! Clones of elements.
 
-ghost use Rattle.std.specs.Prelude.{◌≡◌, IfOk, OnOk, IsOk, None};
+ghost use Rattle.std.specs.Prelude.{◌≡◌, IfOk, IsOk};
 ghost use Rattle.icu_plurals.specs.Elements.{AreClones};
 ghost use Rattle.plural_base.specs.FiveRules.{Paired};
 
 use super::PluralElements;
-use super::places::only_other;
 use std::alloc::AllocError;
 
 impl<T: Clone> PluralElements<T> {
@@ -38,28 +37,27 @@ impl<T: Clone> PluralElements<T> {
         ensures same { ((x : T) (y : T) → T.is_clone x y → y ≡ x) → IfOk result (λ e. e ≡ self.now) }
         ensures succeeds { ((x : T) → T.is_infallible x) → IsOk result }
     {
-        let other = self.other.clone()?;
-        let mut clones = only_other!(other);
-        put_clone(&mut clones.zero, &self.zero)?;
-        put_clone(&mut clones.one, &self.one)?;
-        put_clone(&mut clones.two, &self.two)?;
-        put_clone(&mut clones.few, &self.few)?;
-        put_clone(&mut clones.many, &self.many)?;
-        put_clone(&mut clones.explicit_zero, &self.explicit_zero)?;
-        put_clone(&mut clones.explicit_one, &self.explicit_one)?;
-        Ok(clones)
+        Ok(PluralElements {
+            other: self.other.clone()?,
+            zero: cloned(&self.zero)?,
+            one: cloned(&self.one)?,
+            two: cloned(&self.two)?,
+            few: cloned(&self.few)?,
+            many: cloned(&self.many)?,
+            explicit_zero: cloned(&self.explicit_zero)?,
+            explicit_one: cloned(&self.explicit_one)?,
+        })
     }
 }
 
-// Puts a clone of the value into a place, if it is present; else the place stays as it is.
-fn put_clone<T: Clone>(place: &mut Option<T>, value: &Option<T>) -> Result<(), AllocError>
-    requires { place.old ≡ None }
-    ensures clone { OnOk result (Paired T.is_clone value.now place.new) }
-    ensures same { ((x : T) (y : T) → T.is_clone x y → y ≡ x) → OnOk result (place.new ≡ value.now) }
+// A clone of the value, if present.
+fn cloned<T: Clone>(place: &Option<T>) -> Result<Option<T>, AllocError>
+    ensures clone { IfOk result (λ s. Paired T.is_clone place.now s) }
+    ensures same { ((x : T) (y : T) → T.is_clone x y → y ≡ x) → IfOk result (λ s. s ≡ place.now) }
     ensures succeeds { ((x : T) → T.is_infallible x) → IsOk result }
 {
-    if let Some(value) = value {
-        *place = Some(value.clone()?);
+    match place {
+        Some(value) => Ok(Some(value.clone()?)),
+        None => Ok(None),
     }
-    Ok(())
 }
