@@ -9,14 +9,16 @@ use std::fs;
 
 // CLDR's rules of Russian. Its ordinal numbers have one form.
 const ONE: &str = "v = 0 and i % 10 = 1 and i % 100 != 11";
+
 const FEW: &str = "v = 0 and i % 10 = 2..4 and i % 100 != 12..14";
+
 const MANY: &str = "v = 0 and i % 10 = 0 or v = 0 and i % 10 = 5..9 or v = 0 and i % 100 = 11..14";
 
 fn main(rt: HostRuntime) -> anyhow::Result<()> {
     let bytes = fs::read(&rt, "ru.catalog")?;
     let catalog = MessageCatalog::parse_bytes(&bytes)?;
-    let data =
-        PluralRulesData::from_texts(rt.alloc(), None, Some(ONE), None, Some(FEW), Some(MANY))?;
+    let (one, few, many) = (Some(ONE), Some(FEW), Some(MANY));
+    let data = PluralRulesData::from_texts(rt.alloc(), None, one, None, few, many)?;
     let cardinal = &PluralRules::from_data(data);
     let ordinal = &PluralRules::from_data(PluralRulesData::default());
     print_page(&rt, &catalog, &Rules { cardinal, ordinal })
