@@ -29,22 +29,28 @@ fn print_page(
     catalog: &MessageCatalog<'_>,
     rules: &Rules<'_, '_>,
 ) -> anyhow::Result<()> {
-    let page: [(&str, &[Argument<'_>]); 10] = [
-        ("title", &[]),
-        ("greeting", &[text("name", "Анна")]),
-        ("cart", &[number("n", "21")]),
-        ("weight", &[number("n", "1.5")]),
-        ("days", &[number("n", "3")]),
-        ("discount", &[number("percent", "10")]),
-        ("guests", &[number("n", "6")]),
-        ("sent", &[text("who", "female"), number("n", "2")]),
-        ("place", &[number("n", "3")]),
-        ("footer", &[]),
-    ];
-    for (key, arguments) in page {
-        let said = catalog.say(rt.alloc(), key.as_bytes(), arguments, rules)?;
-        println!(rt; "{}", std::str::from_utf8(&said)?)?;
-    }
+    print_message(rt, catalog, rules, "title", &[])?;
+    print_message(rt, catalog, rules, "greeting", &[text("name", "Анна")])?;
+    print_message(rt, catalog, rules, "cart", &[number("n", "21")])?;
+    print_message(rt, catalog, rules, "weight", &[number("n", "1.5")])?;
+    print_message(rt, catalog, rules, "days", &[number("n", "3")])?;
+    print_message(rt, catalog, rules, "discount", &[number("percent", "10")])?;
+    print_message(rt, catalog, rules, "guests", &[number("n", "6")])?;
+    let sent = [text("who", "female"), number("n", "2")];
+    print_message(rt, catalog, rules, "sent", &sent)?;
+    print_message(rt, catalog, rules, "place", &[number("n", "3")])?;
+    print_message(rt, catalog, rules, "footer", &[])
+}
+
+fn print_message(
+    rt: &HostRuntime,
+    catalog: &MessageCatalog<'_>,
+    rules: &Rules<'_, '_>,
+    key: &str,
+    arguments: &[Argument<'_>],
+) -> anyhow::Result<()> {
+    let said = catalog.say(rt.alloc(), key.as_bytes(), arguments, rules)?;
+    println!(rt; "{}", std::str::from_utf8(&said)?)?;
     Ok(())
 }
 
