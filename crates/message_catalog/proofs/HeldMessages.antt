@@ -1,5 +1,6 @@
 -- Entries, and the messages that they hold.
-use Rattle.std.proofs.Common.{◌≡◌, ◌∙◌, ◌⊎◌, ℕ, zero, suc, List, [], ◌∷◌, refl, ap, subst, sym, inl, inr, true, false, Bool, Some, None, ◌↔◌}
+use Rattle.std.proofs.Common.{◌≡◌, ◌∙◌, ◌⊎◌, ℕ, zero, suc, List, [], ◌∷◌, refl, ap, subst, sym, inl, inr, true, false, Bool, Some, None}
+use Rattle.std.proofs.Common.{◌↔◌}
 use Rattle.std.specs.Prelude.{Option, bytes_eq, option_map, slice_get, if◌then◌else◌}
 use Rattle.std.proofs.lemmas.Option.{slice_get-map}
 use Rattle.message_pattern.specs.PatternParts.{Part}
@@ -26,7 +27,8 @@ messages_again law [] [] h = refl
 messages_again law [] (message ∷ messages) h = absurd h
 messages_again law (entry ∷ entries) [] h = absurd h
 messages_again law (entry ∷ entries) (message ∷ messages) h =
-    ap (λ x. x ∷ messages_in entries) (message_again law entry message h.0) ∙ ap (λ xs. message ∷ xs) (messages_again law entries messages h.1)
+    ap (λ x. x ∷ messages_in entries) (message_again law entry message h.0)
+    ∙ ap (λ xs. message ∷ xs) (messages_again law entries messages h.1)
 
 -- the block of some parts is a packed pattern
 pub is_pattern_block : BlocksAgain → (parts : List Part) (value : List ℕ) → PatternBlock parts value → IsPatternBlock value
@@ -54,10 +56,12 @@ parts_chosen true value rest other h = refl
 parts_chosen false value rest other h = h
 
 -- the parts under a key are those of the value under it
-pub parts_under-messages_in : (key : List ℕ) (entries : List Entry) → parts_under key (messages_in entries) ≡ option_map parts_in (value_under key entries)
+pub parts_under-messages_in : (key : List ℕ) (entries : List Entry) → parts_under key (messages_in entries)
+    ≡ option_map parts_in (value_under key entries)
 parts_under-messages_in key [] = refl
 parts_under-messages_in key (entry ∷ entries) =
-    parts_chosen (bytes_eq entry.key key) entry.value (parts_under key (messages_in entries)) (value_under key entries) (parts_under-messages_in key entries)
+    parts_chosen (bytes_eq entry.key key) entry.value (parts_under key (messages_in entries)) (value_under key entries)
+    (parts_under-messages_in key entries)
 
 -- what is chosen is the one, or comes of the rest
 chosen : (b : Bool) (first value : List ℕ) (rest : Option (List ℕ)) → (if b then Some first else rest) ≡ Some value
@@ -76,7 +80,8 @@ value_under_is key (entry ∷ entries) value h found =
     ]
 
 -- the key of a message that is read
-read_key : (entry : Option Entry) → option_map (λ (message : Message). message.key) (option_map message_in entry) ≡ option_map (λ (e : Entry). e.key) entry
+read_key : (entry : Option Entry) → option_map (λ (message : Message). message.key) (option_map message_in entry)
+    ≡ option_map (λ (e : Entry). e.key) entry
 read_key None = refl
 read_key (Some entry) = refl
 

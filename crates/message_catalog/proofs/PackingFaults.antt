@@ -1,5 +1,6 @@
 -- Why messages aren't packed: one fault at most, out of memory aside.
-use Rattle.std.proofs.Common.{◌≡◌, ◌∙◌, ◌↔◌, ◌⊎◌, ◌++◌, ◌+◌, ◌<◌, ◌≤◌, ◌^◌, ℕ, suc, List, [], ◌∷◌, drop, length, get_or, ap, subst, sym, refl, arith, inl, inr, Some, None, Result}
+use Rattle.std.proofs.Common.{◌≡◌, ◌∙◌, ◌↔◌, ◌⊎◌, ◌++◌, ◌+◌, ◌<◌, ◌≤◌, ◌^◌, ℕ, suc, List, [], ◌∷◌, drop, length, get_or, ap, subst, sym}
+use Rattle.std.proofs.Common.{refl, arith, inl, inr, Some, None, Result}
 use Rattle.std.proofs.lemmas.Bool.{cases_lt}
 use Rattle.std.proofs.lemmas.Option.{slice_get-get_or, slice_get-map}
 use Rattle.std.specs.Prelude.{Err, IsTrue, option_map, slice_get}
@@ -24,7 +25,9 @@ use Rattle.message_catalog.specs.declared.error.TextFault.{TextFault}
 use Rattle.message_catalog.specs.declared.error.TextFault.TheVariants as text
 use Rattle.message_catalog.specs.declared.error.PackMessagesError.{PackMessagesError}
 use Rattle.message_catalog.specs.declared.error.PackMessagesError.TheVariants as packing
-use Rattle.message_catalog.specs.MessagePacking.{ArePacked, AreWithoutFault, HasEntriesFault, HasPackingFault, HasTextFault, HaveNoFault, IsErrUnlessMemory, IsPackedText, IsUnpackable, KeyedText, TellsFault, text_view, texts_view}
+use Rattle.message_catalog.specs.MessagePacking.{ArePacked, AreWithoutFault, HasEntriesFault, HasPackingFault, HasTextFault, HaveNoFault}
+use Rattle.message_catalog.specs.MessagePacking.{IsErrUnlessMemory, IsPackedText, IsUnpackable, KeyedText, TellsFault, text_view}
+use Rattle.message_catalog.specs.MessagePacking.{texts_view}
 use Rattle.message_catalog.specs.Inner.PackedViews.{IsThis, TellsFirst, TellsText, catalog_error, packed_view, parts_error, text_error}
 use Rattle.message_catalog.specs.declared.packing.PackedMessage.{PackedMessage}
 use Rattle.message_catalog.specs.declared.text.MessageText.{MessageText}
@@ -39,7 +42,8 @@ one_text_fault law bytes kind place h (text.Text k p) g = let same = (law _ byte
 one_text_fault law bytes kind place h (text.Pattern error) g = absurd ((law _ bytes).1 g.0 kind place g.1 h)
 
 -- a pattern has the faults of its parts alone
-pub parts_fault : AreReadOneWay → (bytes : List ℕ) (ps : List Part) → IsPattern bytes ps → (P : Type 0) → ((error : PackPatternError) → IsUnpackable ps error → P)
+pub parts_fault : AreReadOneWay → (bytes : List ℕ) (ps : List Part) → IsPattern bytes ps → (P : Type 0)
+    → ((error : PackPatternError) → IsUnpackable ps error → P)
     → (fault : TextFault) → HasTextFault bytes fault → P
 parts_fault law bytes ps h P told (text.Text k p) g = absurd ((law _ bytes).1 ps k p h g)
 parts_fault law bytes ps h P told (text.Pattern error) g =
@@ -48,7 +52,8 @@ parts_fault law bytes ps h P told (text.Pattern error) g =
 
 -- the same fault
 pub one_parts_fault : AreReadOneWay → (bytes : List ℕ) (ps : List Part) → IsPattern bytes ps → (found : PackPatternError)
-    → ((error : PackPatternError) → IsUnpackable ps error → found ≡ error) → (fault : TextFault) → HasTextFault bytes fault → text.Pattern found ≡ fault
+    → ((error : PackPatternError) → IsUnpackable ps error → found ≡ error) → (fault : TextFault) → HasTextFault bytes fault
+    → text.Pattern found ≡ fault
 one_parts_fault law bytes ps h found told (text.Text k p) g = absurd ((law _ bytes).1 ps k p h g)
 one_parts_fault law bytes ps h found told (text.Pattern error) g =
     let same : g.0 ≡ ps = (law _ bytes).0 g.0 ps g.1 h in
@@ -61,7 +66,8 @@ pub record TellsParts {A : Type 0} (r : Result A PackPatternError) (ps : List Pa
   pub order : (place : ℕ) → (r ≡ Err (parts.Order place))
       ↔ ((length ps ≤ 65535) × (first_unpackable 0 ps ≡ None) × (first_misplaced 0 before_all ps ≡ Some place))
   pub start_limit : (r ≡ Err parts.StartLimit)
-      ↔ ((length ps ≤ 65535) × (first_unpackable 0 ps ≡ None) × (first_misplaced 0 before_all ps ≡ None) × IsTrue (has_high_start (items_of ps)))
+      ↔ ((length ps ≤ 65535) × (first_unpackable 0 ps ≡ None) × (first_misplaced 0 before_all ps ≡ None)
+      × IsTrue (has_high_start (items_of ps)))
 
 pub parts_refused : {A : Type 0} → (r : Result A PackPatternError) (ps : List Part) → TellsParts r ps
     → (error : PackPatternError) → r ≡ Err error → (error ≡ parts.Memory) ⊎ IsUnpackable ps error
@@ -86,12 +92,14 @@ text_told index bytes reading.Memory h = inl refl
 
 pub text_exact : AreReadOneWay → (index : ℕ) (bytes : List ℕ) (error : PatternError) → IsFaultOf bytes error
     → (fault : TextFault) → HasTextFault bytes fault → IsThis (text_error index error) (packing.Message index fault)
-text_exact law index bytes (reading.Fault kind place) h fault g = inl (ap (packing.Message index) (one_text_fault law bytes kind place h fault g))
+text_exact law index bytes (reading.Fault kind place) h fault g =
+    inl (ap (packing.Message index) (one_text_fault law bytes kind place h fault g))
 text_exact law index bytes reading.Memory h fault g = inr refl
 
 -- the error of a pattern that isn't packed
 unpackable_told : (index : ℕ) (bytes : List ℕ) (ps : List Part) (error : PackPatternError) → IsPattern bytes ps
-    → (error ≡ parts.Memory → ⊥) → (error ≡ parts.Memory) ⊎ IsUnpackable ps error → TellsText index bytes (packing.Message index (text.Pattern error))
+    → (error ≡ parts.Memory → ⊥) → (error ≡ parts.Memory) ⊎ IsUnpackable ps error
+    → TellsText index bytes (packing.Message index (text.Pattern error))
 unpackable_told index bytes ps error read other (inl h) = absurd (other h)
 unpackable_told index bytes ps error read other (inr h) = inr (text.Pattern error, refl, (ps, read, h))
 
@@ -106,10 +114,14 @@ parts_told index bytes ps parts.Memory read h = inl refl
 pub parts_are_exact : AreReadOneWay → (index : ℕ) (bytes : List ℕ) (ps : List Part) (error : PackPatternError) → IsPattern bytes ps
     → ((e : PackPatternError) → IsUnpackable ps e → error ≡ e) → (fault : TextFault) → HasTextFault bytes fault
     → IsThis (parts_error index error) (packing.Message index fault)
-parts_are_exact law index bytes ps parts.CountLimit read told fault h = inl (ap (packing.Message index) (one_parts_fault law bytes ps read parts.CountLimit told fault h))
-parts_are_exact law index bytes ps (parts.Part place) read told fault h = inl (ap (packing.Message index) (one_parts_fault law bytes ps read (parts.Part place) told fault h))
-parts_are_exact law index bytes ps (parts.Order place) read told fault h = inl (ap (packing.Message index) (one_parts_fault law bytes ps read (parts.Order place) told fault h))
-parts_are_exact law index bytes ps parts.StartLimit read told fault h = inl (ap (packing.Message index) (one_parts_fault law bytes ps read parts.StartLimit told fault h))
+parts_are_exact law index bytes ps parts.CountLimit read told fault h =
+    inl (ap (packing.Message index) (one_parts_fault law bytes ps read parts.CountLimit told fault h))
+parts_are_exact law index bytes ps (parts.Part place) read told fault h =
+    inl (ap (packing.Message index) (one_parts_fault law bytes ps read (parts.Part place) told fault h))
+parts_are_exact law index bytes ps (parts.Order place) read told fault h =
+    inl (ap (packing.Message index) (one_parts_fault law bytes ps read (parts.Order place) told fault h))
+parts_are_exact law index bytes ps parts.StartLimit read told fault h =
+    inl (ap (packing.Message index) (one_parts_fault law bytes ps read parts.StartLimit told fault h))
 parts_are_exact law index bytes ps parts.Memory read told fault h = inr refl
 
 -- ---- entries
@@ -154,7 +166,8 @@ to_result error other (inl h) = inl (ap Err h)
 to_result error other (inr h) = inr (ap Err h)
 
 -- behind texts without a fault it is the first one
-pub message_refused : (texts : List KeyedText) (index : ℕ) (keyed : KeyedText) (error : PackMessagesError) → slice_get texts index ≡ Some keyed
+pub message_refused : (texts : List KeyedText) (index : ℕ) (keyed : KeyedText) (error : PackMessagesError)
+    → slice_get texts index ≡ Some keyed
     → HaveNoFault texts (λ k. k < index) → TellsText index keyed.text error → TellsFirst texts error
 message_refused texts index keyed error there good (inl h) = inl h
 message_refused texts index keyed error there good (inr h) =
@@ -172,7 +185,8 @@ no_text index bytes error other none (inl h) = inr h
 no_text index bytes error other none (inr h) = absurd (none h.0 h.2)
 
 -- each other fault of the messages is this one
-pub message_exact : (texts : List KeyedText) (index : ℕ) (keyed : KeyedText) (error : PackMessagesError) → slice_get texts index ≡ Some keyed
+pub message_exact : (texts : List KeyedText) (index : ℕ) (keyed : KeyedText) (error : PackMessagesError)
+    → slice_get texts index ≡ Some keyed
     → HaveNoFault texts (λ k. k < index) → TellsText index keyed.text error
     → ((fault : TextFault) → HasTextFault keyed.text fault → IsThis error (packing.Message index fault))
     → (other : PackMessagesError) → HasPackingFault texts other → IsThis error other
@@ -193,7 +207,8 @@ message_exact texts index keyed error there good told exact (packing.Catalog e) 
 message_exact texts index keyed error there good told exact packing.Memory h = absurd h
 
 -- texts without a fault, whose entries have none, have none
-pub packed_exact : (texts : List KeyedText) (entries : List Entry) → AreWithoutFault texts → ((others : List Entry) → ArePacked texts others → others ≡ entries)
+pub packed_exact : (texts : List KeyedText) (entries : List Entry) → AreWithoutFault texts
+    → ((others : List Entry) → ArePacked texts others → others ≡ entries)
     → (P : PackMessagesError → Type 0) → ((error : PackCatalogError) → HasEntriesFault entries error → P (packing.Catalog error))
     → (other : PackMessagesError) → HasPackingFault texts other → P other
 packed_exact texts entries good one P told (packing.Message i fault) h = absurd (good i h.keyed tt h.there fault h.has)
@@ -202,12 +217,14 @@ packed_exact texts entries good one P told (packing.Catalog e) h =
 packed_exact texts entries good one P told packing.Memory h = absurd h
 
 -- the error of entries that aren't packed
-pub catalog_told : (texts : List KeyedText) (entries : List Entry) (error : PackCatalogError) → AreWithoutFault texts → ArePacked texts entries
+pub catalog_told : (texts : List KeyedText) (entries : List Entry) (error : PackCatalogError)
+    → AreWithoutFault texts → ArePacked texts entries
     → (error ≡ catalog.Memory) ⊎ HasEntriesFault entries error → TellsFault texts (catalog_error error)
 catalog_told texts entries catalog.TooMany good packed (inl h) = absurd cc
 catalog_told texts entries catalog.TooMany good packed (inr h) = inr (record { good = good; entries = entries; packed = packed; fault = h })
 catalog_told texts entries (catalog.Order index) good packed (inl h) = absurd cc
-catalog_told texts entries (catalog.Order index) good packed (inr h) = inr (record { good = good; entries = entries; packed = packed; fault = h })
+catalog_told texts entries (catalog.Order index) good packed (inr h) =
+    inr (record { good = good; entries = entries; packed = packed; fault = h })
 catalog_told texts entries catalog.TooLong good packed (inl h) = absurd cc
 catalog_told texts entries catalog.TooLong good packed (inr h) = inr (record { good = good; entries = entries; packed = packed; fault = h })
 catalog_told texts entries catalog.Memory good packed h = inl refl
@@ -226,13 +243,15 @@ pub text_there : (messages : List MessageText) (k : ℕ) (d : MessageText) → k
 text_there messages k d l = slice_get-map text_view messages k ∙ ap (option_map text_view) (slice_get-get_or messages k d l)
 
 -- one text more has no fault
-pub good_more : (messages : List MessageText) (k : ℕ) (d : MessageText) → k < length messages → HaveNoFault (texts_view messages) (λ i. i < k)
+pub good_more : (messages : List MessageText) (k : ℕ) (d : MessageText) → k < length messages
+    → HaveNoFault (texts_view messages) (λ i. i < k)
     → ((fault : TextFault) → HasTextFault (get_or messages k d).text.now fault → ⊥) → HaveNoFault (texts_view messages) (λ i. i < k + 1)
 good_more messages k d l good none i keyed within there fault h = elim (cases_lt i k) [
   | inl before ↦ good i keyed before there fault h
   | inr after ↦
       let place : i ≡ k = omega arith in
-      let both : Some (text_view (get_or messages k d)) ≡ Some keyed = sym (text_there messages k d l) ∙ ap (slice_get (texts_view messages)) (sym place) ∙ there in
+      let both : Some (text_view (get_or messages k d)) ≡ Some keyed =
+      sym (text_there messages k d l) ∙ ap (slice_get (texts_view messages)) (sym place) ∙ there in
       let same : text_view (get_or messages k d) ≡ keyed = cc in
       none fault (subst (λ (t : KeyedText). HasTextFault t.text fault) (sym same) h)
 ]
@@ -243,7 +262,8 @@ packed_push : (old : List PackedMessage) (x : PackedMessage)
 packed_push [] x = refl
 packed_push (y ∷ old) x = ap (λ es. record { key = y.key.now; value = y.block.items } ∷ es) (packed_push old x)
 
-pub pushed : (messages : List MessageText) (k : ℕ) (d : MessageText) (old new : List PackedMessage) (x : PackedMessage) → k < length messages
+pub pushed : (messages : List MessageText) (k : ℕ) (d : MessageText) (old new : List PackedMessage)
+    (x : PackedMessage) → k < length messages
     → new ≡ old ++ x ∷ [] → IsPackedText (get_or messages k d).text.now x.block.items → x.key.now ≡ (get_or messages k d).key.now
     → ((rest : List Entry) → ArePacked (drop k (texts_view messages)) rest → ArePacked (texts_view messages) (packed_view old ++ rest))
     → (rest : List Entry) → ArePacked (drop (k + 1) (texts_view messages)) rest → ArePacked (texts_view messages) (packed_view new ++ rest)

@@ -52,7 +52,8 @@ same_messages read (t ∷ texts) (m ∷ ms) [] h g = absurd g
 same_messages read (t ∷ texts) (m ∷ ms) (n ∷ ns) h g =
     ap (λ x. x ∷ ms) (same_message read t m n h.0 g.0) ∙ ap (λ xs. n ∷ xs) (same_messages read texts ms ns h.1 g.1)
 
-pub packed_once : AreReadOneWay → HaveOneBlock → (texts : List KeyedText) (es fs : List Entry) → ArePacked texts es → ArePacked texts fs → es ≡ fs
+pub packed_once : AreReadOneWay → HaveOneBlock → (texts : List KeyedText) (es fs : List Entry) → ArePacked texts es
+    → ArePacked texts fs → es ≡ fs
 packed_once read law texts es fs p q =
     let same = same_messages read texts q.messages p.messages q.read p.read in
     same_entries law p.messages es fs p.held (subst (λ (ms : List Message). HoldMessages fs ms) same q.held)
@@ -69,7 +70,8 @@ texts_step texts index keyed h =
     drop_more texts index keyed l ∙ ap (λ x. x ∷ drop (index + 1) texts) same
 
 -- what the remaining texts are packed as stands behind one text more
-pub behind_more : (texts : List KeyedText) (index : ℕ) (keyed : KeyedText) (value : List ℕ) (done : List Entry) → slice_get texts index ≡ Some keyed
+pub behind_more : (texts : List KeyedText) (index : ℕ) (keyed : KeyedText) (value : List ℕ) (done : List Entry)
+    → slice_get texts index ≡ Some keyed
     → IsPackedText keyed.text value → ((rest : List Entry) → ArePacked (drop index texts) rest → ArePacked texts (done ++ rest))
     → (rest : List Entry) → ArePacked (drop (index + 1) texts) rest
     → ArePacked texts ((done ++ record { key = keyed.key; value = value } ∷ []) ++ rest)
@@ -83,4 +85,5 @@ behind_more texts index keyed value done there one behind rest h =
 pub behind_all : (texts : List KeyedText) (index : ℕ) (done : List Entry) → length texts ≤ index
     → ((rest : List Entry) → ArePacked (drop index texts) rest → ArePacked texts (done ++ rest)) → ArePacked texts done
 behind_all texts index done l behind =
-    subst (λ (es : List Entry). ArePacked texts es) (append-nil done) (behind [] (none_packed (drop index texts) (drop_of_length-le texts l)))
+    subst (λ (es : List Entry). ArePacked texts es) (append-nil done)
+    (behind [] (none_packed (drop index texts) (drop_of_length-le texts l)))

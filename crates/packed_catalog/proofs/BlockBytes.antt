@@ -1,5 +1,6 @@
 -- A block encodes the entries that are read from it.
-use Rattle.std.proofs.Common.{◌≡◌, ℕ, zero, suc, ◌+◌, ◌-◌, ◌*◌, ◌<◌, ◌≤◌, ◌^◌, List, [], ◌∷◌, ◌++◌, length, drop, take, get_or, refl, sym, ap, ◌∙◌, arith, length-drop, lit<, subst}
+use Rattle.std.proofs.Common.{◌≡◌, ℕ, zero, suc, ◌+◌, ◌-◌, ◌*◌, ◌<◌, ◌≤◌, ◌^◌, List, [], ◌∷◌, ◌++◌, length, drop, take, get_or, refl, sym}
+use Rattle.std.proofs.Common.{ap, ◌∙◌, arith, length-drop, lit<, subst}
 use Rattle.std.proofs.lemmas.Cmp.{nat_list_cmp_total}
 use Rattle.std.proofs.lemmas.List.{drop_all, drop-drop, length-map, length-take-le, take-append-drop}
 use Rattle.std.proofs.lemmas.List.Folds.{drop_split}
@@ -35,7 +36,8 @@ pub starts_within : (bytes : List ℕ) → HasGoodEnds bytes → (k : ℕ) → k
 starts_within bytes h k l =
     let n = 2 * count_in bytes in
     let e : k + (n - k) ≡ n = omega arith in
-    subst (λ m. start_of bytes k ≤ m) h.data_is.whole (subst (λ m. start_of bytes k ≤ start_of bytes m) e (rises-on bytes h k (n - k) (omega arith)))
+    subst (λ m. start_of bytes k ≤ m) h.data_is.whole
+    (subst (λ m. start_of bytes k ≤ start_of bytes m) e (rises-on bytes h k (n - k) (omega arith)))
 
 -- a piece ends where the next one starts
 length-piece_in : (bytes : List ℕ) → HasGoodEnds bytes → (k : ℕ) → k < 2 * count_in bytes

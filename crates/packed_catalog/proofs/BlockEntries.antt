@@ -37,7 +37,8 @@ pub length-entries_in : (bytes : List ℕ) → length (entries_in bytes) ≡ cou
 unfolding entries_in
 length-entries_in bytes = length-entries_from bytes 0 (count_in bytes)
 
-slice_get-entries_from : (bytes : List ℕ) (index n k : ℕ) → k < n → slice_get (entries_from bytes index n) k ≡ Some (entry_in bytes (index + k))
+slice_get-entries_from : (bytes : List ℕ) (index n k : ℕ) → k < n → slice_get (entries_from bytes index n) k
+    ≡ Some (entry_in bytes (index + k))
 slice_get-entries_from bytes index zero k h = absurd (omega arith)
 slice_get-entries_from bytes index (suc n) zero h = ap (λ i. Some (entry_in bytes i)) (omega arith)
 slice_get-entries_from bytes index (suc n) (suc k) h =

@@ -1,5 +1,6 @@
 -- Entries that are written, one after the other.
-use Rattle.std.proofs.Common.{◌≡◌, ℕ, ◌+◌, ◌<◌, ◌^◌, List, ◌∷◌, ◌++◌, length, drop, get_or, refl, sym, ap, ◌∙◌, arith, add-one, append_assoc, drop-cons, length-append}
+use Rattle.std.proofs.Common.{◌≡◌, ℕ, ◌+◌, ◌<◌, ◌^◌, List, ◌∷◌, ◌++◌, length, drop, get_or, refl, sym, ap, ◌∙◌, arith, add-one}
+use Rattle.std.proofs.Common.{append_assoc, drop-cons, length-append}
 use Rattle.std.specs.List.{concat}
 use Rattle.std.specs.Prelude.{flat_map}
 use Rattle.packed_catalog.specs.declared.entry.CatalogEntry.{CatalogEntry}

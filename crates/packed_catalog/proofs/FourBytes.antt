@@ -32,7 +32,8 @@ pub drop-four : (bytes : List ℕ) (place : ℕ) → place + 4 ≤ length bytes
     → drop place bytes ≡ get_or bytes place 0 ∷ get_or bytes (place + 1) 0 ∷ get_or bytes (place + 2) 0 ∷ get_or bytes (place + 3) 0
     ∷ drop (place + 4) bytes
 drop-four bytes place h =
-    let e : (n m k : ℕ) → n + m ≡ k → drop (place + n + m) bytes ≡ drop (place + k) bytes = λ n m k g. ap (λ p. drop p bytes) (omega (arith, g)) in
+    let e : (n m k : ℕ) → n + m ≡ k → drop (place + n + m) bytes ≡ drop (place + k) bytes =
+    λ n m k g. ap (λ p. drop p bytes) (omega (arith, g)) in
     let one = drop_more bytes place 0 (omega arith) in
     let two = drop_more bytes (place + 1) 0 (omega arith) in
     let three = drop_more bytes (place + 2) 0 (omega arith) in
@@ -40,7 +41,8 @@ drop-four bytes place h =
     rw (one, two, e 1 1 2 refl, three, e 2 1 3 refl, four, e 3 1 4 refl) refl
 
 -- the number that is spelled at a place
-pub number_spelled : (bytes : List ℕ) (place n : ℕ) (rest : List ℕ) → drop place bytes ≡ four_bytes n ++ rest → four_byte_number bytes place ≡ n
+pub number_spelled : (bytes : List ℕ) (place n : ℕ) (rest : List ℕ) → drop place bytes ≡ four_bytes n ++ rest
+    → four_byte_number bytes place ≡ n
 number_spelled bytes place n rest h =
     let at : (i : ℕ) → get_or bytes (place + i) 0 ≡ get_or (four_bytes n ++ rest) i 0 =
     λ i. sym (get_or-drop place bytes i 0) ∙ ap (λ (l : List ℕ). get_or l i 0) h in

@@ -1,5 +1,6 @@
 -- The place of a key among sorted keys, and the value under it.
-use Rattle.std.proofs.Common.{◌≡◌, ℕ, zero, suc, ◌*◌, ◌-◌, ◌<◌, ◌≤◌, List, [], ◌∷◌, length, get_or, refl, sym, ap, ◌∙◌, arith, inl, inr, subst, Some, None, true, false}
+use Rattle.std.proofs.Common.{◌≡◌, ℕ, zero, suc, ◌*◌, ◌-◌, ◌<◌, ◌≤◌, List, [], ◌∷◌, length, get_or, refl, sym, ap, ◌∙◌, arith, inl, inr}
+use Rattle.std.proofs.Common.{subst, Some, None, true, false}
 use Rattle.std.proofs.lemmas.Bool.{cases_lt}
 use Rattle.std.proofs.lemmas.Cmp.{nat_list_cmp_total, tied_itself}
 use Rattle.std.proofs.lemmas.List.{length-map}
@@ -42,8 +43,10 @@ above_on bytes key h m high k u l less = elim (cases_lt m k) [
 ]
 
 -- a key between two others that share a front with a key shares it too, of the smaller length
-pub shares_inside : (bytes key : List ℕ) → IsBlock bytes → (low high m c d e : ℕ) → e ≤ c → e ≤ d → low ≤ m → m < high → high ≤ count_in bytes
-    → (low ≡ 0 → c ≡ 0) → (high ≡ count_in bytes → d ≡ 0) → SharesFront c (key_in bytes (low - 1)) key → SharesFront d (key_in bytes high) key
+pub shares_inside : (bytes key : List ℕ) → IsBlock bytes → (low high m c d e : ℕ) → e ≤ c → e ≤ d → low ≤ m
+    → m < high → high ≤ count_in bytes
+    → (low ≡ 0 → c ≡ 0) → (high ≡ count_in bytes → d ≡ 0) → SharesFront c (key_in bytes (low - 1)) key
+    → SharesFront d (key_in bytes high) key
     → SharesFront e (key_in bytes m) key
 shares_inside bytes key h low high m c d e ec ed lm mh hn low_none high_none p q = elim (cases_lt 0 low) [
   | inl some ↦ elim (cases_lt high (count_in bytes)) [
@@ -103,7 +106,8 @@ value_none key (first ∷ entries) h =
     rw (apart first.key key (h 0 (omega arith))) (value_none key entries (λ k l. h (suc k) (omega arith)))
 
 -- the value at the place of a key that is there
-pub found_at : (bytes key : List ℕ) (index : ℕ) → index < count_in bytes → ((k : ℕ) → k < index → slice_cmp nat_cmp (key_in bytes k) key ≡ Less)
+pub found_at : (bytes key : List ℕ) (index : ℕ) → index < count_in bytes
+    → ((k : ℕ) → k < index → slice_cmp nat_cmp (key_in bytes k) key ≡ Less)
     → key_in bytes index ≡ key → value_under key (entries_in bytes) ≡ Some (piece_in bytes (suc (2 * index)))
 found_at bytes key index l below same =
     value_found key (entries_in bytes) index (entry_in bytes index) (slice_get-entries_in bytes index l) same

@@ -1,5 +1,6 @@
 -- What bytes encode is what is read from them.
-use Rattle.std.proofs.Common.{◌≡◌, ℕ, zero, suc, ◌+◌, ◌-◌, ◌*◌, ◌<◌, ◌≤◌, List, [], ◌∷◌, ◌++◌, length, drop, take, refl, sym, ap, ◌∙◌, arith, length-append, subst, ◌↔◌}
+use Rattle.std.proofs.Common.{◌≡◌, ℕ, zero, suc, ◌+◌, ◌-◌, ◌*◌, ◌<◌, ◌≤◌, List, [], ◌∷◌, ◌++◌, length, drop, take, refl, sym, ap, ◌∙◌}
+use Rattle.std.proofs.Common.{arith, length-append, subst, ◌↔◌}
 use Rattle.std.proofs.lemmas.List.{drop-drop, drop_at, length-map, take_at}
 use Rattle.std.proofs.lemmas.Map.Keys.{Less-from_sorted}
 use Rattle.std.specs.Cmp.Lexicographic.{slice_cmp}
@@ -25,14 +26,16 @@ next_start bytes rest k p ps h =
     number_spelled bytes (4 * suc k) end (flat_map four_bytes (ends_from end ps) ++ rest) h.ends
 
 -- and those after it are encoded from there on
-next_encodes : (bytes rest : List ℕ) (k : ℕ) (p : List ℕ) (ps : List (List ℕ)) → EncodesFrom bytes rest k (p ∷ ps) → EncodesFrom bytes rest (suc k) ps
+next_encodes : (bytes rest : List ℕ) (k : ℕ) (p : List ℕ) (ps : List (List ℕ)) → EncodesFrom bytes rest k (p ∷ ps)
+    → EncodesFrom bytes rest (suc k) ps
 next_encodes bytes rest k p ps h =
     let s = next_start bytes rest k p ps h in
     let n : 4 * suc (suc k) ≡ 4 * suc k + 4 = omega arith in
     record {
       ends = ap (λ j. drop j bytes) n ∙ sym (drop-drop 4 (4 * suc k) bytes) ∙ ap (drop 4) h.ends
           ∙ ap (λ end. flat_map four_bytes (ends_from end ps) ++ rest) (sym s);
-      content = ap (λ j. drop j (data_in bytes)) s ∙ sym (drop-drop (length p) (start_of bytes k) (data_in bytes)) ∙ ap (drop (length p)) h.content
+      content = ap (λ j. drop j (data_in bytes)) s ∙ sym (drop-drop (length p) (start_of bytes k) (data_in bytes))
+          ∙ ap (drop (length p)) h.content
           ∙ drop_at p (concat ps) (length p) refl;
     }
 
@@ -57,7 +60,8 @@ rises_encoded bytes rest k (p ∷ ps) h zero l =
     rw e (omega (arith, s))
 rises_encoded bytes rest k (p ∷ ps) h (suc j) l =
     let e : suc k + j ≡ k + suc j = omega arith in
-    subst (λ n. start_of bytes n ≤ start_of bytes (suc n)) e (rises_encoded bytes rest (suc k) ps (next_encodes bytes rest k p ps h) j (omega arith))
+    subst (λ n. start_of bytes n ≤ start_of bytes (suc n)) e
+    (rises_encoded bytes rest (suc k) ps (next_encodes bytes rest k p ps h) j (omega arith))
 
 -- the last of them ends where they all end
 whole_encoded : (bytes rest : List ℕ) (k : ℕ) (ps : List (List ℕ)) → EncodesFrom bytes rest k ps
@@ -105,7 +109,8 @@ holds entries bytes h =
     let n : ℕ = length entries in
     let c : count_in bytes ≡ n = number_spelled bytes 0 n (ends ++ concat ps) h in
     let behind : drop 4 bytes ≡ ends ++ concat ps = ap (drop 4) h in
-    let l : length ends ≡ 8 * n = omega (arith, length-flat_map_four_bytes (ends_from 0 ps), length-ends_from 0 ps, length-pieces_of entries) in
+    let l : length ends ≡ 8 * n = omega
+    (arith, length-flat_map_four_bytes (ends_from 0 ps), length-ends_from 0 ps, length-pieces_of entries) in
     let content : data_in bytes ≡ concat ps =
     ap (λ m. drop (4 + 8 * m) bytes) c ∙ sym (drop-drop (8 * n) 4 bytes) ∙ ap (drop (8 * n)) behind ∙ drop_at ends (concat ps) (8 * n) l in
     record {
@@ -121,7 +126,8 @@ entries_in_one entries bytes h =
     let g = holds entries bytes h in
     let n : 2 * count_in bytes ≡ length (pieces_of entries) = omega (arith, g.count, length-pieces_of entries) in
     same_entries (entries_in bytes) entries
-    (pieces_of-entries_in bytes ∙ ap (pieces_in bytes 0) n ∙ pieces_encoded bytes (concat (pieces_of entries)) 0 (pieces_of entries) g.pieces)
+    (pieces_of-entries_in bytes ∙ ap (pieces_in bytes 0) n
+    ∙ pieces_encoded bytes (concat (pieces_of entries)) 0 (pieces_of entries) g.pieces)
 
 -- bytes that encode a catalogue have no fault
 pub encoded_block : (entries : List Entry) (bytes : List ℕ) → CatalogBytes entries bytes → IsBlock bytes
@@ -151,7 +157,8 @@ encoded_block entries bytes h =
     }
 
 -- bytes of catalogues are the same if and only if the entries are
-pub one_catalog_for_bytes : (entries others : List Entry) (a b : List ℕ) → CatalogBytes entries a → CatalogBytes others b → (a ≡ b) ↔ (entries ≡ others)
+pub one_catalog_for_bytes : (entries others : List Entry) (a b : List ℕ) → CatalogBytes entries a → CatalogBytes others b
+    → (a ≡ b) ↔ (entries ≡ others)
 one_catalog_for_bytes entries others a b h g = (
   (λ e. sym (entries_in_one entries a h.spelled) ∙ ap entries_in e ∙ entries_in_one others b g.spelled),
   (λ e. h.spelled ∙ ap catalog_bytes e ∙ sym g.spelled),

@@ -1,5 +1,6 @@
 -- Lists that have their first numbers in common, and their order.
-use Rattle.std.proofs.Common.{◌≡◌, ℕ, zero, suc, ◌+◌, ◌<◌, ◌≤◌, List, [], ◌∷◌, length, drop, take, get_or, refl, sym, ap, ◌∙◌, arith, inl, inr, subst, min, ◌↔◌}
+use Rattle.std.proofs.Common.{◌≡◌, ℕ, zero, suc, ◌+◌, ◌<◌, ◌≤◌, List, [], ◌∷◌, length, drop, take, get_or, refl, sym, ap, ◌∙◌, arith, inl}
+use Rattle.std.proofs.Common.{inr, subst, min, ◌↔◌}
 use Rattle.std.proofs.lemmas.Bool.{cases_lt, lt-ltb, ltb-true}
 use Rattle.std.proofs.lemmas.Cmp.{by_ranked, nat_cmp_total, ranked, tied_itself}
 use Rattle.std.proofs.lemmas.List.{drop_all, drop_more, take-take, take_more}
@@ -15,7 +16,8 @@ pub shares_none : (a b : List ℕ) → SharesFront 0 a b
 shares_none a b = record { front = refl; in_first = omega arith; in_second = omega arith }
 
 -- one number more that is shared
-pub shares_more : (c : ℕ) (a b : List ℕ) → SharesFront c a b → c < length a → c < length b → get_or a c 0 ≡ get_or b c 0 → SharesFront (c + 1) a b
+pub shares_more : (c : ℕ) (a b : List ℕ) → SharesFront c a b → c < length a → c < length b → get_or a c 0
+    ≡ get_or b c 0 → SharesFront (c + 1) a b
 shares_more c a b h la lb same = record {
   front = rw (take_more a c 0 la, take_more b c 0 lb, h.front, same) refl;
   in_first = omega arith;

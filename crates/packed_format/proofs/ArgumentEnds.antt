@@ -1,5 +1,6 @@
 -- Behind the length of an argument stands its end, in parts that are in their order.
-use Rattle.std.proofs.Common.{◌≡◌, ◌∙◌, ◌+◌, ◌≤◌, ℕ, zero, suc, List, [], ◌∷◌, drop, length, refl, sym, ap, subst, add-one, arith, nat_lt, nat_eq, Bool, true, false, ◌&&◌, not, Option, Some, None}
+use Rattle.std.proofs.Common.{◌≡◌, ◌∙◌, ◌+◌, ◌≤◌, ℕ, zero, suc, List, [], ◌∷◌, drop, refl, sym, ap, subst, add-one, arith, nat_lt}
+use Rattle.std.proofs.Common.{nat_eq, Bool, true, false, ◌&&◌, not, Some, None}
 use Rattle.std.specs.Prelude.{slice_get, slice_index}
 use Rattle.std.proofs.lemmas.Bool.Decides.{nat_tests}
 use Rattle.std.proofs.lemmas.List.{drop-drop}
@@ -40,7 +41,8 @@ equal : (m n : ℕ) → nat_eq m n ≡ true → m ≡ n
 equal m n h = grind (arith, nat_tests)
 
 -- in an argument at a depth
-pub behind_length : (depth place : ℕ) (before : Part) (ps : List Part) → first_misplaced place before ps ≡ None → depth + 1 ≤ depth_behind before
+pub behind_length : (depth place : ℕ) (before : Part) (ps : List Part) → first_misplaced place before ps ≡ None
+    → depth + 1 ≤ depth_behind before
     → behind_end depth ps ≡ drop (suc (argument_length depth ps)) ps
 behind_length depth place before [] h inside = refl
 behind_length depth place before (q ∷ qs) h inside =
@@ -60,24 +62,33 @@ behind_length depth place before (q ∷ qs) h inside =
         rw (deeper, is, add-one) (more (omega (arith, e, b, inside)))
     this false End deeper is may more = rw (deeper, is) refl
     this false (Text text) deeper is may more =
-        let e : q.depth ≡ depth_behind before = equal q.depth (depth_behind before) (both_true (not (is_begin before.piece)) (nat_eq q.depth (depth_behind before)) (rw is at may)) in
+        let e : q.depth ≡ depth_behind before =
+        equal q.depth (depth_behind before)
+        (both_true (not (is_begin before.piece)) (nat_eq q.depth (depth_behind before)) (rw is at may)) in
         let d : q.depth ≤ depth = grind (arith, nat_tests) in
         absurd (omega (arith, e, d, inside))
     this false Hash deeper is may more =
-        let e : q.depth ≡ depth_behind before = equal q.depth (depth_behind before) (both_true (not (is_begin before.piece)) (nat_eq q.depth (depth_behind before)) (rw is at may)) in
+        let e : q.depth ≡ depth_behind before =
+        equal q.depth (depth_behind before)
+        (both_true (not (is_begin before.piece)) (nat_eq q.depth (depth_behind before)) (rw is at may)) in
         let d : q.depth ≤ depth = grind (arith, nat_tests) in
         absurd (omega (arith, e, d, inside))
     this false (Argument name) deeper is may more =
-        let e : q.depth ≡ depth_behind before = equal q.depth (depth_behind before) (both_true (not (is_begin before.piece)) (nat_eq q.depth (depth_behind before)) (rw is at may)) in
+        let e : q.depth ≡ depth_behind before =
+        equal q.depth (depth_behind before)
+        (both_true (not (is_begin before.piece)) (nat_eq q.depth (depth_behind before)) (rw is at may)) in
         let d : q.depth ≤ depth = grind (arith, nat_tests) in
         absurd (omega (arith, e, d, inside))
     this false (Begin kind name offset) deeper is may more =
-        let e : q.depth ≡ depth_behind before = equal q.depth (depth_behind before) (both_true (not (is_begin before.piece)) (nat_eq q.depth (depth_behind before)) (rw is at may)) in
+        let e : q.depth ≡ depth_behind before =
+        equal q.depth (depth_behind before)
+        (both_true (not (is_begin before.piece)) (nat_eq q.depth (depth_behind before)) (rw is at may)) in
         let d : q.depth ≤ depth = grind (arith, nat_tests) in
         absurd (omega (arith, e, d, inside))
 
 -- the parts behind one are in their order
-pub ordered_behind : (place : ℕ) (before : Part) (ps : List Part) (index : ℕ) (p : Part) → first_misplaced place before ps ≡ None → slice_get ps index ≡ Some p
+pub ordered_behind : (place : ℕ) (before : Part) (ps : List Part) (index : ℕ) (p : Part) → first_misplaced place before ps ≡ None
+    → slice_get ps index ≡ Some p
     → (k : ℕ) × (first_misplaced k p (drop (suc index) ps) ≡ None)
 ordered_behind place before [] zero p h there = cc
 ordered_behind place before [] (suc index) p h there = cc
@@ -110,7 +121,8 @@ of_places (Argument name) depth ps b = absurd b
 of_places End depth ps b = absurd b
 
 -- the parts behind an argument
-pub behind_argument : (placed : PlacedPart) (ps : List Part) (index n : ℕ) → first_misplaced 0 before_all ps ≡ None → IsPlaced placed ps index → IsBegun (drop index ps)
+pub behind_argument : (placed : PlacedPart) (ps : List Part) (index n : ℕ) → first_misplaced 0 before_all ps ≡ None
+    → IsPlaced placed ps index → IsBegun (drop index ps)
     → n ≡ slice_index placed.places 0 → drop (index + 2 + n) ps ≡ behind_end (first_depth (drop index ps)) (drop 1 (drop index ps))
 behind_argument placed ps index n ordered h begun e =
     let rest = drop (index + 1) ps in
@@ -118,10 +130,14 @@ behind_argument placed ps index n ordered h begun e =
     let there : drop index ps ≡ placed.part ∷ rest = from_place ps index placed.part h.part in
     let begins : Begins placed.part.piece = subst (λ (l : List Part). IsBegun l) there begun in
     let o = ordered_behind 0 before_all ps index placed.part ordered h.part in
-    let after : first_misplaced o.0 placed.part rest ≡ None = subst (λ (k : ℕ). first_misplaced o.0 placed.part (drop k ps) ≡ None) (sym (add-one index)) o.1 in
+    let after : first_misplaced o.0 placed.part rest ≡ None =
+    subst (λ (k : ℕ). first_misplaced o.0 placed.part (drop k ps) ≡ None) (sym (add-one index)) o.1 in
     let inside : depth + 1 ≤ depth_behind placed.part = of_begin placed.part begins in
-    let length_of : n ≡ argument_length depth rest = e ∙ (ap (λ (l : List ℕ). slice_index l 0) h.places ∙ of_places placed.part.piece depth rest begins) in
+    let length_of : n ≡ argument_length depth rest =
+    e ∙ (ap (λ (l : List ℕ). slice_index l 0) h.places ∙ of_places placed.part.piece depth rest begins) in
     let sum : index + 2 + n ≡ index + 1 + suc n = omega arith in
     let shown : drop (index + 2 + n) ps ≡ behind_end depth rest =
-    ap (λ (k : ℕ). drop k ps) sum ∙ (sym (drop-drop (suc n) (index + 1) ps) ∙ (ap (λ (k : ℕ). drop (suc k) rest) length_of ∙ sym (behind_length depth o.0 placed.part rest after inside))) in
+    ap (λ (k : ℕ). drop k ps) sum ∙
+    (sym (drop-drop (suc n) (index + 1) ps)
+    ∙ (ap (λ (k : ℕ). drop (suc k) rest) length_of ∙ sym (behind_length depth o.0 placed.part rest after inside))) in
     subst (λ (l : List Part). drop (index + 2 + n) ps ≡ behind_end (first_depth l) (drop 1 l)) (sym there) shown

@@ -36,6 +36,7 @@ module _ (placed : PlacedPart) (ps : List Part) (index : ℕ) (h : IsPlaced plac
 
   pub left_begun : AreLeftOf (drop index ps) (drop (index + 1) ps)
   left_begun = record {
-    behind = subst (λ (l : List Part). behind_end (first_depth l) (drop (index + 1) ps) ≡ behind_end (first_depth l) (drop 1 l)) (sym begun) refl;
+    behind = subst (λ (l : List Part). behind_end (first_depth l) (drop (index + 1) ps)
+        ≡ behind_end (first_depth l) (drop 1 l)) (sym begun) refl;
     fewer = shorter_begun (index + 1) (omega arith);
   }

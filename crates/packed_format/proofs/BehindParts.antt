@@ -1,5 +1,6 @@
 -- What stands at a place, in the parts behind one.
-use Rattle.std.proofs.Common.{◌≡◌, ◌∙◌, ◌+◌, ℕ, zero, suc, List, [], ◌∷◌, drop, length, refl, sym, ap, subst, add-one, arith, nat_eq, Bool, true, false, nat_lt, bytes_eq, Option, Some, None}
+use Rattle.std.proofs.Common.{◌≡◌, ◌∙◌, ◌+◌, ℕ, zero, suc, List, [], ◌∷◌, drop, length, refl, sym, ap, subst, add-one, arith, nat_eq, Bool}
+use Rattle.std.proofs.Common.{true, false, nat_lt, bytes_eq, Option, Some, None}
 use Rattle.std.specs.Prelude.{slice_get, codes}
 use Rattle.std.proofs.lemmas.Bool.Decides.{nat_tests}
 use Rattle.std.proofs.lemmas.List.{drop_more}
@@ -46,11 +47,13 @@ abbrev pub IsPlaceOf : List Part → ℕ → Option (List Part) → Type 0
 IsPlaceOf ps zero found = found ≡ None
 IsPlaceOf ps (suc n) found = found ≡ Some (drop (suc n) ps)
 
-one_part_more : (p : Part) (ps : List Part) (n : ℕ) (found : Option (List Part)) → IsPlaceOf ps n found → IsPlaceOf (p ∷ ps) (one_more n) found
+one_part_more : (p : Part) (ps : List Part) (n : ℕ) (found : Option (List Part)) → IsPlaceOf ps n found
+    → IsPlaceOf (p ∷ ps) (one_more n) found
 one_part_more p ps zero found h = h
 one_part_more p ps (suc n) found h = rw (not_zero n, add-one) h
 
-pub word_place : (word : List ℕ) (depth : ℕ) (ps : List Part) → IsPlaceOf ps (branch_place (Word word) depth ps) (branch_of_keyword word (branches_of depth ps))
+pub word_place : (word : List ℕ) (depth : ℕ) (ps : List Part)
+    → IsPlaceOf ps (branch_place (Word word) depth ps) (branch_of_keyword word (branches_of depth ps))
 word_place word depth [] = refl
 word_place word depth (p ∷ ps) =
     this (nat_lt depth p.depth) p.piece refl refl
@@ -86,9 +89,11 @@ either_place ps zero (suc m) found other h k = rw (h, k, not_zero m) refl
 either_place ps (suc n) m found other h k = rw (h, not_zero n, not_zero n) refl
 
 -- the place of a keyword or of `other` is that of their branch
-pub at_word : (word : List ℕ) (depth : ℕ) (ps : List Part) → parts_behind (place_or_other word depth ps) ps ≡ branch_or_other word (branches_of depth ps)
+pub at_word : (word : List ℕ) (depth : ℕ) (ps : List Part) → parts_behind (place_or_other word depth ps) ps
+    ≡ branch_or_other word (branches_of depth ps)
 at_word word depth ps =
-    either_place ps (branch_place (Word word) depth ps) (branch_place (Word (codes "other")) depth ps) (branch_of_keyword word (branches_of depth ps))
+    either_place ps (branch_place (Word word) depth ps) (branch_place (Word (codes "other")) depth ps)
+    (branch_of_keyword word (branches_of depth ps))
     (branch_of_keyword (codes "other") (branches_of depth ps)) (word_place word depth ps) (word_place (codes "other") depth ps)
 
 -- ---- by a number
@@ -105,18 +110,22 @@ one_number_more depth p ps (suc n) h e = rw (not_zero n, add-one) (h ∙ sym e)
 
 pub number_place : (depth : ℕ) (ps : List Part) → IsNumberPlace depth ps (branch_place AnyNumber depth ps)
 number_place depth [] = refl
-number_place depth (p ∷ ps) = this (nat_lt depth p.depth) p.piece refl refl (one_number_more depth p ps (branch_place AnyNumber depth ps) (number_place depth ps))
+number_place depth (p ∷ ps) = this (nat_lt depth p.depth) p.piece refl refl
+    (one_number_more depth p ps (branch_place AnyNumber depth ps) (number_place depth ps))
   where
     by_place : (n m : ℕ) → n ≡ m → IsNumberPlace depth (p ∷ ps) m → IsNumberPlace depth (p ∷ ps) n
     by_place n m e h = subst (λ (k : ℕ). IsNumberPlace depth (p ∷ ps) k) (sym e) h
 
     this : (b : Bool) (q : PatternPiece) → nat_lt depth p.depth ≡ b → p.piece ≡ q
-        → (numbers_of (branches_of depth (p ∷ ps)) ≡ numbers_of (branches_of depth ps) → IsNumberPlace depth (p ∷ ps) (one_more (branch_place AnyNumber depth ps)))
+        → (numbers_of (branches_of depth (p ∷ ps)) ≡ numbers_of (branches_of depth ps)
+        → IsNumberPlace depth (p ∷ ps) (one_more (branch_place AnyNumber depth ps)))
         → IsNumberPlace depth (p ∷ ps) (branch_place AnyNumber depth (p ∷ ps))
-    this true q deeper is more = by_place (branch_place AnyNumber depth (p ∷ ps)) (one_more (branch_place AnyNumber depth ps)) (rw deeper refl) (more (rw deeper refl))
+    this true q deeper is more = by_place (branch_place AnyNumber depth (p ∷ ps)) (one_more (branch_place AnyNumber depth ps))
+        (rw deeper refl) (more (rw deeper refl))
     this false (Branch (Exactly number)) deeper is more = by_place (branch_place AnyNumber depth (p ∷ ps)) 1 (rw (deeper, is) refl) refl
     this false (Branch (Keyword other)) deeper is more =
-        by_place (branch_place AnyNumber depth (p ∷ ps)) (one_more (branch_place AnyNumber depth ps)) (rw (deeper, is) refl) (more (rw (deeper, is) refl))
+        by_place (branch_place AnyNumber depth (p ∷ ps)) (one_more (branch_place AnyNumber depth ps)) (rw (deeper, is) refl)
+        (more (rw (deeper, is) refl))
     this false (Text text) deeper is more = rw (deeper, is, deeper) refl
     this false Hash deeper is more = rw (deeper, is, deeper) refl
     this false (Argument name) deeper is more = rw (deeper, is, deeper) refl

@@ -11,7 +11,8 @@ FirstFrom P depth parts None found = found ≡ None
 FirstFrom P depth parts (Some at) found = IsFirst P (branches_of depth (drop at parts)) found
 
 -- what is next is behind
-pub next_behind : (depth : ℕ) (parts : List Part) (index : ℕ) (next : Option ℕ) → AreNext depth parts index next → IfSome next (λ (at : ℕ). index < at)
+pub next_behind : (depth : ℕ) (parts : List Part) (index : ℕ) (next : Option ℕ) → AreNext depth parts index next
+    → IfSome next (λ (at : ℕ). index < at)
 next_behind depth parts index None e = tt
 next_behind depth parts index (Some at) e = e.0
 
@@ -33,7 +34,8 @@ module _ (P : Selector → Type 0) (never : (word : List ℕ) → P (Keyword wor
   of_numbers [] found h = h
   of_numbers (b ∷ bs) found h = this b.selector refl h (of_numbers bs found)
     where
-      this : (s : Selector) → b.selector ≡ s → IsFirst P (numbers_of (b ∷ bs)) found → (IsFirst P (numbers_of bs) found → IsFirst P bs found) → IsFirst P (b ∷ bs) found
+      this : (s : Selector) → b.selector ≡ s → IsFirst P (numbers_of (b ∷ bs)) found
+          → (IsFirst P (numbers_of bs) found → IsFirst P bs found) → IsFirst P (b ∷ bs) found
       this (Exactly number) is k more = elim (rw is at k) [
         | inl here ↦ inl here
         | inr later ↦ inr (later.0, more later.1)
@@ -44,14 +46,16 @@ module _ (P : Selector → Type 0) (never : (word : List ℕ) → P (Keyword wor
   to_numbers [] found h = h
   to_numbers (b ∷ bs) found h = this b.selector refl h (to_numbers bs found)
     where
-      this : (s : Selector) → b.selector ≡ s → IsFirst P (b ∷ bs) found → (IsFirst P bs found → IsFirst P (numbers_of bs) found) → IsFirst P (numbers_of (b ∷ bs)) found
+      this : (s : Selector) → b.selector ≡ s → IsFirst P (b ∷ bs) found → (IsFirst P bs found → IsFirst P (numbers_of bs) found)
+          → IsFirst P (numbers_of (b ∷ bs)) found
       this (Exactly number) is (inl here) more = rw is (inl here)
       this (Exactly number) is (inr later) more = rw is (inr (later.0, more later.1))
       this (Keyword word) is (inl here) more = absurd (never word (rw is at here.0))
       this (Keyword word) is (inr later) more = rw is (more later.1)
 
   -- is the first behind a part from which it is the next
-  pub first_behind : (depth : ℕ) (parts : List Part) (index : ℕ) (next : Option ℕ) (found : Option (List Part)) → AreNext depth parts index next
+  pub first_behind : (depth : ℕ) (parts : List Part) (index : ℕ) (next : Option ℕ) (found : Option (List Part))
+      → AreNext depth parts index next
       → FirstFrom P depth parts next found → IsFirst P (branches_of depth (drop (index + 1) parts)) found
   first_behind depth parts index None found e h =
       of_numbers (branches_of depth (drop (index + 1) parts)) found (subst (λ (bs : List Branching). IsFirst P bs found) (sym e) h)

@@ -1,5 +1,6 @@
 -- Names that are found one after another are each there once.
-use Rattle.std.proofs.Common.{◌≡◌, ◌∙◌, ℕ, List, [], ◌∷◌, ◌++◌, refl, sym, ap, subst, append_assoc, append-nil, Bool, true, false, bytes_eq, if◌then◌else◌}
+use Rattle.std.proofs.Common.{◌≡◌, ◌∙◌, ℕ, List, [], ◌∷◌, ◌++◌, refl, sym, ap, subst, append_assoc, append-nil, Bool, true, false, bytes_eq}
+use Rattle.std.proofs.Common.{if◌then◌else◌}
 use Rattle.std.proofs.lemmas.Bool.Decides.{same_from_decides}
 use Rattle.std.proofs.lemmas.Slice.Eq.{bytes_eq-Decides}
 use Rattle.message_pattern.specs.PatternParts.{Part}
@@ -11,7 +12,8 @@ with_names-append found [] ms = refl
 with_names-append found (n ∷ ns) ms = with_names-append (with_name found n) ns ms
 
 -- the names of the first part, and those of the rest
-pub behind_one : (found : List (List ℕ)) (p : Part) (ps : List Part) → with_names found (used_in (p ∷ ps)) ≡ with_names (with_names found (names_in p.piece)) (used_in ps)
+pub behind_one : (found : List (List ℕ)) (p : Part) (ps : List Part) → with_names found (used_in (p ∷ ps))
+    ≡ with_names (with_names found (names_in p.piece)) (used_in ps)
 behind_one found p ps = with_names-append found (names_in p.piece) (used_in ps)
 
 -- ---- one more
@@ -62,7 +64,8 @@ once-append (x ∷ xs) n = this (has_name n (once xs)) (bytes_eq x n) refl refl 
     this false true has same more =
         let twice : (if bytes_eq n x then [] else n ∷ []) ≡ [] = rw (swapped n x ∙ same) refl in
         behind (once xs ++ n ∷ []) (more ∙ longer (once xs) n has)
-        ∙ (ap (λ (l : List (List ℕ)). x ∷ l) (without-append x n (once xs) ∙ (ap (λ (l : List (List ℕ)). without x (once xs) ++ l) twice ∙ append-nil (without x (once xs))))
+        ∙ (ap (λ (l : List (List ℕ)). x ∷ l)
+        (without-append x n (once xs) ∙ (ap (λ (l : List (List ℕ)). without x (once xs) ++ l) twice ∙ append-nil (without x (once xs))))
         ∙ sym (kept (once (x ∷ xs)) n (rw same refl)))
     this false false has same more =
         let once_more : (if bytes_eq n x then [] else n ∷ []) ≡ n ∷ [] = rw (swapped n x ∙ same) refl in
@@ -74,7 +77,8 @@ once-append (x ∷ xs) n = this (has_name n (once xs)) (bytes_eq x n) refl refl 
 with_names-once : (xs ys : List (List ℕ)) → with_names (once xs) ys ≡ once (xs ++ ys)
 with_names-once xs [] = ap once (sym (append-nil xs))
 with_names-once xs (y ∷ ys) =
-    ap (λ (l : List (List ℕ)). with_names l ys) (sym (once-append xs y)) ∙ (with_names-once (xs ++ y ∷ []) ys ∙ ap once (append_assoc xs (y ∷ []) ys))
+    ap (λ (l : List (List ℕ)). with_names l ys) (sym (once-append xs y))
+    ∙ (with_names-once (xs ++ y ∷ []) ys ∙ ap once (append_assoc xs (y ∷ []) ys))
 
 pub all_once : (ps : List Part) → with_names [] (used_in ps) ≡ names_of ps
 all_once ps = with_names-once [] (used_in ps)

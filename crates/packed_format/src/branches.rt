@@ -8,7 +8,7 @@ ghost use Rattle.message_format.specs.FormatParts.{IsFirst};
 ghost use Rattle.packed_pattern.specs.PartPlaces.{IsPlaced};
 ghost use Rattle.packed_pattern.specs.Inner.PlaceViews.{placed_view};
 
-use crate::steps::{category_index, is_plural, next_number, next_selector, place_behind};
+use crate::steps::{category_index, next_number, next_selector, place_behind};
 use message_format::Chooser;
 use message_pattern::{ArgumentKind, Piece, Selector};
 use packed_pattern::{PackedPattern, PlacedPart};
@@ -29,10 +29,9 @@ fn branch_of_keyword(
     let mut at = index + 1;
     while let Some(placed) = pattern.placed(at) {
         let here = at;
-        let part = placed.part();
         at = next_selector(here, &placed, depth);
-        if part.depth <= depth {
-            let Piece::Branch(selector) = part.piece else {
+        if placed.depth() <= depth {
+            let Some(selector) = placed.selector() else {
                 return None;
             };
             if let Selector::Keyword(other) = selector {
@@ -51,7 +50,8 @@ fn branch_other(pattern: &PackedPattern<'_>, index: usize, begin: &PlacedPart<'_
     requires few { length pattern.now ≤ 65535 }
     requires placed { IsPlaced (placed_view begin.now) pattern.now index }
     requires within { index < length pattern.now }
-    ensures branch { drop result pattern.now ≡ parts_or_none (branch_of_keyword (codes "other") (branches_of (placed_view begin.now).part.depth (drop (index + 1) pattern.now))) }
+    ensures branch { drop result pattern.now
+        ≡ parts_or_none (branch_of_keyword (codes "other") (branches_of (placed_view begin.now).part.depth (drop (index + 1) pattern.now))) }
     ensures behind { index < result }
 {
     let part = begin.part();
@@ -96,10 +96,11 @@ pub(crate) fn branch_of_category(
     requires few { length pattern.now ≤ 65535 }
     requires placed { IsPlaced (placed_view begin.now) pattern.now index }
     requires within { index < length pattern.now }
-    ensures branch { drop result pattern.now ≡ branch_or_other (name_of category) (branches_of (placed_view begin.now).part.depth (drop (index + 1) pattern.now)) }
+    ensures branch { drop result pattern.now
+        ≡ branch_or_other (name_of category) (branches_of (placed_view begin.now).part.depth (drop (index + 1) pattern.now)) }
     ensures behind { index < result }
 {
-    if is_plural(begin.part().piece) {
+    if begin.is_plural() {
         place_behind(pattern, index, begin.place(category_index(category)))
     } else {
         branch_of_word(pattern, category.as_str().as_bytes(), index, begin)
@@ -119,19 +120,19 @@ pub(crate) fn first_chosen<C: Chooser>(
     requires few { length pattern.now ≤ 65535 }
     requires placed { IsPlaced (placed_view begin.now) pattern.now index }
     requires within { index < length pattern.now }
-    ensures first { IfOk result (λ found. IsFirst (C.IsChosen chooser.now) (branches_of (placed_view begin.now).part.depth (drop (index + 1) pattern.now)) (option_map (λ at. drop at pattern.now) found)) }
+    ensures first { IfOk result (λ found. IsFirst (C.IsChosen chooser.now)
+        (branches_of (placed_view begin.now).part.depth (drop (index + 1) pattern.now)) (option_map (λ at. drop at pattern.now) found)) }
     ensures behind { IfOk result (λ found. IfSome found (λ at. index < at)) }
 {
-    let depth = begin.part().depth;
+    let depth = begin.depth();
     let mut next = next_number(index, begin, depth);
     while let Some(at) = next {
         let Some(placed) = pattern.placed(at) else {
             return Ok(None);
         };
-        let part = placed.part();
         next = next_number(at, &placed, depth);
-        if part.depth <= depth {
-            let Piece::Branch(selector) = part.piece else {
+        if placed.depth() <= depth {
+            let Some(selector) = placed.selector() else {
                 return Ok(None);
             };
             let chosen = match chooser.chooses(selector) {

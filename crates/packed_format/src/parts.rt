@@ -52,7 +52,8 @@ impl<'l, 'a> BlockParts<'l, 'a> {
     // The part at this place, with its places.
     #[inline(always)]
     fn placed(self) -> Option<PlacedPart<'a>>
-        ensures { MatchOption result (slice_get self.entry.pattern.now self.entry.next ≡ None) (λ it. IsPlaced (placed_view it) self.entry.pattern.now self.entry.next) }
+        ensures { MatchOption result (slice_get self.entry.pattern.now self.entry.next ≡ None)
+            (λ it. IsPlaced (placed_view it) self.entry.pattern.now self.entry.next) }
     {
         self.pattern.placed(self.next)
     }

@@ -2,13 +2,13 @@
 
 ghost use Rattle.std.specs.Prelude.{◌≡◌, ◌≤◌, ◌<◌, ◌+◌, ℕ, List, drop, length, slice_index};
 ghost use Rattle.plural_base.specs.Categories.{name_of};
-ghost use Rattle.message_pattern.specs.PatternParts.{Part as SpecPart, piece_view, branches_of};
+ghost use Rattle.message_pattern.specs.PatternParts.{Part as SpecPart, branches_of};
 ghost use Rattle.message_pattern.specs.declared.part.ArgumentKind.TheVariants.{Plural};
 ghost use Rattle.packed_pattern.specs.PartPlaces.{IsPlaced, argument_places, place_or_other};
 ghost use Rattle.packed_pattern.specs.Inner.PlaceViews.{placed_view};
-ghost use Rattle.packed_format.specs.Inner.PackedSteps.{AreNext, has_next_number, is_plural, parts_behind};
+ghost use Rattle.packed_format.specs.Inner.PackedSteps.{AreNext, has_next_number, parts_behind};
 
-use message_pattern::{ArgumentKind, Piece, Selector};
+use message_pattern::Selector;
 use packed_pattern::{PackedPattern, PlacedPart};
 use plural_base::PluralCategory;
 
@@ -17,37 +17,25 @@ use plural_base::PluralCategory;
 #[inline(always)]
 pub(crate) fn next_selector(index: usize, placed: &PlacedPart<'_>, depth: usize) -> usize
     requires { index ≤ 65535 }
-    ensures branches { (parts : List SpecPart) → IsPlaced (placed_view placed.now) parts index → branches_of depth (drop result parts) ≡ branches_of depth (drop (index + 1) parts) }
+    ensures branches { (parts : List SpecPart) → IsPlaced (placed_view placed.now) parts index → branches_of depth (drop result parts)
+        ≡ branches_of depth (drop (index + 1) parts) }
     ensures behind { index < result }
     ensures few { result ≤ index + 65536 }
 {
-    let part = placed.part();
-    match part.piece {
-        Piece::Branch(_) if part.depth == depth => index + 1 + placed.place(0),
+    match placed.selector() {
+        Some(_) if placed.depth() == depth => index + 1 + placed.place(0),
         _ => index + 1,
-    }
-}
-
-// Whether a piece begins a plural or an ordinal.
-#[inline(always)]
-pub(crate) fn is_plural(piece: Piece<'_>) -> bool
-    ensures { result ≡ is_plural (piece_view piece.entry) }
-{
-    match piece {
-        Piece::Begin(ArgumentKind::Plural, _, _) => true,
-        Piece::Begin(ArgumentKind::Ordinal, _, _) => true,
-        _ => false,
     }
 }
 
 // Whether a part has the place of the first branch by a number, or of the next.
 #[inline(always)]
-fn has_next_number(piece: Piece<'_>) -> bool
-    ensures { result ≡ has_next_number (piece_view piece.entry) }
+fn has_next_number(placed: &PlacedPart<'_>) -> bool
+    ensures { result ≡ has_next_number (placed_view placed.now).part.piece }
 {
-    match piece {
-        Piece::Branch(Selector::Exactly(_)) => true,
-        _ => is_plural(piece),
+    match placed.selector() {
+        Some(Selector::Exactly(_)) => true,
+        _ => placed.is_plural(),
     }
 }
 
@@ -57,8 +45,7 @@ pub(crate) fn next_number(index: usize, placed: &PlacedPart<'_>, depth: usize) -
     requires { index ≤ 65535 }
     ensures { (parts : List SpecPart) → IsPlaced (placed_view placed.now) parts index → AreNext depth parts index result }
 {
-    let part = placed.part();
-    if part.depth != depth || !has_next_number(part.piece) {
+    if placed.depth() != depth || !has_next_number(placed) {
         return Some(next_selector(index, placed, depth));
     }
     let place = placed.place(1);

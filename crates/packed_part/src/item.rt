@@ -1,13 +1,15 @@
 //! The item of a part.
 
-ghost use Rattle.std.specs.Prelude.{◌≡◌, ◌∷◌, ◌++◌, ◌↔◌, ◌≤◌, take, drop, bytes_eq, length, IsTrue};
-ghost use Rattle.message_pattern.specs.PatternParts.{part_view, piece_view, selector_view, offset_view};
+ghost use Rattle.std.specs.Prelude.{◌≡◌, ◌≢◌, ◌∷◌, ◌++◌, ◌↔◌, ◌≤◌, take, drop, bytes_eq, length, IsTrue, MatchOption};
+ghost use Rattle.message_pattern.specs.PatternParts.{Branch, Selector as SpecSelector, part_view, piece_view, selector_view, offset_view};
 ghost use Rattle.packed_part.specs.PackedParts.{has_digits, is_packable, is_packable_piece, item_bytes, kind_tag, offset_digits, own_bytes, piece_tag, selector_bytes};
-ghost use Rattle.packed_part.specs.Inner.PartReading.{begin_in, kind_in, offset_in, part_in, piece_in, place_count, place_room, places_in};
+ghost use Rattle.packed_part.specs.Inner.ItemForms.{IsBeginForm, IsForm, IsOwnForm};
+ghost use Rattle.packed_part.specs.Inner.PartReading.{begin_in, is_plural, kind_in, offset_in, part_in, piece_in, place_count, place_room, places_in};
 
 use message_pattern::{ArgumentKind, DEPTH_LIMIT, Part, Piece, Selector};
 
 // The number of an argument's kind.
+#[inline(always)]
 fn kind_tag(kind: ArgumentKind) -> u8
     ensures { result ≡ kind_tag kind }
 {
@@ -19,6 +21,7 @@ fn kind_tag(kind: ArgumentKind) -> u8
 }
 
 /// Returns the number of a piece's form, with which its item begins.
+#[inline(always)]
 pub fn piece_tag(piece: Piece<'_>) -> u8
     ensures { result ≡ piece_tag (piece_view piece.entry) }
 {
@@ -34,6 +37,7 @@ pub fn piece_tag(piece: Piece<'_>) -> u8
 }
 
 /// Returns the keyword or the number of a selector.
+#[inline(always)]
 pub fn selector_bytes<'p>(selector: Selector<'p>) -> &'p [u8]
     ensures { result.now ≡ selector_bytes (selector_view selector.entry) }
 {
@@ -44,6 +48,7 @@ pub fn selector_bytes<'p>(selector: Selector<'p>) -> &'p [u8]
 }
 
 /// Returns the digits of an offset, and none if there is no offset.
+#[inline(always)]
 pub fn offset_digits<'p>(offset: Option<&'p [u8]>) -> &'p [u8]
     ensures { result.now ≡ offset_digits (offset_view offset.entry) }
 {
@@ -55,6 +60,7 @@ pub fn offset_digits<'p>(offset: Option<&'p [u8]>) -> &'p [u8]
 
 /// Returns whether a part can be packed: it is at most 32 branches deep, the name of an argument that
 /// it begins has at most 255 bytes, and its offset has digits.
+#[inline(always)]
 pub fn is_packable(part: Part<'_>) -> bool
     ensures { result ≡ is_packable (part_view part.entry) }
 {
@@ -62,6 +68,7 @@ pub fn is_packable(part: Part<'_>) -> bool
 }
 
 // Whether the length of a name fits its byte, and an offset has digits.
+#[inline(always)]
 fn is_packable_piece(piece: Piece<'_>) -> bool
     ensures { result ≡ is_packable_piece (piece_view piece.entry) }
 {
@@ -72,6 +79,7 @@ fn is_packable_piece(piece: Piece<'_>) -> bool
 }
 
 // Whether an offset has digits.
+#[inline(always)]
 fn has_digits(offset: Option<&[u8]>) -> bool
     ensures { result ≡ has_digits (offset_view offset.entry) }
 {
@@ -188,6 +196,42 @@ pub fn part_in(item: &[u8]) -> Part<'_>
     }
 }
 
+/// Returns the depth of the part that an item holds.
+#[inline(always)]
+pub fn depth_in(item: &[u8]) -> usize
+    ensures { result ≡ (part_in item.now).depth }
+{
+    match item {
+        [_, depth, ..] => usize::from(*depth),
+        _ => 0,
+    }
+}
+
+/// Returns the selector that an item holds, if it holds one.
+#[inline(always)]
+pub fn selector_in(item: &[u8]) -> Option<Selector<'_>>
+    ensures { MatchOption result ((s : SpecSelector) → (part_in item.now).piece ≡ Branch s → ⊥)
+        (λ s. (part_in item.now).piece ≡ Branch (selector_view s)) }
+{
+    match item {
+        [6, _, content @ ..] => Some(Selector::Keyword(split_places(6, content).1)),
+        [7, _, content @ ..] => Some(Selector::Exactly(split_places(7, content).1)),
+        _ => None,
+    }
+}
+
+/// Returns whether the part that an item holds begins a plural or an ordinal.
+#[inline(always)]
+pub fn is_plural_in(item: &[u8]) -> bool
+    ensures { result ≡ is_plural (part_in item.now).piece }
+{
+    match item {
+        [3, _, content @ ..] => content.len() > 2 * place_count(3),
+        [4, _, content @ ..] => content.len() > 2 * place_count(4),
+        _ => false,
+    }
+}
+
 /// Returns the bytes of the places that an item has.
 pub fn places_in(item: &[u8]) -> &[u8]
     ensures { result.now ≡ places_in item.now }
@@ -199,6 +243,7 @@ pub fn places_in(item: &[u8]) -> &[u8]
 }
 
 // Whether a text is one behind another.
+#[inline(always)]
 fn is_joined(text: &[u8], first: &[u8], second: &[u8]) -> bool
     ensures { IsTrue result ↔ (text.now ≡ first.now ++ second.now) }
 {
@@ -210,6 +255,7 @@ fn is_joined(text: &[u8], first: &[u8], second: &[u8]) -> bool
 }
 
 // Whether these bytes are the name and the offset of an argument.
+#[inline(always)]
 fn is_begin(bytes: &[u8], name: &[u8], offset: Option<&[u8]>) -> bool
     ensures { IsTrue result ↔ (bytes.now ≡ length name.now ∷ (name.now ++ offset_digits (offset_view offset.entry))) }
 {
@@ -222,6 +268,7 @@ fn is_begin(bytes: &[u8], name: &[u8], offset: Option<&[u8]>) -> bool
 }
 
 // Whether these bytes are what a piece has of its own.
+#[inline(always)]
 fn is_own(bytes: &[u8], piece: Piece<'_>) -> bool
     ensures { IsTrue result ↔ (bytes.now ≡ own_bytes (piece_view piece.entry)) }
 {
@@ -235,6 +282,7 @@ fn is_own(bytes: &[u8], piece: Piece<'_>) -> bool
 }
 
 // Whether these bytes are places and what a piece has of its own.
+#[inline(always)]
 fn is_content(content: &[u8], places: &[u8], piece: Piece<'_>) -> bool
     ensures { IsTrue result ↔ (content.now ≡ places.now ++ own_bytes (piece_view piece.entry)) }
 {
@@ -246,6 +294,7 @@ fn is_content(content: &[u8], places: &[u8], piece: Piece<'_>) -> bool
 }
 
 // Whether an item is that of a part with these places.
+#[inline(always)]
 fn holds(item: &[u8], part: Part<'_>, places: &[u8]) -> bool
     ensures { IsTrue result ↔ (item.now ≡ item_bytes (part_view part.entry) places.now) }
 {
@@ -260,8 +309,75 @@ fn holds(item: &[u8], part: Part<'_>, places: &[u8]) -> bool
 }
 
 /// Returns whether an item is that of a part with these bytes of places.
+#[inline(always)]
 pub fn is_item_of(item: &[u8], part: Part<'_>, places: &[u8]) -> bool
     ensures { result ≡ bytes_eq item.now (item_bytes (part_view part.entry) places.now) }
 {
     holds(item, part, places)
+}
+
+// Whether the bytes that a form has of its own are those of the piece that they are read as, if this
+// isn't one without any.
+#[inline(always)]
+fn is_own_form(tag: u8, own: &[u8]) -> bool
+    requires hash { tag ≢ 1 }
+    requires end { tag ≢ 8 }
+    ensures { IsTrue result ↔ IsOwnForm tag own.now }
+{
+    match tag {
+        0 => true,
+        2 => true,
+        6 => true,
+        7 => true,
+        3 => is_begin_form(own),
+        4 => is_begin_form(own),
+        5 => is_begin_form(own),
+        _ => false,
+    }
+}
+
+// Whether the length of a name is there, and the name.
+#[inline(always)]
+fn is_begin_form(own: &[u8]) -> bool
+    ensures { IsTrue result ↔ IsBeginForm own.now }
+{
+    match own {
+        [count, rest @ ..] => usize::from(*count) <= rest.len(),
+        [] => false,
+    }
+}
+
+// Whether bytes of content are these bytes of places and what the piece has of its own that the
+// content is read as.
+#[inline(always)]
+fn is_form(tag: u8, content: &[u8], places: &[u8]) -> bool
+    ensures { IsTrue result ↔ IsForm tag content.now places.now }
+{
+    match tag {
+        1 => content == places,
+        8 => content == places,
+        _ => {
+            let (front, own) = split_places(tag, content);
+            is_own_form(tag, own) && front == places
+        }
+    }
+}
+
+// Whether an item is that of the part that it holds, with these bytes of places.
+#[inline(always)]
+fn is_with(item: &[u8], places: &[u8]) -> bool
+    ensures { IsTrue result ↔ (item.now ≡ item_bytes (part_in item.now) places.now) }
+{
+    match item {
+        [tag, _, content @ ..] => is_form(*tag, content, places),
+        _ => false,
+    }
+}
+
+/// Returns whether an item is that of the part that it holds, with these bytes of places.
+#[inline(always)]
+pub fn is_item_with(item: &[u8], places: &[u8]) -> bool
+    ensures { result ≡ bytes_eq item.now (item_bytes (part_in item.now) places.now) }
+{
+    is_with(item, places)
 }

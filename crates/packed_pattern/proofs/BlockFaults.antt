@@ -3,7 +3,8 @@ use Rattle.std.proofs.Common.{◌≡◌, ◌∙◌, ◌↔◌, ◌⊎◌, ℕ, �
 use Rattle.std.specs.Prelude.{Option, not, if◌then◌else◌}
 use Rattle.packed_list.specs.ListBytes.{ListBytes, HasFault}
 use Rattle.packed_list.specs.declared.error.ListError.{ListError}
-use Rattle.packed_pattern.specs.PatternBlocks.{HasBlockFault, first_item_fault, has_places, is_part_item, item_fault, items_fault, or_fault, order_fault}
+use Rattle.packed_pattern.specs.PatternBlocks.{HasBlockFault, first_item_fault, has_places, is_part_item, item_fault, items_fault, or_fault}
+use Rattle.packed_pattern.specs.PatternBlocks.{order_fault}
 use Rattle.packed_part.specs.PartOrder.{before_all, first_misplaced}
 use Rattle.packed_part.specs.Inner.PartReading.{part_in}
 use Rattle.packed_pattern.specs.declared.error.BlockError.{BlockError}

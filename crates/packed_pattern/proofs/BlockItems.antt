@@ -1,5 +1,6 @@
 -- The items of a block, and the fault of the first bad one.
-use Rattle.std.proofs.Common.{◌≡◌, ◌∙◌, ℕ, ◌+◌, ◌<◌, List, [], ◌∷◌, drop, get_or, length, map, refl, ap, sym, subst, true, false, Bool, Some, None}
+use Rattle.std.proofs.Common.{◌≡◌, ◌∙◌, ℕ, ◌+◌, ◌<◌, List, [], ◌∷◌, drop, get_or, length, map, refl, ap, sym, subst, true, false, Bool}
+use Rattle.std.proofs.Common.{Some, None}
 use Rattle.std.specs.Prelude.{Option, not, if◌then◌else◌, is_some, slice_get}
 use Rattle.std.specs.List.{list_all}
 use Rattle.std.specs.Cmp.{first_so, second_so}
@@ -12,7 +13,8 @@ use Rattle.message_pattern.specs.PatternParts.{Part}
 use Rattle.packed_pattern.specs.declared.error.BlockError.{BlockError}
 use Rattle.packed_part.specs.PartOrder.{before_all, first_misplaced}
 use Rattle.packed_part.specs.PackedParts.{is_packable, item_bytes, items_of, place_bytes}
-use Rattle.packed_pattern.specs.PatternBlocks.{IsPatternBlock, PatternBlock, first_item_fault, has_places, is_item_with, is_part_item, item_fault, items_fault, or_fault, order_fault}
+use Rattle.packed_pattern.specs.PatternBlocks.{IsPatternBlock, PatternBlock, first_item_fault, has_places, is_item_with, is_part_item}
+use Rattle.packed_pattern.specs.PatternBlocks.{item_fault, items_fault, or_fault, order_fault}
 use Rattle.packed_part.specs.Inner.PartReading.{IsBlock, part_in, parts_in, places_in}
 use Rattle.packed_pattern.proofs.PartBytes.{bytes_same, length-place_bytes, part_again, places_again, same_bytes}
 use Rattle.packed_pattern.specs.declared.error.BlockError.TheVariants as errors

@@ -7,7 +7,8 @@ use Rattle.std.proofs.lemmas.Slice.Eq.{bytes_eq-Decides}
 use Rattle.message_pattern.specs.declared.part.ArgumentKind.{ArgumentKind}
 use Rattle.message_pattern.specs.declared.part.ArgumentKind.TheVariants.{Plural, Ordinal, Select}
 use Rattle.message_pattern.specs.PatternParts.{Part, PatternPiece, Exactly, Keyword, Text, Hash, Argument, Begin, Branch, End}
-use Rattle.packed_part.specs.PackedParts.{has_digits, is_packable, is_packable_piece, item_bytes, offset_digits, own_bytes, piece_tag, place_bytes}
+use Rattle.packed_part.specs.PackedParts.{has_digits, is_packable, is_packable_piece, item_bytes, offset_digits, own_bytes, piece_tag}
+use Rattle.packed_part.specs.PackedParts.{place_bytes}
 use Rattle.packed_part.specs.Inner.PartReading.{begin_in, offset_in, part_in, piece_in, place_room, places_in}
 
 -- equal texts pass the test of bytes

@@ -1,5 +1,6 @@
 -- The places in an item.
-use Rattle.std.proofs.Common.{◌≡◌, ◌∙◌, ◌+◌, ◌*◌, ◌/◌, ◌%◌, ◌<◌, ◌≤◌, ℕ, zero, suc, List, [], ◌∷◌, ◌++◌, get_or, length, drop, refl, ap, map, sym, arith, true, Some}
+use Rattle.std.proofs.Common.{◌≡◌, ◌∙◌, ◌+◌, ◌*◌, ◌/◌, ◌%◌, ◌<◌, ◌≤◌, ℕ, zero, suc, List, [], ◌∷◌, ◌++◌, get_or, length, drop, refl, ap}
+use Rattle.std.proofs.Common.{map, sym, arith, true, Some}
 use Rattle.std.specs.Prelude.{flat_map, slice_get}
 use Rattle.std.specs.Cmp.{first_so, second_so}
 use Rattle.std.specs.List.{list_all}
@@ -46,7 +47,8 @@ again n = omega arith
 
 numbers_again : (ns own : List ℕ) → numbers (length ns) (flat_map two_bytes ns ++ own) ≡ ns
 numbers_again [] own = refl
-numbers_again (n ∷ ns) own = ap (λ m. m ∷ numbers (length ns) (flat_map two_bytes ns ++ own)) (again n) ∙ ap (λ ms. n ∷ ms) (numbers_again ns own)
+numbers_again (n ∷ ns) own = ap (λ m. m ∷ numbers (length ns) (flat_map two_bytes ns ++ own)) (again n)
+    ∙ ap (λ ms. n ∷ ms) (numbers_again ns own)
 
 -- there are as many as its form has
 counted : (depth : ℕ) (piece : PatternPiece) (ps : List Part) → length (places_of depth piece ps) ≡ place_count (piece_tag piece)
@@ -63,7 +65,8 @@ counted depth End ps = refl
 pub item_places_again : (p : Part) (ps : List Part) → item_places (item_bytes p (place_bytes p ps)) ≡ places_of p.depth p.piece ps
 item_places_again p ps =
     let ns = places_of p.depth p.piece ps in
-    ap (λ n. numbers n (flat_map two_bytes ns ++ own_bytes p.piece)) (sym (counted p.depth p.piece ps)) ∙ numbers_again ns (own_bytes p.piece)
+    ap (λ n. numbers n (flat_map two_bytes ns ++ own_bytes p.piece)) (sym (counted p.depth p.piece ps))
+    ∙ numbers_again ns (own_bytes p.piece)
 
 -- the item at a place is that of the part there
 pub item_at : (parts : List Part) (k : ℕ) (item : List ℕ) → slice_get (items_of parts) k ≡ Some item
@@ -92,8 +95,10 @@ placed_at items k item block h =
     let p = at.0 in
     let places = place_bytes p (drop (k + 1) parts) in
     let packable : is_packable p ≡ true = packable_at parts k p block.packable at.1 in
-    let held : part_in item ≡ p = ap part_in at.2 ∙ part_again p places (length-place_bytes p.depth p.piece (drop (k + 1) parts)) packable in
-    let own : item_places item ≡ places_of p.depth p.piece (drop (k + 1) parts) = ap item_places at.2 ∙ item_places_again p (drop (k + 1) parts) in
+    let held : part_in item ≡ p = ap part_in at.2
+    ∙ part_again p places (length-place_bytes p.depth p.piece (drop (k + 1) parts)) packable in
+    let own : item_places item ≡ places_of p.depth p.piece (drop (k + 1) parts) =
+    ap item_places at.2 ∙ item_places_again p (drop (k + 1) parts) in
     record {
       part = at.1 ∙ ap Some (sym held);
       places = own ∙ ap (λ q. places_of q.depth q.piece (drop (k + 1) parts)) (sym held);

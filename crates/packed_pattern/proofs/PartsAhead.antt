@@ -5,7 +5,8 @@ use Rattle.message_pattern.specs.declared.part.ArgumentKind.TheVariants.{Plural,
 use Rattle.packed_list.specs.ListBytes.{two_bytes}
 use Rattle.message_pattern.specs.PatternParts.{Part, PatternPiece, Text, Hash, Argument, Begin, Branch, End, Exactly, Keyword}
 use Rattle.packed_part.specs.PartOrder.{is_selector}
-use Rattle.packed_part.specs.PartPlaces.{Sought, AnyNumber, Word, argument_length, argument_places, branch_length, branch_place, one_more, is_sought, or_place, places_of}
+use Rattle.packed_part.specs.PartPlaces.{Sought, AnyNumber, Word, argument_length, argument_places, branch_length, branch_place, one_more}
+use Rattle.packed_part.specs.PartPlaces.{is_sought, or_place, places_of}
 use Rattle.packed_part.specs.PackedParts.{place_bytes}
 use Rattle.packed_part.specs.Inner.PartViews.{behind}
 use Rattle.packed_pattern.specs.Inner.PlacesAhead.{ahead_of, ended_at, found_at, has_places, passed, places_ahead, plural_ahead}
@@ -16,15 +17,109 @@ use Rattle.packed_pattern.proofs.BehindPlaces.{behind_less, behind_more}
 same : (a b : Ahead) → a.argument ≡ b.argument → a.branch ≡ b.branch → a.number ≡ b.number → a.zero ≡ b.zero → a.one ≡ b.one
     → a.two ≡ b.two → a.few ≡ b.few → a.many ≡ b.many → a.other ≡ b.other → a ≡ b
 same a b e0 e1 e2 e3 e4 e5 e6 e7 e8 =
-    ap (λ x. record { argument = x; branch = a.branch; number = a.number; zero = a.zero; one = a.one; two = a.two; few = a.few; many = a.many; other = a.other }) e0
-    ∙ ap (λ x. record { argument = b.argument; branch = x; number = a.number; zero = a.zero; one = a.one; two = a.two; few = a.few; many = a.many; other = a.other }) e1
-    ∙ ap (λ x. record { argument = b.argument; branch = b.branch; number = x; zero = a.zero; one = a.one; two = a.two; few = a.few; many = a.many; other = a.other }) e2
-    ∙ ap (λ x. record { argument = b.argument; branch = b.branch; number = b.number; zero = x; one = a.one; two = a.two; few = a.few; many = a.many; other = a.other }) e3
-    ∙ ap (λ x. record { argument = b.argument; branch = b.branch; number = b.number; zero = b.zero; one = x; two = a.two; few = a.few; many = a.many; other = a.other }) e4
-    ∙ ap (λ x. record { argument = b.argument; branch = b.branch; number = b.number; zero = b.zero; one = b.one; two = x; few = a.few; many = a.many; other = a.other }) e5
-    ∙ ap (λ x. record { argument = b.argument; branch = b.branch; number = b.number; zero = b.zero; one = b.one; two = b.two; few = x; many = a.many; other = a.other }) e6
-    ∙ ap (λ x. record { argument = b.argument; branch = b.branch; number = b.number; zero = b.zero; one = b.one; two = b.two; few = b.few; many = x; other = a.other }) e7
-    ∙ ap (λ x. record { argument = b.argument; branch = b.branch; number = b.number; zero = b.zero; one = b.one; two = b.two; few = b.few; many = b.many; other = x }) e8
+    ap (λ x. record {
+      argument = x;
+      branch = a.branch;
+      number = a.number;
+      zero = a.zero;
+      one = a.one;
+      two = a.two;
+      few = a.few;
+      many =
+          a.many;
+      other = a.other;
+    }) e0
+    ∙ ap (λ x. record {
+      argument = b.argument;
+      branch = x;
+      number = a.number;
+      zero = a.zero;
+      one = a.one;
+      two = a.two;
+      few = a.few;
+      many =
+          a.many;
+      other = a.other;
+    }) e1
+    ∙ ap (λ x. record {
+      argument = b.argument;
+      branch = b.branch;
+      number = x;
+      zero = a.zero;
+      one = a.one;
+      two = a.two;
+      few = a.few;
+      many =
+          a.many;
+      other = a.other;
+    }) e2
+    ∙ ap (λ x. record {
+      argument = b.argument;
+      branch = b.branch;
+      number = b.number;
+      zero = x;
+      one = a.one;
+      two = a.two;
+      few = a.few;
+      many =
+          a.many;
+      other = a.other;
+    }) e3
+    ∙ ap (λ x. record {
+      argument = b.argument;
+      branch = b.branch;
+      number = b.number;
+      zero = b.zero;
+      one = x;
+      two = a.two;
+      few = a.few;
+      many = a.many;
+      other = a.other;
+    }) e4
+    ∙ ap (λ x. record {
+      argument = b.argument;
+      branch = b.branch;
+      number = b.number;
+      zero = b.zero;
+      one = b.one;
+      two = x;
+      few = a.few;
+      many = a.many;
+      other = a.other;
+    }) e5
+    ∙ ap (λ x. record {
+      argument = b.argument;
+      branch = b.branch;
+      number = b.number;
+      zero = b.zero;
+      one = b.one;
+      two = b.two;
+      few = x;
+      many = a.many;
+      other = a.other;
+    }) e6
+    ∙ ap (λ x. record {
+      argument = b.argument;
+      branch = b.branch;
+      number = b.number;
+      zero = b.zero;
+      one = b.one;
+      two = b.two;
+      few = b.few;
+      many = x;
+      other = a.other;
+    }) e7
+    ∙ ap (λ x. record {
+      argument = b.argument;
+      branch = b.branch;
+      number = b.number;
+      zero = b.zero;
+      one = b.one;
+      two = b.two;
+      few = b.few;
+      many = b.many;
+      other = x;
+    }) e8
 
 -- ---- a part that is deeper is passed over
 
@@ -43,7 +138,8 @@ deeper_branch index depth p ps h = rw h (omega arith)
 pub deeper : (index depth : ℕ) (p : Part) (ps : List Part) → nat_lt depth p.depth ≡ true
     → ahead_of index depth (p ∷ ps) ≡ ahead_of (index + 1) depth ps
 deeper index depth p ps h =
-    same (ahead_of index depth (p ∷ ps)) (ahead_of (index + 1) depth ps) (deeper_argument index depth p ps h) (deeper_branch index depth p ps h)
+    same (ahead_of index depth (p ∷ ps)) (ahead_of (index + 1) depth ps) (deeper_argument index depth p ps h)
+    (deeper_branch index depth p ps h)
     (deeper_place AnyNumber index depth p ps h) (deeper_place (Word (codes "zero")) index depth p ps h)
     (deeper_place (Word (codes "one")) index depth p ps h) (deeper_place (Word (codes "two")) index depth p ps h)
     (deeper_place (Word (codes "few")) index depth p ps h) (deeper_place (Word (codes "many")) index depth p ps h)
@@ -69,7 +165,8 @@ not_sought (Word word) (Branch selector) s = cc
 not_sought (Word word) End s = refl
 
 -- there is no branch behind what is none
-no_place : (sought : Sought) (index depth own : ℕ) (piece : PatternPiece) (ps : List Part) → nat_lt depth own ≡ false → is_selector piece ≡ false
+no_place : (sought : Sought) (index depth own : ℕ) (piece : PatternPiece) (ps : List Part) → nat_lt depth own ≡ false
+    → is_selector piece ≡ false
     → 0 ≡ behind index (branch_place sought depth (at own piece ∷ ps))
 no_place sought index depth own piece ps h s = rw (h, not_sought sought piece s, s) refl
 
@@ -99,13 +196,15 @@ selector_argument : (index depth own : ℕ) (p : Part) (ps : List Part) → is_s
     → index + 1 + argument_length depth ps ≡ index + argument_length depth (p ∷ ps)
 selector_argument index depth own p ps s = here (nat_lt depth p.depth)
   where
-    here : (b : Bool) → index + 1 + argument_length depth ps ≡ index + (if b || is_selector p.piece then argument_length depth ps + 1 else 0)
+    here : (b : Bool) → index + 1 + argument_length depth ps
+        ≡ index + (if b || is_selector p.piece then argument_length depth ps + 1 else 0)
     here true = omega arith
     here false = rw s (omega arith)
 
 -- a selector that is a number
 number_word : (number word : List ℕ) (index depth own : ℕ) (ps : List Part) → nat_lt depth own ≡ false
-    → behind (index + 1) (branch_place (Word word) depth ps) ≡ behind index (branch_place (Word word) depth (at own (Branch (Exactly number)) ∷ ps))
+    → behind (index + 1) (branch_place (Word word) depth ps)
+    ≡ behind index (branch_place (Word word) depth (at own (Branch (Exactly number)) ∷ ps))
 number_word number word index depth own ps h = rw h (behind_more index (branch_place (Word word) depth ps))
 
 number_place : (number : List ℕ) (index depth own : ℕ) (ps : List Part) → nat_lt depth own ≡ false
@@ -135,7 +234,8 @@ word_place word sought index depth own ps h = rw h (here (bytes_eq word sought))
     here false = behind_more index (branch_place (Word sought) depth ps)
 
 word_number : (word : List ℕ) (index depth own : ℕ) (ps : List Part) → nat_lt depth own ≡ false
-    → behind (index + 1) (branch_place AnyNumber depth ps) ≡ behind index (branch_place AnyNumber depth (at own (Branch (Keyword word)) ∷ ps))
+    → behind (index + 1) (branch_place AnyNumber depth ps)
+    ≡ behind index (branch_place AnyNumber depth (at own (Branch (Keyword word)) ∷ ps))
 word_number word index depth own ps h = rw h (behind_more index (branch_place AnyNumber depth ps))
 
 keyword : (word : List ℕ) (index depth own : ℕ) (ps : List Part) → nat_lt depth own ≡ false

@@ -1,5 +1,6 @@
 -- The check of items from the last to the first.
-use Rattle.std.proofs.Common.{◌≡◌, ◌≢◌, ◌∙◌, ◌+◌, ◌<◌, ◌≤◌, ℕ, List, [], ◌∷◌, refl, ap, sym, subst, arith, true, false, Bool, length, get_or, set, map, None}
+use Rattle.std.proofs.Common.{◌≡◌, ◌≢◌, ◌∙◌, ◌+◌, ◌<◌, ◌≤◌, ℕ, List, [], ◌∷◌, refl, ap, sym, subst, arith, true, false, Bool, length}
+use Rattle.std.proofs.Common.{get_or, set, map, None}
 use Rattle.std.specs.Prelude.{nat_le, nat_lt, nat_eq, not, ◌&&◌, flat_map, if◌then◌else◌}
 use Rattle.std.specs.Cmp.{first_so, second_so}
 use Rattle.std.specs.Cmp.Derive.{both_true}
@@ -27,7 +28,8 @@ least_behind p = here (is_begin p.piece) (is_selector p.piece)
 one_behind : (p : Part) → has_places p.piece ≡ true → depth_behind p ≡ p.depth + 1
 one_behind p h = here p.piece h
   where
-    here : (piece : PatternPiece) → has_places piece ≡ true → (if is_begin piece then p.depth + 1 else if is_selector piece then p.depth + 1 else p.depth) ≡ p.depth + 1
+    here : (piece : PatternPiece) → has_places piece ≡ true
+        → (if is_begin piece then p.depth + 1 else if is_selector piece then p.depth + 1 else p.depth) ≡ p.depth + 1
     here (Text text) e = cc
     here Hash e = cc
     here (Argument name) e = cc
@@ -39,7 +41,8 @@ one_behind p h = here p.piece h
 most_behind : (p q : Part) → may_follow p q ≡ true → depth_behind p ≤ q.depth + 1
 most_behind p q h = here (ends_branch q.piece) h
   where
-    here : (e : Bool) → (if e then nat_eq (q.depth + 1) (depth_behind p) else not (is_begin p.piece) && nat_eq q.depth (depth_behind p)) ≡ true
+    here : (e : Bool) → (if e then nat_eq (q.depth + 1) (depth_behind p) else not (is_begin p.piece) && nat_eq q.depth (depth_behind p))
+        ≡ true
         → depth_behind p ≤ q.depth + 1
     here true g = grind (arith, nat_tests)
     here false g = let s = second_so (not (is_begin p.piece)) (nat_eq q.depth (depth_behind p)) g in grind (arith, nat_tests)
@@ -51,7 +54,8 @@ nothing_follows place before h =
     let z : nat_eq (depth_behind before) 0 ≡ true = grind (arith, nat_tests) in
     rw z refl
 
-pub none_walked : (index : ℕ) (levels : List Ahead) → length levels ≡ 33 → ((depth : ℕ) → depth < 33 → get_or levels depth (ended_at 0) ≡ ended_at index)
+pub none_walked : (index : ℕ) (levels : List Ahead) → length levels ≡ 33
+    → ((depth : ℕ) → depth < 33 → get_or levels depth (ended_at 0) ≡ ended_at index)
     → AreWalked before_all levels index []
 none_walked index levels l all = record {
   packable = refl;
@@ -64,7 +68,8 @@ none_walked index levels l all = record {
 
 -- one item more
 level_passed : (next p : Part) (levels : List Ahead) (index depth : ℕ) (items : List (List ℕ)) (a : Ahead)
-    → AreWalked next levels (index + 1) items → may_follow p next ≡ true → a ≡ get_or levels p.depth (ended_at 0) → p.depth ≤ 32 → depth ≤ p.depth
+    → AreWalked next levels (index + 1) items → may_follow p next ≡ true → a ≡ get_or levels p.depth (ended_at 0)
+    → p.depth ≤ 32 → depth ≤ p.depth
     → get_or (set levels p.depth (passed p.piece index a)) depth (ended_at 0) ≡ ahead_of index depth (p ∷ map part_in items)
 level_passed next p levels index depth items a w follows here deep d = level (nat_lt depth p.depth) refl
   where
@@ -77,7 +82,8 @@ level_passed next p levels index depth items a w follows here deep d = level (na
         let lower : depth < p.depth = grind (arith, nat_tests) in
         let other : depth ≢ p.depth = omega arith in
         let kept : depth ≤ next.depth = omega arith in
-        get_or-set_other levels p.depth depth (passed p.piece index a) (ended_at 0) other ∙ w.ahead depth kept ∙ sym (deeper index depth p ps e)
+        get_or-set_other levels p.depth depth (passed p.piece index a) (ended_at 0) other ∙ w.ahead depth kept
+        ∙ sym (deeper index depth p ps e)
     level false e =
         let ps = map part_in items in
         let most = most_behind p next follows in

@@ -1,11 +1,11 @@
 //! What stands ahead of a place in the parts of a block.
 
 ghost use Rattle.std.specs.Prelude.{◌≡◌, ◌<◌, ◌≤◌, ◌-◌, flat_map};
-ghost use Rattle.message_pattern.specs.PatternParts.{piece_view};
+ghost use Rattle.message_pattern.specs.PatternParts.{Branch, Keyword, piece_view};
 ghost use Rattle.packed_list.specs.ListBytes.{two_bytes};
 ghost use Rattle.packed_part.specs.PartPlaces.{or_place};
 ghost use Rattle.packed_part.specs.Inner.PartViews.{places_view};
-ghost use Rattle.packed_pattern.specs.Inner.PlacesAhead.{ended_at, found_at, passed, places_ahead, plural_ahead};
+ghost use Rattle.packed_pattern.specs.Inner.PlacesAhead.{ended_at, passed, places_ahead, plural_ahead};
 
 use message_pattern::{ArgumentKind, Piece, Selector};
 use packed_part::{PlaceBytes, two_bytes};
@@ -42,37 +42,58 @@ pub(crate) fn ended_at(index: u16) -> Ahead
     }
 }
 
-// The branch of a keyword, which is that of a selector at an index if this is the keyword.
+// What stands ahead from the selector of a keyword at an index on, if that is ahead of it.
 #[inline(always)]
-fn found_at(word: &[u8], sought: &[u8], index: u16, later: u16) -> u16
+fn keyword_passed(word: &[u8], index: u16, ahead: &Ahead) -> Ahead
     requires { index < 65535 }
-    ensures { result ≡ found_at word.now sought.now index later }
+    ensures { result ≡ passed (Branch (Keyword word.now)) index ahead.now }
 {
-    if word == sought { index + 1 } else { later }
+    let ahead = Ahead {
+        branch: index,
+        ..*ahead
+    };
+    match word {
+        b"zero" => Ahead {
+            zero: index + 1,
+            ..ahead
+        },
+        b"one" => Ahead {
+            one: index + 1,
+            ..ahead
+        },
+        b"two" => Ahead {
+            two: index + 1,
+            ..ahead
+        },
+        b"few" => Ahead {
+            few: index + 1,
+            ..ahead
+        },
+        b"many" => Ahead {
+            many: index + 1,
+            ..ahead
+        },
+        b"other" => Ahead {
+            other: index + 1,
+            ..ahead
+        },
+        _ => ahead,
+    }
 }
 
 // What stands ahead from a piece at an index on, if that is ahead of it.
-pub(crate) fn passed(piece: Piece<'_>, index: u16, ahead: Ahead) -> Ahead
+#[inline(always)]
+pub(crate) fn passed(piece: Piece<'_>, index: u16, ahead: &Ahead) -> Ahead
     requires { index < 65535 }
-    ensures { result ≡ passed (piece_view piece.entry) index ahead }
+    ensures { result ≡ passed (piece_view piece.entry) index ahead.now }
 {
     match piece {
         Piece::Branch(Selector::Exactly(_)) => Ahead {
             branch: index,
             number: index + 1,
-            ..ahead
+            ..*ahead
         },
-        Piece::Branch(Selector::Keyword(word)) => Ahead {
-            argument: ahead.argument,
-            branch: index,
-            number: ahead.number,
-            zero: found_at(word, b"zero", index, ahead.zero),
-            one: found_at(word, b"one", index, ahead.one),
-            two: found_at(word, b"two", index, ahead.two),
-            few: found_at(word, b"few", index, ahead.few),
-            many: found_at(word, b"many", index, ahead.many),
-            other: found_at(word, b"other", index, ahead.other),
-        },
+        Piece::Branch(Selector::Keyword(word)) => keyword_passed(word, index, ahead),
         _ => ended_at(index),
     }
 }
@@ -99,8 +120,8 @@ fn or_place(place: usize, other: usize) -> usize
 }
 
 // The places of a plural or an ordinal.
-fn plural_places(start: usize, ahead: Ahead) -> PlaceBytes
-    ensures { places_view result ≡ flat_map two_bytes (plural_ahead start ahead) }
+fn plural_places(start: usize, ahead: &Ahead) -> PlaceBytes
+    ensures { places_view result ≡ flat_map two_bytes (plural_ahead start ahead.now) }
 {
     let last = place_from(start, ahead.other);
     let end = two_bytes(place_from(start, ahead.argument));
@@ -119,8 +140,8 @@ fn plural_places(start: usize, ahead: Ahead) -> PlaceBytes
 
 // The places of a piece that they are ahead of, counted from a start.
 #[inline(always)]
-pub(crate) fn places_ahead(piece: Piece<'_>, start: usize, ahead: Ahead) -> PlaceBytes
-    ensures { places_view result ≡ flat_map two_bytes (places_ahead (piece_view piece.entry) start ahead) }
+pub(crate) fn places_ahead(piece: Piece<'_>, start: usize, ahead: &Ahead) -> PlaceBytes
+    ensures { places_view result ≡ flat_map two_bytes (places_ahead (piece_view piece.entry) start ahead.now) }
 {
     match piece {
         Piece::Begin(ArgumentKind::Select, _, _) => PlaceBytes::of_two(

@@ -1,11 +1,11 @@
 //! A part of a block, with its places.
 
-ghost use Rattle.std.specs.Prelude.{◌≡◌, ◌≤◌, ◌<◌, ℕ, slice_index};
-ghost use Rattle.message_pattern.specs.PatternParts.{part_view};
+ghost use Rattle.std.specs.Prelude.{◌≡◌, ◌≤◌, ◌<◌, ℕ, slice_index, MatchOption};
+ghost use Rattle.message_pattern.specs.PatternParts.{Branch, Selector as SpecSelector, part_view, selector_view};
 ghost use Rattle.packed_list.specs.Inner.ListReading.{numbers};
 
-use message_pattern::Part;
-use packed_part::{part_in, place_count};
+use message_pattern::{Part, Selector};
+use packed_part::{depth_in, is_plural_in, part_in, place_count, selector_in};
 
 /// A part of a packed pattern, and its places: of an argument its length, of a plural then the place
 /// of the first branch by a number, and those of the branches of the categories zero, one, two, few,
@@ -20,6 +20,7 @@ pub struct PlacedPart<'a> {
 }
 
 impl<'a> PlacedPart<'a> {
+    ghost use Rattle.packed_part.specs.Inner.PartReading.{is_plural};
     ghost use Rattle.packed_pattern.specs.Inner.PlaceViews.{placed_view};
 
     /// Returns the part.
@@ -28,6 +29,32 @@ impl<'a> PlacedPart<'a> {
         ensures { part_view result ≡ (placed_view self.now).part }
     {
         part_in(self.item)
+    }
+
+    /// Returns the depth of the part.
+    #[inline(always)]
+    pub fn depth(&self) -> usize
+        ensures { result ≡ (placed_view self.now).part.depth }
+    {
+        depth_in(self.item)
+    }
+
+    /// Returns the selector, if the part is one.
+    #[inline(always)]
+    pub fn selector(&self) -> Option<Selector<'a>>
+        ensures { MatchOption result
+            ((s : SpecSelector) → (placed_view self.now).part.piece ≡ Branch s → ⊥)
+            (λ s. (placed_view self.now).part.piece ≡ Branch (selector_view s)) }
+    {
+        selector_in(self.item)
+    }
+
+    /// Returns whether the part begins a plural or an ordinal.
+    #[inline(always)]
+    pub fn is_plural(&self) -> bool
+        ensures { result ≡ is_plural (placed_view self.now).part.piece }
+    {
+        is_plural_in(self.item)
     }
 
     /// Returns a place, and 0 if there are fewer.

@@ -1,37 +1,33 @@
 //! The check of the items of a block, from the last to the first.
 
 ghost use Rattle.std.specs.Prelude.{◌≡◌, ◌∷◌, ◌+◌, ◌<◌, ◌≤◌, ℕ, [], List, IsTrue, drop, length};
-ghost use Rattle.message_pattern.specs.PatternParts.{part_view};
-ghost use Rattle.packed_part.specs.Inner.PartReading.{IsBlock};
+ghost use Rattle.packed_part.specs.Inner.PartReading.{IsBlock, part_in};
 ghost use Rattle.packed_pattern.specs.Inner.PlacesAhead.{AreWalked};
 
 use crate::ahead::{Ahead, ended_at, passed, places_ahead};
-use message_pattern::{DEPTH_LIMIT, Part, Piece};
+use message_pattern::DEPTH_LIMIT;
 use packed_list::PackedList;
-use packed_part::{is_item_of, is_packable, may_follow, part_in};
+use packed_part::{is_item_with, is_packable, may_follow, part_in};
 
 // How many depths there are.
 const DEPTHS: usize = DEPTH_LIMIT + 1;
 
-// What stands outside all arguments.
-const OUTSIDE: Part<'static> = Part {
-    depth: 0,
-    piece: Piece::Text(b""),
-};
+// The item of what stands outside all arguments, of an empty text.
+const OUTSIDE: &[u8] = &[0, 0];
 
-// The first of the parts that were looked at, and what stands ahead from it on, at each depth up to
+// The item of the first part that was looked at, and what stands ahead from it on, at each depth up to
 // its own.
 #[derive(Drop)]
 struct Walk<'a> {
-    next: Part<'a>,
+    next: &'a [u8],
     levels: [Ahead; DEPTHS],
-    ghost few: { next.depth ≤ 32 },
+    ghost few: { (part_in next.now).depth ≤ 32 },
 }
 
 impl<'a> Walk<'a> {
     // No parts, at an index.
     fn at_end(index: u16) -> Walk<'a>
-        ensures { AreWalked (part_view result.next) result.levels index [] }
+        ensures { AreWalked (part_in result.next.now) result.levels index [] }
     {
         Walk {
             next: OUTSIDE,
@@ -43,23 +39,23 @@ impl<'a> Walk<'a> {
     // a part that may stand there, with its places.
     fn take(&mut self, item: &'a [u8], index: usize) -> bool
         requires { index < 65535 }
-        ensures { (items : List (List ℕ)) → AreWalked (part_view self.old.next) self.old.levels (index + 1) items → IsTrue result
-            → AreWalked (part_view self.new.next) self.new.levels index (item.now ∷ items) }
+        ensures { (items : List (List ℕ)) → AreWalked (part_in self.old.next.now) self.old.levels (index + 1) items → IsTrue result
+            → AreWalked (part_in self.new.next.now) self.new.levels index (item.now ∷ items) }
     {
         let part = part_in(item);
         if !is_packable(part) {
             return false;
         }
-        if !may_follow(part, self.next) {
+        if !may_follow(part, part_in(self.next)) {
             return false;
         }
-        let ahead = self.levels[part.depth];
+        let ahead = &self.levels[part.depth];
         let places = places_ahead(part.piece, index + 1, ahead);
-        if !is_item_of(item, part, places.as_slice()) {
+        if !is_item_with(item, places.as_slice()) {
             return false;
         }
         self.levels[part.depth] = passed(part.piece, index as u16, ahead);
-        self.next = part;
+        self.next = item;
         true
     }
 }
@@ -80,5 +76,5 @@ pub(crate) fn is_block(list: &PackedList<'_>) -> bool
             return false;
         }
     }
-    may_follow(OUTSIDE, walk.next)
+    may_follow(part_in(OUTSIDE), part_in(walk.next))
 }

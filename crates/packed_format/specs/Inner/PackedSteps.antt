@@ -1,7 +1,7 @@
 -- Steps from a part of a block to what stands behind it.
-use Rattle.std.specs.Prelude.{◌≡◌, ◌+◌, ◌<◌, ◌≤◌, ℕ, List, [], ◌∷◌, drop, nat_eq, Bool, true, false, if◌then◌else◌, Option, Some, None}
-use Rattle.message_pattern.specs.declared.part.ArgumentKind.TheVariants.{Plural, Ordinal}
-use Rattle.message_pattern.specs.PatternParts.{Part, PatternPiece, Begin, Branch, Exactly, Keyword, Branching, branches_of}
+use Rattle.std.specs.Prelude.{◌≡◌, ◌+◌, ◌<◌, ◌≤◌, ℕ, List, [], ◌∷◌, drop, nat_eq, Bool, true, if◌then◌else◌, Option, Some, None}
+use Rattle.message_pattern.specs.PatternParts.{Part, PatternPiece, Branch, Exactly, Keyword, Branching, branches_of}
+use Rattle.packed_pattern.specs.Inner.PartReading.{is_plural}
 
 -- the branches by a number
 abbrev pub numbers_of : List Branching → List Branching
@@ -21,12 +21,6 @@ abbrev pub AreNext : ℕ → List Part → ℕ → Option ℕ → Type 0
 AreNext depth parts index None = numbers_from depth parts (index + 1) ≡ []
 AreNext depth parts index (Some at) =
     (index < at) × (at ≤ index + 65536) × (numbers_from depth parts at ≡ numbers_from depth parts (index + 1))
-
--- a plural or an ordinal begins
-abbrev pub is_plural : PatternPiece → Bool
-is_plural (Begin Plural name offset) = true
-is_plural (Begin Ordinal name offset) = true
-is_plural _ = false
 
 -- a part has the place of the first branch by a number, or of the next
 abbrev pub has_next_number : PatternPiece → Bool

@@ -1,6 +1,6 @@
 -- The part that an item holds, for the view of a block and what reads items. Not a definition of the
 -- subject.
-use Rattle.std.specs.Prelude.{◌≡◌, ℕ, ◌*◌, ◌==◌, List, [], ◌∷◌, map, take, drop, IsTrue, Option, Some, None, if◌then◌else◌}
+use Rattle.std.specs.Prelude.{◌≡◌, ℕ, ◌*◌, ◌==◌, List, [], ◌∷◌, map, take, drop, Bool, true, false, IsTrue, Option, Some, None, if◌then◌else◌}
 use Rattle.std.specs.List.{list_all}
 use Rattle.packed_list.specs.Inner.ListReading.{items_in, numbers}
 use Rattle.message_pattern.specs.declared.part.ArgumentKind.{ArgumentKind}
@@ -52,6 +52,12 @@ piece_in tag own =
 abbrev pub part_in : List ℕ → Part
 part_in (tag ∷ depth ∷ content) = record { depth = depth; piece = piece_in tag (drop (place_room tag) content) }
 part_in _ = record { depth = 0; piece = End }
+
+-- a plural or an ordinal begins
+abbrev pub is_plural : PatternPiece → Bool
+is_plural (Begin Plural name offset) = true
+is_plural (Begin Ordinal name offset) = true
+is_plural _ = false
 
 -- the parts that bytes hold, if they are a block
 abbrev pub parts_in : List ℕ → List Part

@@ -2,7 +2,8 @@ use Rattle.std.proofs.Common.{subst, sym, ◌∙◌}
 use Rattle.message_catalog.specs.declared.error.PackMessagesError.{PackMessagesError}
 use Rattle.message_catalog.specs.declared.error.PackMessagesError.TheVariants as packing
 use Rattle.message_catalog.specs.Inner.PackedViews.{IsThis, TellsText}
-use Rattle.message_catalog.proofs.PackingFaults.{TellsParts, parts_are_exact, parts_exact, parts_fault, parts_refused, parts_told, text_exact}
+use Rattle.message_catalog.proofs.PackingFaults.{TellsParts, parts_are_exact, parts_exact, parts_fault, parts_refused, parts_told}
+use Rattle.message_catalog.proofs.PackingFaults.{text_exact}
 use Rattle.message_catalog.proofs.packing.block_of.Goals as goal
 
 pub returns-clause-exact : goal.returns-clause-exact
@@ -26,7 +27,8 @@ returns-clause-refused c =
       start_limit = c.pack.ensures.start_limit;
     } in
     subst (λ (e : PackMessagesError). TellsText c.args.index c.args.text.now e) (sym c.parts_error.ensures)
-    (parts_told c.args.index c.args.text.now c.in-Ok.pattern c.in-Err-pack.error c.in-Ok.ensures.only (parts_refused c.pack.result c.in-Ok.pattern told c.in-Err-pack.error c.in-Err-pack.is))
+    (parts_told c.args.index c.args.text.now c.in-Ok.pattern c.in-Err-pack.error c.in-Ok.ensures.only
+    (parts_refused c.pack.result c.in-Ok.pattern told c.in-Err-pack.error c.in-Err-pack.is))
 
 pub returns-in-Err-clause-exact : goal.returns-in-Err-clause-exact
 returns-in-Err-clause-exact c =

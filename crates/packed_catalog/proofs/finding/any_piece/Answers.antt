@@ -2,7 +2,8 @@ use Rattle.std.proofs.Common.{arith, ◌+◌, ◌≡◌, suc, ap, length}
 use Rattle.packed_catalog.specs.CatalogFaults.{start_of}
 use Rattle.packed_catalog.proofs.BlockBytes.{starts_within}
 use Rattle.packed_catalog.proofs.finding.any_piece.Goals as goal
-use Rattle.packed_catalog.proofs.finding.any_piece.Goals.{then-start-end-via-then-start-end, then-start-end-via-else-start-end+then-end-content}
+use Rattle.packed_catalog.proofs.finding.any_piece.Goals.{then-start-end-via-then-start-end}
+use Rattle.packed_catalog.proofs.finding.any_piece.Goals.{then-start-end-via-else-start-end+then-end-content}
 
 pub returns-then-start-end : goal.returns-then-start-end
 returns-then-start-end c = λ ends.
@@ -13,7 +14,8 @@ returns-then-start-end c = λ ends.
     let within = starts_within bytes ends (suc k) (omega (arith, c.requires.within)) in
     let rises = ends.rises k c.requires.within in
     elim c.then-start-end.branch [
-      | then-start-end-via-then-start-end w ↦ absurd (omega (arith, w.if-start-end.true, c.start_of-start.ensures, c.start_of-end.ensures, end, rises))
+      | then-start-end-via-then-start-end w ↦ absurd
+          (omega (arith, w.if-start-end.true, c.start_of-start.ensures, c.start_of-end.ensures, end, rises))
       | then-start-end-via-else-start-end+then-end-content w ↦
           absurd (omega (arith, w.if-end-content.true, c.start_of-end.ensures, end, within, ap length c.requires.content))
     ]

@@ -4,7 +4,8 @@ use Rattle.packed_catalog.specs.CatalogFaults.{piece_in}
 use Rattle.packed_catalog.proofs.KeysFound.{found_at, not_found_at, told_other, told_same}
 use Rattle.packed_catalog.proofs.OneBlock.{encoded_block, entries_in_one}
 use Rattle.packed_catalog.proofs.finding.find_value.Goals as goal
-use Rattle.packed_catalog.proofs.finding.find_value.Goals.{then-index-count-via-then-index-count, then-index-count-via-else-index-count+then-ne}
+use Rattle.packed_catalog.proofs.finding.find_value.Goals.{then-index-count-via-then-index-count}
+use Rattle.packed_catalog.proofs.finding.find_value.Goals.{then-index-count-via-else-index-count+then-ne}
 
 pub returns-in_default : goal.returns-in_default
 returns-in_default c = λ entries h.

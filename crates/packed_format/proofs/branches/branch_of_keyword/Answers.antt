@@ -7,13 +7,12 @@ use Rattle.packed_format.proofs.PlacesRead.{within}
 use Rattle.packed_format.proofs.Walked.{deeper_there, selector_there, none_there, no_keyword}
 use Rattle.packed_format.proofs.branches.branch_of_keyword.Goals as goal
 
-pub returns-in_default-piece : goal.returns-in_default-piece
-returns-in_default-piece c = record {
-  branch = sym (ap (branch_of_keyword c.args.word.now)
-      (none_there (placed_view c.in-Some.placed) c.args.pattern.now c.loop-placed.at c.part-part.result c.in-Some.ensures c.part-part.ensures c.args.depth c.if-part-depth.true c.in_default-piece.not-Branch))
-      ∙ c.loop-placed.invariant.same;
-  behind = tt;
-}
+pub returns-in_default-selector-clause-branch : goal.returns-in_default-selector-clause-branch
+returns-in_default-selector-clause-branch c =
+    sym (ap (branch_of_keyword c.args.word.now)
+    (none_there (placed_view c.in-Some.placed) c.args.pattern.now c.loop-placed.at c.in-Some.ensures c.depth.result c.depth.ensures
+    c.args.depth c.if-depth.true c.in_default-selector.ensures))
+    ∙ c.loop-placed.invariant.same
 
 pub overflow_add-result : goal.overflow_add-result
 overflow_add-result c =
@@ -23,10 +22,13 @@ overflow_add-result c =
 pub returns-then-eq-clause-branch : goal.returns-then-eq-clause-branch
 returns-then-eq-clause-branch c =
     let bs = branches_of c.args.depth (drop (c.loop-placed.at + 1) c.args.pattern.now) in
-    let there = selector_there (placed_view c.in-Some.placed) c.args.pattern.now c.loop-placed.at c.part-part.result c.in-Some.ensures c.part-part.ensures c.args.depth c.in-Branch.selector c.if-part-depth.true c.in-Branch.is in
+    let there = selector_there (placed_view c.in-Some.placed) c.args.pattern.now c.loop-placed.at c.in-Some.ensures c.depth.result c.depth.ensures
+    c.args.depth (selector_view c.in-Some-selector.selector) c.if-depth.true c.in-Some-selector.ensures in
     let same : bytes_eq c.in-Keyword.other.now c.args.word.now ≡ true = sym c.eq.ensures ∙ c.if-eq.true in
     let found : Some (drop (c.loop-placed.at + 1) c.args.pattern.now)
-    ≡ branch_of_keyword c.args.word.now (record { selector = selector_view c.in-Branch.selector; parts = drop (c.loop-placed.at + 1) c.args.pattern.now } ∷ bs) = rw (c.in-Keyword.is, same) refl in
+    ≡ branch_of_keyword c.args.word.now
+    (record { selector = selector_view c.in-Some-selector.selector; parts = drop (c.loop-placed.at + 1) c.args.pattern.now } ∷ bs) =
+    rw (c.in-Keyword.is, same) refl in
     found ∙ (sym (ap (branch_of_keyword c.args.word.now) there) ∙ c.loop-placed.invariant.same)
 
 pub next_selector-at-requires : goal.next_selector-at-requires
@@ -39,8 +41,8 @@ loop-placed-smaller-else-eq c =
     let there = within (placed_view c.in-Some.placed) c.args.pattern.now c.loop-placed.at c.in-Some.ensures in
     omega (arith, there, c.next_selector-at.ensures.behind)
 
-pub loop-placed-smaller-in_default-selector : goal.loop-placed-smaller-in_default-selector
-loop-placed-smaller-in_default-selector c =
+pub loop-placed-smaller-in_default-selector-2 : goal.loop-placed-smaller-in_default-selector-2
+loop-placed-smaller-in_default-selector-2 c =
     let there = within (placed_view c.in-Some.placed) c.args.pattern.now c.loop-placed.at c.in-Some.ensures in
     omega (arith, there, c.next_selector-at.ensures.behind)
 
@@ -56,7 +58,8 @@ loop-placed-preserved-else-eq c =
     let placed = (placed_view c.in-Some.placed) in
     let next = c.next_selector-at.ensures.branches c.args.pattern.now c.in-Some.ensures in
     let passed : branch_of_keyword word (branches_of c.args.depth (drop c.loop-placed.at c.args.pattern.now)) ≡ branch_of_keyword word bs =
-    let there = selector_there placed c.args.pattern.now c.loop-placed.at c.part-part.result c.in-Some.ensures c.part-part.ensures c.args.depth c.in-Branch.selector c.if-part-depth.true c.in-Branch.is in
+    let there = selector_there placed c.args.pattern.now c.loop-placed.at c.in-Some.ensures c.depth.result c.depth.ensures
+    c.args.depth (selector_view c.in-Some-selector.selector) c.if-depth.true c.in-Some-selector.ensures in
     let other : bytes_eq c.in-Keyword.other.now word ≡ false = sym c.eq.ensures ∙ c.if-eq.false in
     ap (branch_of_keyword word) there ∙ rw (c.in-Keyword.is, other) refl
     in
@@ -65,15 +68,17 @@ loop-placed-preserved-else-eq c =
       behind = omega (arith, c.loop-placed.invariant.behind, c.next_selector-at.ensures.behind);
     }
 
-pub loop-placed-preserved-in_default-selector : goal.loop-placed-preserved-in_default-selector
-loop-placed-preserved-in_default-selector c =
+pub loop-placed-preserved-in_default-selector-2 : goal.loop-placed-preserved-in_default-selector-2
+loop-placed-preserved-in_default-selector-2 c =
     let word = c.args.word.now in
     let bs = branches_of c.args.depth (drop (c.loop-placed.at + 1) c.args.pattern.now) in
     let placed = (placed_view c.in-Some.placed) in
     let next = c.next_selector-at.ensures.branches c.args.pattern.now c.in-Some.ensures in
     let passed : branch_of_keyword word (branches_of c.args.depth (drop c.loop-placed.at c.args.pattern.now)) ≡ branch_of_keyword word bs =
-    let there = selector_there placed c.args.pattern.now c.loop-placed.at c.part-part.result c.in-Some.ensures c.part-part.ensures c.args.depth c.in-Branch.selector c.if-part-depth.true c.in-Branch.is in
-    let other : is_keyword word (selector_view c.in-Branch.selector) ≡ false = no_keyword word c.in-Branch.selector c.in_default-selector.not-Keyword in
+    let there = selector_there placed c.args.pattern.now c.loop-placed.at c.in-Some.ensures c.depth.result c.depth.ensures
+    c.args.depth (selector_view c.in-Some-selector.selector) c.if-depth.true c.in-Some-selector.ensures in
+    let other : is_keyword word (selector_view c.in-Some-selector.selector) ≡ false =
+    no_keyword word c.in-Some-selector.selector c.in_default-selector-2.not-Keyword in
     ap (branch_of_keyword word) there ∙ rw other refl
     in
     record {
@@ -88,7 +93,8 @@ loop-placed-preserved c =
     let placed = (placed_view c.in-Some.placed) in
     let next = c.next_selector-at.ensures.branches c.args.pattern.now c.in-Some.ensures in
     let passed : branch_of_keyword word (branches_of c.args.depth (drop c.loop-placed.at c.args.pattern.now)) ≡ branch_of_keyword word bs =
-    ap (branch_of_keyword word) (deeper_there placed c.args.pattern.now c.loop-placed.at c.part-part.result c.in-Some.ensures c.part-part.ensures c.args.depth c.if-part-depth.false)
+    ap (branch_of_keyword word) (deeper_there placed c.args.pattern.now c.loop-placed.at c.in-Some.ensures c.depth.result
+    c.depth.ensures c.args.depth c.if-depth.false)
     in
     record {
       same = ap (branch_of_keyword word) next ∙ (sym passed ∙ c.loop-placed.invariant.same);
@@ -97,4 +103,5 @@ loop-placed-preserved c =
 
 pub returns-clause-branch : goal.returns-clause-branch
 returns-clause-branch c =
-    sym (ap (λ ps. branch_of_keyword c.args.word.now (branches_of c.args.depth ps)) (no_place c.args.pattern.now c.loop-placed.at c.in_default.ensures)) ∙ c.loop-placed.invariant.same
+    sym (ap (λ ps. branch_of_keyword c.args.word.now (branches_of c.args.depth ps))
+    (no_place c.args.pattern.now c.loop-placed.at c.in_default.ensures)) ∙ c.loop-placed.invariant.same

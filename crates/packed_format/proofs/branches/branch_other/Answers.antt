@@ -13,5 +13,6 @@ returns-in-Begin-Select-default-default-clause-branch c =
     let begins : piece_view c.part-part.result.piece ≡ Begin Select b.field-1.now (offset_view b.field-2) =
     rw b.is (ap (λ (k : ArgumentKind). Begin k b.field-1.now (offset_view b.field-2)) kind) in
     c.place_behind.ensures.parts
-    ∙ other_there (placed_view c.args.begin.now) c.args.pattern.now c.args.index c.place.result b.field-1.now (offset_view b.field-2) c.requires.placed
+    ∙ other_there (placed_view c.args.begin.now) c.args.pattern.now c.args.index c.place.result b.field-1.now
+    (offset_view b.field-2) c.requires.placed
     (sym (ap (λ (p : Part). p.piece) c.part-part.ensures) ∙ begins) c.place.ensures.place

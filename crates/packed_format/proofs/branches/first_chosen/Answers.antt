@@ -1,4 +1,4 @@
-use Rattle.std.proofs.Common.{◌≡◌, ◌+◌, ◌<◌, ℕ, List, drop, length, refl, sym, ap, subst, inl, inr, arith, true, false, Option, Some, None}
+use Rattle.std.proofs.Common.{◌≡◌, ◌+◌, ◌<◌, ℕ, List, drop, length, refl, sym, subst, inl, inr, arith, true, false, Option, Some, None}
 use Rattle.message_pattern.specs.PatternParts.{Part, Branching, branches_of, selector_view}
 use Rattle.message_format.specs.FormatParts.{IsFirst}
 use Rattle.packed_pattern.specs.Inner.PlaceViews.{placed_view}
@@ -11,7 +11,7 @@ use Rattle.packed_format.proofs.branches.first_chosen.Goals as goal
 pub loop-next-init : goal.loop-next-init
 loop-next-init g c =
     let P = g.C.Chooser.IsChosen c.args.chooser.now in
-    let depth = c.part-depth.result.depth in
+    let depth = c.depth-depth.result in
     let next = c.next_number-next.ensures c.args.pattern.now c.requires.placed in
     record {
       passed = λ found k. first_behind P c.requires.numbers depth c.args.pattern.now c.args.index c.next_number-next.result found next k;
@@ -22,24 +22,22 @@ pub returns-in_default-placed-clause-first : goal.returns-in_default-placed-clau
 returns-in_default-placed-clause-first g c =
     let P = g.C.Chooser.IsChosen c.args.chooser.now in
     let ps = c.args.pattern.now in
-    let depth = c.part-depth.result.depth in
+    let depth = c.depth-depth.result in
     let none = no_place ps c.in-Some.at c.in_default-placed.ensures in
     let here = subst (λ (l : List Part). IsFirst P (branches_of depth l) None) (sym none) refl in
-    subst (λ (d : ℕ). IsFirst P (branches_of d (drop (c.args.index + 1) ps)) None) (ap (λ (p : Part). p.depth) c.part-depth.ensures)
+    subst (λ (d : ℕ). IsFirst P (branches_of d (drop (c.args.index + 1) ps)) None) c.depth-depth.ensures
     (c.loop-next.invariant.passed None (rw c.in-Some.is here))
 
-pub returns-in_default-piece : goal.returns-in_default-piece
-returns-in_default-piece g c =
+pub returns-in_default-selector-clause-first : goal.returns-in_default-selector-clause-first
+returns-in_default-selector-clause-first g c =
     let P = g.C.Chooser.IsChosen c.args.chooser.now in
     let ps = c.args.pattern.now in
-    let depth = c.part-depth.result.depth in
-    let none = none_there (placed_view c.in-Some-placed.placed) ps c.in-Some.at c.part-part.result c.in-Some-placed.ensures c.part-part.ensures depth c.if-part-depth.true c.in_default-piece.not-Branch in
+    let depth = c.depth-depth.result in
+    let none = none_there (placed_view c.in-Some-placed.placed) ps c.in-Some.at c.in-Some-placed.ensures c.depth.result c.depth.ensures
+    depth c.if-depth.true c.in_default-selector.ensures in
     let here = subst (λ (bs : List Branching). IsFirst P bs None) (sym none) refl in
-    record {
-      first = subst (λ (d : ℕ). IsFirst P (branches_of d (drop (c.args.index + 1) ps)) None) (ap (λ (p : Part). p.depth) c.part-depth.ensures)
-          (c.loop-next.invariant.passed None (rw c.in-Some.is here));
-      behind = tt;
-    }
+    subst (λ (d : ℕ). IsFirst P (branches_of d (drop (c.args.index + 1) ps)) None) c.depth-depth.ensures
+    (c.loop-next.invariant.passed None (rw c.in-Some.is here))
 
 pub overflow_add-result : goal.overflow_add-result
 overflow_add-result g c =
@@ -50,11 +48,12 @@ pub returns-then-chosen-clause-first : goal.returns-then-chosen-clause-first
 returns-then-chosen-clause-first g c =
     let P = g.C.Chooser.IsChosen c.args.chooser.now in
     let ps = c.args.pattern.now in
-    let depth = c.part-depth.result.depth in
+    let depth = c.depth-depth.result in
     let found = drop (c.in-Some.at + 1) ps in
-    let there = selector_there (placed_view c.in-Some-placed.placed) ps c.in-Some.at c.part-part.result c.in-Some-placed.ensures c.part-part.ensures depth c.in-Branch.selector c.if-part-depth.true c.in-Branch.is in
+    let there = selector_there (placed_view c.in-Some-placed.placed) ps c.in-Some.at c.in-Some-placed.ensures c.depth.result
+    c.depth.ensures depth (selector_view c.in-Some-selector.selector) c.if-depth.true c.in-Some-selector.ensures in
     let here = subst (λ (bs : List Branching). IsFirst P bs (Some found)) (sym there) (inl (c.in-Ok.ensures.0 c.if-chosen.true, refl)) in
-    subst (λ (d : ℕ). IsFirst P (branches_of d (drop (c.args.index + 1) ps)) (Some found)) (ap (λ (p : Part). p.depth) c.part-depth.ensures)
+    subst (λ (d : ℕ). IsFirst P (branches_of d (drop (c.args.index + 1) ps)) (Some found)) c.depth-depth.ensures
     (c.loop-next.invariant.passed (Some found) (rw c.in-Some.is here))
 
 pub next_number-next-requires-in-Some : goal.next_number-next-requires-in-Some
@@ -67,7 +66,8 @@ loop-next-smaller-else-chosen g c =
     let ps = c.args.pattern.now in
     let there = within (placed_view c.in-Some-placed.placed) ps c.in-Some.at c.in-Some-placed.ensures in
     let next = c.next_number-next-in-Some.ensures ps c.in-Some-placed.ensures in
-    let less = fewer_left (length ps) c.in-Some.at c.next_number-next-in-Some.result there (next_behind c.part-depth.result.depth ps c.in-Some.at c.next_number-next-in-Some.result next) in
+    let less = fewer_left (length ps) c.in-Some.at c.next_number-next-in-Some.result there
+    (next_behind c.depth-depth.result ps c.in-Some.at c.next_number-next-in-Some.result next) in
     subst (λ (n : Option ℕ). left_from (length ps) c.next_number-next-in-Some.result < left_from (length ps) n) (sym c.in-Some.is) less
 
 pub loop-next-smaller : goal.loop-next-smaller
@@ -75,20 +75,23 @@ loop-next-smaller g c =
     let ps = c.args.pattern.now in
     let there = within (placed_view c.in-Some-placed.placed) ps c.in-Some.at c.in-Some-placed.ensures in
     let next = c.next_number-next-in-Some.ensures ps c.in-Some-placed.ensures in
-    let less = fewer_left (length ps) c.in-Some.at c.next_number-next-in-Some.result there (next_behind c.part-depth.result.depth ps c.in-Some.at c.next_number-next-in-Some.result next) in
+    let less = fewer_left (length ps) c.in-Some.at c.next_number-next-in-Some.result there
+    (next_behind c.depth-depth.result ps c.in-Some.at c.next_number-next-in-Some.result next) in
     subst (λ (n : Option ℕ). left_from (length ps) c.next_number-next-in-Some.result < left_from (length ps) n) (sym c.in-Some.is) less
 
 pub loop-next-preserved-else-chosen : goal.loop-next-preserved-else-chosen
 loop-next-preserved-else-chosen g c =
     let P = g.C.Chooser.IsChosen c.args.chooser.now in
     let ps = c.args.pattern.now in
-    let depth = c.part-depth.result.depth in
+    let depth = c.depth-depth.result in
     let at = c.in-Some.at in
     let placed = (placed_view c.in-Some-placed.placed) in
     let next = c.next_number-next-in-Some.ensures ps c.in-Some-placed.ensures in
-    let passed : (found : Option (List Part)) → IsFirst P (branches_of depth (drop (at + 1) ps)) found → IsFirst P (branches_of depth (drop at ps)) found = λ found k.
-    let there = selector_there placed ps at c.part-part.result c.in-Some-placed.ensures c.part-part.ensures depth c.in-Branch.selector c.if-part-depth.true c.in-Branch.is in
-    let other : P (selector_view c.in-Branch.selector) → ⊥ = λ e.
+    let passed : (found : Option (List Part)) → IsFirst P (branches_of depth (drop (at + 1) ps)) found
+    → IsFirst P (branches_of depth (drop at ps)) found = λ found k.
+    let there = selector_there placed ps at c.in-Some-placed.ensures c.depth.result c.depth.ensures depth
+    (selector_view c.in-Some-selector.selector) c.if-depth.true c.in-Some-selector.ensures in
+    let other : P (selector_view c.in-Some-selector.selector) → ⊥ = λ e.
     let yes : c.in-Ok.chosen ≡ true = c.in-Ok.ensures.1 e in
     let not : c.in-Ok.chosen ≡ false = c.if-chosen.false in
     cc in
@@ -96,23 +99,29 @@ loop-next-preserved-else-chosen g c =
     in
     let behind : c.args.index < at = rw c.in-Some.is at c.loop-next.invariant.behind in
     record {
-      passed = λ found k. c.loop-next.invariant.passed found (rw c.in-Some.is (passed found (first_behind P c.requires.numbers depth ps at c.next_number-next-in-Some.result found next k)));
-      behind = further c.args.index at c.next_number-next-in-Some.result behind (next_behind depth ps at c.next_number-next-in-Some.result next);
+      passed = λ found k. c.loop-next.invariant.passed found
+          (rw c.in-Some.is (passed found (first_behind P c.requires.numbers depth ps at c.next_number-next-in-Some.result found next k)));
+      behind = further c.args.index at c.next_number-next-in-Some.result behind
+          (next_behind depth ps at c.next_number-next-in-Some.result next);
     }
 
 pub loop-next-preserved : goal.loop-next-preserved
 loop-next-preserved g c =
     let P = g.C.Chooser.IsChosen c.args.chooser.now in
     let ps = c.args.pattern.now in
-    let depth = c.part-depth.result.depth in
+    let depth = c.depth-depth.result in
     let at = c.in-Some.at in
     let placed = (placed_view c.in-Some-placed.placed) in
     let next = c.next_number-next-in-Some.ensures ps c.in-Some-placed.ensures in
-    let passed : (found : Option (List Part)) → IsFirst P (branches_of depth (drop (at + 1) ps)) found → IsFirst P (branches_of depth (drop at ps)) found = λ found k.
-    subst (λ (bs : List Branching). IsFirst P bs found) (sym (deeper_there placed ps at c.part-part.result c.in-Some-placed.ensures c.part-part.ensures depth c.if-part-depth.false)) k
+    let passed : (found : Option (List Part)) → IsFirst P (branches_of depth (drop (at + 1) ps)) found
+    → IsFirst P (branches_of depth (drop at ps)) found = λ found k.
+    subst (λ (bs : List Branching). IsFirst P bs found)
+    (sym (deeper_there placed ps at c.in-Some-placed.ensures c.depth.result c.depth.ensures depth c.if-depth.false)) k
     in
     let behind : c.args.index < at = rw c.in-Some.is at c.loop-next.invariant.behind in
     record {
-      passed = λ found k. c.loop-next.invariant.passed found (rw c.in-Some.is (passed found (first_behind P c.requires.numbers depth ps at c.next_number-next-in-Some.result found next k)));
-      behind = further c.args.index at c.next_number-next-in-Some.result behind (next_behind depth ps at c.next_number-next-in-Some.result next);
+      passed = λ found k. c.loop-next.invariant.passed found
+          (rw c.in-Some.is (passed found (first_behind P c.requires.numbers depth ps at c.next_number-next-in-Some.result found next k)));
+      behind = further c.args.index at c.next_number-next-in-Some.result behind
+          (next_behind depth ps at c.next_number-next-in-Some.result next);
     }

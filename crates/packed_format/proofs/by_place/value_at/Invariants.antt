@@ -5,7 +5,8 @@ use Rattle.packed_format.proofs.by_place.value_at.Given as goal
 
 -- the value is that among those that are left
 abbrev pub invariant-names : goal.invariant-names
-invariant-names l = value_named l.name (at_places (names_view l.left) (values_view l.others)) ≡ value_named l.name (at_places (names_view l.names) (values_view l.values))
+invariant-names l = value_named l.name (at_places (names_view l.left) (values_view l.others))
+    ≡ value_named l.name (at_places (names_view l.names) (values_view l.values))
 
 abbrev pub decreases-names : goal.decreases-names
 decreases-names l = length l.left

@@ -24,11 +24,13 @@ first_misplaced-requires c κs = (
 pub returns-in-Err-CountLimit-clause-count_limit : goal.returns-in-Err-CountLimit-clause-count_limit
 returns-in-Err-CountLimit-clause-count_limit c =
     let parts = c.parts-parts.result.now in
-    let many : 65535 < length (items_of (parts_view parts)) = c.in-Err-CountLimit.ensures.count_limit.0 (ap Err c.in-Err-CountLimit.field-0-is) in
+    let many : 65535 < length (items_of (parts_view parts)) =
+    c.in-Err-CountLimit.ensures.count_limit.0 (ap Err c.in-Err-CountLimit.field-0-is) in
     absurd (omega (arith, length-items_of (parts_view parts), length-map parts part_view))
 
 pub returns-in-Err-CountLimit-clause-start_limit : goal.returns-in-Err-CountLimit-clause-start_limit
 returns-in-Err-CountLimit-clause-start_limit c =
     let parts = c.parts-parts.result.now in
-    let many : 65535 < length (items_of (parts_view parts)) = c.in-Err-CountLimit.ensures.count_limit.0 (ap Err c.in-Err-CountLimit.field-0-is) in
+    let many : 65535 < length (items_of (parts_view parts)) =
+    c.in-Err-CountLimit.ensures.count_limit.0 (ap Err c.in-Err-CountLimit.field-0-is) in
     absurd (omega (arith, length-items_of (parts_view parts), length-map parts part_view))

@@ -36,7 +36,8 @@ pub invariant_of-result : goal.invariant_of-result
 invariant_of-result c =
     let bytes = c.args.bytes.now in
     let n = c.in-Some.ensures.value in
-    let starts : start_of bytes (2 * c.in-Some.count) ≡ length c.data-content.result.now = sym c.start_of.ensures ∙ c.if-start_of-content.false in
+    let starts : start_of bytes (2 * c.in-Some.count) ≡ length c.data-content.result.now =
+    sym c.start_of.ensures ∙ c.if-start_of-content.false in
     let block : IsBlock bytes = record {
       ends = record {
         data_is = record {

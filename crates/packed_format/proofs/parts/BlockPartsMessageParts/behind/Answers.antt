@@ -14,7 +14,8 @@ returns-in_default c =
 pub returns-clause-end : goal.returns-clause-end
 returns-clause-end c =
     rw (c.at.ensures.next, c.at.ensures.pattern)
-    (behind_argument (placed_view c.in-Some.begin) c.args.self.pattern.now c.args.self.next c.place-length.result c.args.self.ordered c.in-Some.ensures c.requires.begun c.place-length.ensures.place)
+    (behind_argument (placed_view c.in-Some.begin) c.args.self.pattern.now c.args.self.next c.place-length.result c.args.self.ordered
+    c.in-Some.ensures c.requires.begun c.place-length.ensures.place)
 
 pub returns-clause-fewer : goal.returns-clause-fewer
 returns-clause-fewer c =

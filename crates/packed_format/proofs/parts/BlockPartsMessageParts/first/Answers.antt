@@ -1,5 +1,4 @@
-use Rattle.std.proofs.Common.{◌<◌, length, ap, arith}
-use Rattle.message_pattern.specs.PatternParts.{part_view}
+use Rattle.std.proofs.Common.{arith}
 use Rattle.packed_pattern.specs.Inner.PlaceViews.{placed_view}
 use Rattle.packed_format.proofs.BehindParts.{from_place, no_place}
 use Rattle.packed_format.proofs.PlacesRead.{within}
@@ -15,4 +14,5 @@ overflow_add-self c =
 
 pub returns-in-Some : goal.returns-in-Some
 returns-in-Some c =
-    rw (c.part.ensures, c.at-rest.ensures.next, c.at-rest.ensures.pattern) (from_place c.args.self.pattern.now c.args.self.next (placed_view c.in-Some.placed).part c.in-Some.ensures.part)
+    rw (c.part.ensures, c.at-rest.ensures.next, c.at-rest.ensures.pattern)
+    (from_place c.args.self.pattern.now c.args.self.next (placed_view c.in-Some.placed).part c.in-Some.ensures.part)

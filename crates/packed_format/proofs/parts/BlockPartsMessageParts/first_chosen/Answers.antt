@@ -9,10 +9,12 @@ use Rattle.packed_format.proofs.parts.BlockPartsMessageParts.first_chosen.Goals 
 
 pub returns-in_default-clause-first : goal.returns-in_default-clause-first
 returns-in_default-clause-first g c =
-    ended_first (drop c.args.self.next c.args.self.pattern.now) (no_place c.args.self.pattern.now c.args.self.next c.in_default.ensures) (g.C.Chooser.IsChosen c.args.chooser.now)
+    ended_first (drop c.args.self.next c.args.self.pattern.now) (no_place c.args.self.pattern.now c.args.self.next c.in_default.ensures)
+    (g.C.Chooser.IsChosen c.args.chooser.now)
 
 pub returns-in_default-clause-left : goal.returns-in_default-clause-left
-returns-in_default-clause-left g c = ended_left (drop c.args.self.next c.args.self.pattern.now) (no_place c.args.self.pattern.now c.args.self.next c.in_default.ensures)
+returns-in_default-clause-left g c =
+    ended_left (drop c.args.self.next c.args.self.pattern.now) (no_place c.args.self.pattern.now c.args.self.next c.in_default.ensures)
 
 pub overflow_add-self : goal.overflow_add-self
 overflow_add-self g c =
@@ -25,13 +27,16 @@ first_chosen-requires-clause-within g c = within (placed_view c.in-Some.begin) c
 pub returns-in-Ok-Some-clause-first : goal.returns-in-Ok-Some-clause-first
 returns-in-Ok-Some-clause-first g c =
     rw (c.at-branch.ensures.next, c.at-branch.ensures.pattern)
-    (subst (λ (bs : List Branching). IsFirst (g.C.Chooser.IsChosen c.args.chooser.now) bs (Some (drop c.in-Ok-Some.at c.args.self.pattern.now)))
-    (branches_begun (placed_view c.in-Some.begin) c.args.self.pattern.now c.args.self.next c.in-Some.ensures) (rw c.in-Ok-Some.field-0-is at c.in-Ok-Some.ensures.first))
+    (subst (λ (bs : List Branching). IsFirst (g.C.Chooser.IsChosen c.args.chooser.now) bs
+    (Some (drop c.in-Ok-Some.at c.args.self.pattern.now)))
+    (branches_begun (placed_view c.in-Some.begin) c.args.self.pattern.now c.args.self.next c.in-Some.ensures)
+    (rw c.in-Ok-Some.field-0-is at c.in-Ok-Some.ensures.first))
 
 pub returns-in-Ok-Some-clause-shorter : goal.returns-in-Ok-Some-clause-shorter
 returns-in-Ok-Some-clause-shorter g c =
     rw (c.at-branch.ensures.next, c.at-branch.ensures.pattern)
-    (shorter_begun (placed_view c.in-Some.begin) c.args.self.pattern.now c.args.self.next c.in-Some.ensures c.in-Ok-Some.at (rw c.in-Ok-Some.field-0-is at c.in-Ok-Some.ensures.behind))
+    (shorter_begun (placed_view c.in-Some.begin) c.args.self.pattern.now c.args.self.next c.in-Some.ensures c.in-Ok-Some.at
+    (rw c.in-Ok-Some.field-0-is at c.in-Ok-Some.ensures.behind))
 
 pub returns-in-Ok-Some-clause-left : goal.returns-in-Ok-Some-clause-left
 returns-in-Ok-Some-clause-left g c =
@@ -41,7 +46,8 @@ returns-in-Ok-Some-clause-left g c =
 pub returns-in-Ok-None-clause-first : goal.returns-in-Ok-None-clause-first
 returns-in-Ok-None-clause-first g c =
     subst (λ (bs : List Branching). IsFirst (g.C.Chooser.IsChosen c.args.chooser.now) bs None)
-    (branches_begun (placed_view c.in-Some.begin) c.args.self.pattern.now c.args.self.next c.in-Some.ensures) (rw c.in-Ok-None.field-0-is at c.in-Ok-None.ensures.first)
+    (branches_begun (placed_view c.in-Some.begin) c.args.self.pattern.now c.args.self.next c.in-Some.ensures)
+    (rw c.in-Ok-None.field-0-is at c.in-Ok-None.ensures.first)
 
 pub returns-in-Ok-None-clause-left : goal.returns-in-Ok-None-clause-left
 returns-in-Ok-None-clause-left g c =
