@@ -36,6 +36,12 @@ each_ends {A} Is all left first now none so_far =
     let whole = subst (λ (left : List A). CompletesEach Is left all now first) none so_far nothing_found refl in
     (whole.0, whole.1, sym (together-nothing now) ∙ whole.2)
 
+-- what is found in each thing in one way is found in another one, if it is in any thing
+pub each_in : {A : Type 0} (Is Was : A → Found → Type 0) → ((x : A) (found : Found) → Was x found → Is x found) → (all : List A)
+    (found : Found) → IsFoundInEach Was all found → IsFoundInEach Is all found
+each_in Is Was so [] found none = none
+each_in Is Was so (x ∷ all) found (first, rest, is, more, both) = (first, rest, so x first is, each_in Is Was so all rest more, both)
+
 -- ---- What a call adds
 
 -- what follows from the statement for an `Ok` also holds for the `Ok`

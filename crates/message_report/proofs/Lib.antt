@@ -1,6 +1,7 @@
 pub mod ChosenLemmas
 pub mod EachFound
 pub mod FormLemmas
+pub mod FormValueLemmas
 pub mod KeywordLemmas
 pub mod KnownRules
 pub mod LanguageLemmas

@@ -14,7 +14,8 @@ use Rattle.message_report.specs.Inner.NeededRules.{AreNeeded, has_members_in, is
 use Rattle.message_report.specs.Inner.NeededRules.{IsFoundInBothBy, IsFoundInMessagesBy, IsFoundInObjectBy, IsFoundInPartBy}
 use Rattle.message_report.specs.Inner.NeededRules.{IsFoundInPatternsObjectBy, IsFoundInPatternsPartBy}
 use Rattle.message_report.specs.MessagesReport.{HasLanguage, HaveLanguages, IsFoundInMessages, IsFoundUnder, patterns_name}
-use Rattle.message_report.specs.MessagesReport.{IsFoundInBoth, IsFoundInObject, IsFoundInPart, IsFoundInPatternsObject, IsFoundInPatternsPart}
+use Rattle.message_report.specs.MessagesReport.{IsFoundInBoth, IsFoundInObject, IsFoundInPart, IsFoundInPatternsObject}
+use Rattle.message_report.specs.MessagesReport.{IsFoundInPatternsPart}
 use Rattle.message_report.specs.PatternFaults.{TwoLanguages}
 use Rattle.message_report.specs.RulesSource.{RulesSource}
 use Rattle.message_report.specs.SourceArguments.{source_name}

@@ -1,5 +1,6 @@
 -- Rules whose moduli divide 100 choose alike for whole numbers that leave the same by 100.
-use Rattle.std.proofs.Common.{◌≡◌, ◌⊎◌, ℕ, ◌+◌, ◌%◌, ◌<◌, ◌≤◌, List, [], ◌∷◌, Bool, true, false, refl, sym, ap, subst, ◌∙◌, arith, inl, inr, Option, Some, None}
+use Rattle.std.proofs.Common.{◌≡◌, ◌⊎◌, ℕ, ◌+◌, ◌%◌, ◌<◌, ◌≤◌, List, [], ◌∷◌, Bool, true, false, refl, sym, ap, subst, ◌∙◌, arith}
+use Rattle.std.proofs.Common.{inl, inr, Option, Some, None}
 use Rattle.std.specs.Prelude.{◌||◌}
 use Rattle.std.proofs.lemmas.Bool.{cases_lt, cases_order}
 use Rattle.icu_plurals.specs.FiveRules.{FiveRules, first_category, passes}
@@ -14,7 +15,8 @@ use Rattle.plural_base.proofs.integers.Walk.{truth_from, truth_from-is}
 use Rattle.plural_base.specs.Inner.WholeNumbers.{earlier_after, group_after, whole_value}
 use Rattle.icu_plurals.specs.declared.provider.rules.reference.ast.Operand.{Operand}
 use Rattle.icu_plurals.specs.declared.provider.rules.reference.ast.Operand.TheVariants.{N, I, V, W, F, T, C, E}
-use Rattle.message_report.specs.WholeNumberLaws.{AreLow, ArePeriodic, IsPeriodic, IsPeriodicBy, IsPeriodicIf, IsPeriodicOn, WholeNumbersTellAll}
+use Rattle.message_report.specs.WholeNumberLaws.{AreLow, ArePeriodic, IsPeriodic, IsPeriodicBy, IsPeriodicIf, IsPeriodicOn}
+use Rattle.message_report.specs.WholeNumberLaws.{WholeNumbersTellAll}
 use Rattle.number_categories.specs.WholeNumbers.{AreTwoLeast, HasWhole}
 
 -- ---- Numbers that are alike

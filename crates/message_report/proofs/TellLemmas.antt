@@ -9,7 +9,8 @@ use Rattle.std.proofs.lemmas.Bool.Decides.{nat_tests}
 use Rattle.std.proofs.lemmas.List.{append-nil, length-append, length-take-le, take_all, take-append-le}
 use Rattle.message_pattern.specs.PatternParts.{Selector}
 use Rattle.message_report.specs.FindingCauses.{severity_of}
-use Rattle.message_report.specs.FoundInMessages.{Found, count_faults, count_notes, counted_alone, faults_of, findings_alone, one_finding, rest_of, together}
+use Rattle.message_report.specs.FoundInMessages.{Found, count_faults, count_notes, counted_alone, faults_of, findings_alone}
+use Rattle.message_report.specs.FoundInMessages.{one_finding, rest_of, together}
 use Rattle.message_report.specs.Inner.ToldFindings.{Tells, count_findings, count_next, remembered, told_findings, told_next}
 use Rattle.message_report.specs.MessageFindings.{Finding}
 use Rattle.message_report.specs.MessagePlaces.{PatternPlace, at_pattern}

@@ -1,5 +1,6 @@
 -- Lists of texts, by what is told of each value.
-use Rattle.std.proofs.Common.{◌≡◌, ◌≢◌, ◌↔◌, ℕ, ◌+◌, ◌<◌, List, [], ◌∷◌, length, get_or, drop, map, Bool, true, false, bytes_eq, refl, sym, ap, subst, ◌∙◌, add-one}
+use Rattle.std.proofs.Common.{◌≡◌, ◌≢◌, ◌↔◌, ℕ, ◌+◌, ◌<◌, List, [], ◌∷◌, length, get_or, drop, map, Bool, true, false, bytes_eq}
+use Rattle.std.proofs.Common.{refl, sym, ap, subst, ◌∙◌, add-one}
 use Rattle.std.specs.Prelude.{◌&&◌, not, ⊤, IsTrue, IsFalse, Option, Some, None, is_some}
 use Rattle.std.specs.List.{AllByRecursion}
 use Rattle.std.proofs.Math.Seq.{drop-cons}

@@ -10,7 +10,7 @@ use Rattle.message_report.specs.MessageForms.{is_form_name}
 use Rattle.message_report.specs.MessagePlaces.{MessagePlace, at_message}
 use Rattle.message_report.specs.MessagesReport.{found_of_keys, key_finding, other_keys}
 use Rattle.plural_documents.specs.FirstLines.{most_told}
-use Rattle.message_report.specs.Inner.ToldKeys.{count_at, told_at, told_key}
+use Rattle.message_report.specs.Inner.ToldKeys.{count_at, told_unless_form, told_key}
 use Rattle.message_report.proofs.MessagesFound.{nothing-together, together_assoc}
 
 -- what is told of these keys, if so many come before them
@@ -44,19 +44,19 @@ told_first place before key keys = by (nat_lt before most_told) refl
 
 -- of one member more, which is told by its key
 pub next_key : (place : MessagePlace) (count after : ℕ) (key : List ℕ) (value : Data) (left : Members) (now next whole : Found)
-    → after ≡ count_at count key → next ≡ together now (told_at place count key)
+    → after ≡ count_at count key → next ≡ together now (told_unless_form place count key)
     → together now (told_from place count (other_keys (member key value left))) ≡ whole
     → together next (told_from place after (other_keys left)) ≡ whole
 next_key place count after key value left now next whole counted step so_far =
     ap (λ (n : ℕ). together next (told_from place n (other_keys left))) counted
     ∙ ap (λ (f : Found). together f (told_from place (count_at count key) (other_keys left))) step
-    ∙ together_assoc now (told_at place count key) (told_from place (count_at count key) (other_keys left))
+    ∙ together_assoc now (told_unless_form place count key) (told_from place (count_at count key) (other_keys left))
     ∙ ap (λ (f : Found). together now f) (sym (by (is_form_name key) refl))
     ∙ so_far
   where
     by : (named : Bool) → is_form_name key ≡ named
         → told_from place count (other_keys (member key value left))
-        ≡ together (told_at place count key) (told_from place (count_at count key) (other_keys left))
+        ≡ together (told_unless_form place count key) (told_from place (count_at count key) (other_keys left))
     by true named = rw named (sym (nothing-together (told_from place count (other_keys left))))
     by false other = rw other (told_first place count key (other_keys left))
 

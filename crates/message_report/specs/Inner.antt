@@ -1,6 +1,7 @@
 -- No definitions of the subject: words of private contracts.
 pub mod ArgumentViews
 pub mod FormSteps
+pub mod FormValues
 pub mod KnownLanguages
 pub mod KnownNumbers
 pub mod LanguageViews
@@ -8,6 +9,5 @@ pub mod ListedTexts
 pub mod MessageSums
 pub mod NeededRules
 pub mod NumberBranches
-pub mod OwnForms
 pub mod ToldFindings
 pub mod ToldKeys

@@ -1,8 +1,7 @@
 //! The forms of a message, by their keys.
 
-ghost use Rattle.std.specs.Prelude.{◌≡◌, option_map};
-ghost use Rattle.message_report.specs.MessageForms.{form_name, form_under, has_form, is_form_name};
-ghost use Rattle.message_report.specs.Inner.OwnForms.{own_forms};
+ghost use Rattle.std.specs.Prelude.{◌≡◌};
+ghost use Rattle.message_report.specs.MessageForms.{form_name, has_form, is_form_name};
 ghost use Rattle.serde_json.specs.View.{view};
 
 use icu_plurals::PluralCategory;
@@ -32,18 +31,11 @@ impl Form {
         }
     }
 
-    // What a message has under the form's key.
-    pub(crate) fn in_message(self, message: &Value) -> Option<&Value>
-        ensures { option_map (λ v. view v.now) result ≡ form_under self (view message.now) }
-    {
-        message.get(self.as_str())
-    }
-
     // Whether a message has the form.
     pub(crate) fn is_in(self, message: &Value) -> bool
         ensures { result ≡ has_form self (view message.now) }
     {
-        self.in_message(message).is_some()
+        message.get(self.as_str()).is_some()
     }
 }
 
@@ -52,18 +44,6 @@ impl Form {
 pub(crate) struct OwnForms {
     pub(crate) zero: bool,
     pub(crate) one: bool,
-}
-
-impl OwnForms {
-    // Those of a message.
-    pub(crate) fn of(message: &Value) -> OwnForms
-        ensures { result ≡ own_forms (view message.now) }
-    {
-        OwnForms {
-            zero: Form::ExplicitZero.is_in(message),
-            one: Form::ExplicitOne.is_in(message),
-        }
-    }
 }
 
 // Whether a key names a form.

@@ -2,7 +2,7 @@
 
 ghost use Rattle.std.specs.Prelude.{◌≡◌, [], IfOk, IsTrue, OnOk};
 ghost use Rattle.message_report.specs.FoundInMessages.{together};
-ghost use Rattle.message_report.specs.Inner.ToldKeys.{count_at, told_at, told_key};
+ghost use Rattle.message_report.specs.Inner.ToldKeys.{count_at, told_unless_form, told_key};
 ghost use Rattle.message_report.specs.MessagePlaces.{message_place_view};
 ghost use Rattle.message_report.specs.MessagesReport.{found_of_keys, other_keys};
 ghost use Rattle.serde_json.specs.View.{members_view};
@@ -39,7 +39,7 @@ fn add_key<'a>(
     before: u64,
     found: &mut Found<'a>,
 ) -> Result<u64, AllocError>
-    ensures found { OnOk result (found.new ≡ together found.old (told_at (message_place_view place.entry) before key.now)) }
+    ensures found { OnOk result (found.new ≡ together found.old (told_unless_form (message_place_view place.entry) before key.now)) }
     ensures count { IfOk result (λ count. count ≡ count_at before key.now) }
 {
     if is_form_name(key) {

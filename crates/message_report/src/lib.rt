@@ -13,6 +13,7 @@ mod fault;
 mod file;
 mod finding;
 mod form;
+mod form_values;
 mod found;
 mod keys;
 mod language;

@@ -3,17 +3,18 @@
 ghost use Rattle.std.specs.Prelude.{◌≡◌, OnOk, Some};
 ghost use Rattle.message_report.specs.FoundInMessages.{together, HasGrownBy, IsFoundInEach};
 ghost use Rattle.message_report.specs.Inner.FormSteps.{language_lent, value_count, value_lent};
-ghost use Rattle.message_report.specs.Inner.OwnForms.{own_forms};
+ghost use Rattle.message_report.specs.Inner.FormValues.{IsFoundByValues};
 ghost use Rattle.message_report.specs.MessageForms.{form_order};
 ghost use Rattle.message_report.specs.MessagePlaces.{locale_place_view, message_place_view};
-ghost use Rattle.message_report.specs.MessagesReport.{found_of_fault, found_of_keys, other_keys};
-ghost use Rattle.message_report.specs.MessagesReport.{IsFoundInForm, IsFoundInForms, IsFoundInMessage};
+ghost use Rattle.message_report.specs.MessagesReport.{IsFoundInForms, IsFoundInMessage, found_of_fault};
+ghost use Rattle.serde_json.specs.Data.{object};
 ghost use Rattle.serde_json.specs.Find.{as_object};
 ghost use Rattle.serde_json.specs.View.{members_view, view};
 
 use crate::cause::Cause;
 use crate::fault::{FormFault, form_fault, told_fault};
-use crate::form::{Form, OwnForms};
+use crate::form::Form;
+use crate::form_values::FormValues;
 use crate::found::Found;
 use crate::keys::add_keys;
 use crate::language::Language;
@@ -89,7 +90,7 @@ fn add_forms<'a>(
         (as_object (view message.now))) found.old found.new) }
 {
     match message.as_object() {
-        Some(members) => add_all(needs, place, message, members, found),
+        Some(members) => add_all(needs, place, members, found),
         None => found.add_fault(Place::Message(place), Cause::NoObject),
     }
 }
@@ -98,53 +99,53 @@ fn add_forms<'a>(
 fn add_all<'a>(
     needs: FormNeeds<'_>,
     place: MessagePlace<'a>,
-    message: &Value,
     members: &'a Map<String, Value>,
     found: &mut Found<'a>,
 ) -> Result<(), AllocError>
     ensures { OnOk result (HasGrownBy
-        (IsFoundInForms (language_lent needs.entry.language) needs.entry.number (message_place_view place.entry) (view message.now)
-        (Some (members_view members.now.entries))) found.old found.new) }
+        (IsFoundInForms (language_lent needs.entry.language) needs.entry.number (message_place_view place.entry)
+        (object (members_view members.now.entries)) (Some (members_view members.now.entries))) found.old found.new) }
 {
-    add_each_form(needs, place, message, found)?;
-    add_keys(place, members, found)
-}
-
-// Adds what is found in each form.
-fn add_each_form<'a>(
-    needs: FormNeeds<'_>,
-    place: MessagePlace<'a>,
-    message: &Value,
-    found: &mut Found<'a>,
-) -> Result<(), AllocError>
-    ensures { OnOk result (HasGrownBy
-        (IsFoundInEach (IsFoundInForm (language_lent needs.entry.language) needs.entry.number (message_place_view place.entry)
-        (view message.now)) form_order) found.old found.new) }
-{
-    let own = OwnForms::of(message);
-    for form in &FORM_ORDER {
-        add_form(needs, own, place, message, *form, found)?;
+    let values = FormValues::of(members);
+    add_each_form(needs, place, &values, found)?;
+    if values.has_other_keys {
+        return add_keys(place, members, found);
     }
     Ok(())
 }
 
-// Adds what is found in a form, given which of 0 and 1 have forms of their own in the message.
+// Adds what is found in each form, given what the message has.
+fn add_each_form<'a>(
+    needs: FormNeeds<'_>,
+    place: MessagePlace<'a>,
+    values: &FormValues<'_>,
+    found: &mut Found<'a>,
+) -> Result<(), AllocError>
+    ensures { OnOk result (HasGrownBy
+        (IsFoundInEach (IsFoundByValues (language_lent needs.entry.language) needs.entry.number (message_place_view place.entry)
+        values.now) form_order) found.old found.new) }
+{
+    for form in &FORM_ORDER {
+        add_form(needs, place, values, *form, found)?;
+    }
+    Ok(())
+}
+
+// Adds what is found in a form.
 fn add_form<'a>(
     needs: FormNeeds<'_>,
-    own: OwnForms,
     place: MessagePlace<'a>,
-    message: &Value,
+    values: &FormValues<'_>,
     form: Form,
     found: &mut Found<'a>,
 ) -> Result<(), AllocError>
-    requires { own ≡ own_forms (view message.now) }
     ensures { OnOk result (HasGrownBy
-        (IsFoundInForm (language_lent needs.entry.language) needs.entry.number (message_place_view place.entry) (view message.now) form)
+        (IsFoundByValues (language_lent needs.entry.language) needs.entry.number (message_place_view place.entry) values.now form)
         found.old found.new) }
 {
-    let value = form.in_message(message);
+    let value = values.value(form);
     count_value(value, found)?;
-    let fault = form_fault(needs.language, own, form, value);
+    let fault = form_fault(needs.language, values.own_forms(), form, value);
     add_fault(place, form, told_fault(needs.number, fault), found)
 }
 

@@ -17,8 +17,8 @@ told_key place before key = record {
   forms = 0;
 }
 
-abbrev pub told_at : MessagePlace → ℕ → List ℕ → Found
-told_at place before key = if is_form_name key then nothing_found else told_key place before key
+abbrev pub told_unless_form : MessagePlace → ℕ → List ℕ → Found
+told_unless_form place before key = if is_form_name key then nothing_found else told_key place before key
 
 abbrev pub count_at : ℕ → List ℕ → ℕ
 count_at before key = if is_form_name key then before else before + 1

@@ -4,7 +4,7 @@ use Rattle.serde_json.specs.View.{view, members_view}
 use Rattle.message_report.specs.FoundInMessages.{together}
 use Rattle.message_report.specs.MessagePlaces.{message_place_view}
 use Rattle.message_report.specs.MessagesReport.{other_keys}
-use Rattle.message_report.specs.Inner.ToldKeys.{count_at, told_at}
+use Rattle.message_report.specs.Inner.ToldKeys.{count_at, told_unless_form}
 use Rattle.message_report.proofs.ToldLemmas.{next_count, next_key, told_from}
 use Rattle.message_report.proofs.keys.add_keys.Goals as goal
 
@@ -26,7 +26,7 @@ loop-key-preserved c =
     let step = ap members_view c.in-Some.ensures.steps in (
       next_key (message_place_view c.args.place) count c.in_ok-count.count key value left now c.add_key.new.found _ counted
           (c.in_ok-count.ensures.found
-          ∙ ap (λ (k : List ℕ). together now (told_at (message_place_view c.args.place) count k)) c.as_str.ensures.value)
+          ∙ ap (λ (k : List ℕ). together now (told_unless_form (message_place_view c.args.place) count k)) c.as_str.ensures.value)
           (ap (λ (ms : Members). together now (told_from (message_place_view c.args.place) count (other_keys ms))) (sym step)
           ∙ c.loop-key.invariant.0),
       next_count count key value left c.in_ok-count.count _ counted
