@@ -74,9 +74,11 @@ text_answered IsAnswer input document old new printed (Err error) given answer w
     rw written.0 (document, printed, given, answer, written.1)
 
 -- the answer of a document, or that there is none
-pub document_answered : (IsAnswer : Data → Result PrintedText LanguageError → Type 0) (input : List ℕ) (document : Data) (old new : Option (List ℕ))
+pub document_answered : (IsAnswer : Data → Result PrintedText LanguageError → Type 0) (input : List ℕ) (document : Data)
+    (old new : Option (List ℕ))
     (answer : Result (Result PrintedText LanguageError) AllocError) (r : Result Verdict FormsError)
-    → IsDocumentIn input document → IfOk answer (λ a. IsAnswer document a) → WritesAnswer answer old new r → IsAnsweredText IsAnswer input old new r
+    → IsDocumentIn input document → IfOk answer (λ a. IsAnswer document a) → WritesAnswer answer old new r
+    → IsAnsweredText IsAnswer input old new r
 unfolding IsAnsweredText
 document_answered IsAnswer input document old new (Ok (Ok printed)) r given is written =
     text_answered IsAnswer input document old new printed r given is written
@@ -100,7 +102,8 @@ no_lines part locale input before old Write given = absurd given
 no_lines part locale input before old Memory given = inl (Keeps-refl before, Keeps-refl old)
 
 -- the answers by the rules of a document by which the language is known
-pub lines_answered : (part : Part) (locale input : List ℕ) (document : Data) (before left old new : Option (List ℕ)) (r : Result Verdict FormsError)
+pub lines_answered : (part : Part) (locale input : List ℕ) (document : Data) (before left old new : Option (List ℕ))
+    (r : Result Verdict FormsError)
     → IsDocumentIn input document → IsKnown document part locale → AnswersLines (IsFoundFor document part locale) before left old new r
     → IsAnsweredLines part locale input before left old new r
 unfolding IsAnsweredLines IsStreamed
@@ -111,10 +114,14 @@ lines_answered part locale input document before left old new (Err TooLong) give
 lines_answered part locale input document before left old new (Err Json) given known (inl by) = absurd by.2
 lines_answered part locale input document before left old new (Err (Refused error)) given known (inl by) = absurd by.2
 lines_answered part locale input document before left old new (Err (Language error)) given known (inl by) = absurd by.2
-lines_answered part locale input document before left old new (Err Numbers) given known (inl by) = (document, by.0, given, inr (known, by.1), by.2)
-lines_answered part locale input document before left old new (Err Write) given known (inl by) = (document, by.0, given, inr (known, by.1), by.2)
-lines_answered part locale input document before left old new (Err Memory) given known (inl by) = inr (document, by.0, given, inr (known, by.1), by.2)
-lines_answered part locale input document before left old new r given known (inr (inl none)) = rw none.2 (document, given, inr (known, none.1), none.3)
+lines_answered part locale input document before left old new (Err Numbers) given known (inl by) =
+    (document, by.0, given, inr (known, by.1), by.2)
+lines_answered part locale input document before left old new (Err Write) given known (inl by) =
+    (document, by.0, given, inr (known, by.1), by.2)
+lines_answered part locale input document before left old new (Err Memory) given known (inl by) =
+    inr (document, by.0, given, inr (known, by.1), by.2)
+lines_answered part locale input document before left old new r given known (inr (inl none)) =
+    rw none.2 (document, given, inr (known, none.1), none.3)
 lines_answered part locale input document before left old new r given known (inr (inr none)) = rw none.0 (inl none.1)
 
 -- ---- Files of messages
@@ -133,7 +140,8 @@ no_report text_of files input old Write given = absurd given
 no_report text_of files input old Memory given = Keeps-refl old
 
 -- the report under the rules of a document
-pub report_checked : (text_of : Found → List ℕ) (files : List MessageFile) (input : List ℕ) (value : Data) (old new : Option (List ℕ)) (r : Result Verdict FormsError)
+pub report_checked : (text_of : Found → List ℕ) (files : List MessageFile) (input : List ℕ) (value : Data) (old new : Option (List ℕ))
+    (r : Result Verdict FormsError)
     → IsDocumentIn input value → Checks text_of value files old new r → IsCheckedAs text_of files input old new r
 unfolding IsCheckedAs
 report_checked text_of files input value old new r given (inl (document, is, (Ok counts, reported, same))) =
@@ -145,7 +153,8 @@ report_checked text_of files input value old new r given (inr (inl (error, is, s
 report_checked text_of files input value old new r given (inr (inr (same, kept))) = rw same kept
 
 -- rules that are refused
-pub no_rules : (text_of : Found → List ℕ) (value : Data) (files : List MessageFile) (old : Option (List ℕ)) (error : JsonError) (fault : FormsError)
+pub no_rules : (text_of : Found → List ℕ) (value : Data) (files : List MessageFile) (old : Option (List ℕ)) (error : JsonError)
+    (fault : FormsError)
     → IsRefusal error (document_of_json value) → fault ≡ refused_rules error → Checks text_of value files old old (Err fault)
 no_rules text_of value files old json.Float fault is same = rw same (inr (inl (json.Float, is, refl, Keeps-refl old)))
 no_rules text_of value files old json.Shape fault is same = rw same (inr (inl (json.Shape, is, refl, Keeps-refl old)))

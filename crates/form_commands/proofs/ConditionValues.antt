@@ -13,8 +13,10 @@ use Rattle.icu_plurals.specs.declared.provider.rules.reference.ast.Operator.{Ope
 use Rattle.icu_plurals.specs.declared.provider.rules.reference.ast.Operator.TheVariants.{Eq, NotEq}
 use Rattle.icu_plurals.specs.PackedRelations.{PackedRelation, groups}
 use Rattle.icu_plurals.specs.PackedTruth.{is_true_at, packed_truth}
-use Rattle.form_commands.specs.CExpressions.{Comparison, above, at_least, at_most, atom_value, below, bracketed, comparison_value, compared, equal, unequal}
-use Rattle.form_commands.specs.RuleConditions.{ConditionsAreRules, comparison, atoms_of, atoms_of_group, atoms_under, conditions_of_groups, in_ranges, inside, is_of_number, is_possible, outside}
+use Rattle.form_commands.specs.CExpressions.{Comparison, above, at_least, at_most, atom_value, below, bracketed, comparison_value}
+use Rattle.form_commands.specs.CExpressions.{compared, equal, unequal}
+use Rattle.form_commands.specs.RuleConditions.{ConditionsAreRules, comparison, atoms_of, atoms_of_group, atoms_under}
+use Rattle.form_commands.specs.RuleConditions.{conditions_of_groups, in_ranges, inside, is_of_number, is_possible, outside}
 
 -- ---- A range
 
@@ -154,14 +156,16 @@ group_value : (n : ℕ) (group : List PackedRelation)
 group_value n [] = refl
 group_value n (r ∷ group) =
     rw (packed_value n r, group_value n group, list_all-append (atom_value n) (atoms_of r) (atoms_of_group group))
-    (four (is_possible r) (list_all (atom_value n) (atoms_of r)) (list_all is_possible group) (list_all (atom_value n) (atoms_of_group group)))
+    (four (is_possible r) (list_all (atom_value n) (atoms_of r)) (list_all is_possible group)
+    (list_all (atom_value n) (atoms_of_group group)))
 
 -- ---- Groups
 
 -- a group that is left out is false
 left_out : (n : ℕ) (group : List PackedRelation) (groups : List (List PackedRelation)) (b : Bool)
     → ((b && list_all (atom_value n) (atoms_of_group group)) || some_group (atom_value n) (conditions_of_groups groups))
-    ≡ some_group (atom_value n) (map atoms_of_group (if b then group ∷ filter (list_all is_possible) groups else filter (list_all is_possible) groups))
+    ≡ some_group (atom_value n)
+    (map atoms_of_group (if b then group ∷ filter (list_all is_possible) groups else filter (list_all is_possible) groups))
 left_out n group groups true = refl
 left_out n group groups false = refl
 

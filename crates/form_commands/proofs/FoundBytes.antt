@@ -40,7 +40,8 @@ other text kind found fault is differs all byte = (
       absurd (differs alike),
 )
 
-pub without : (text : List ℕ) (kind : ParseError) (found : Option RuleFault) → found ≡ None → IsFaultOfText text found → IsByteIn text kind None
+pub without : (text : List ℕ) (kind : ParseError) (found : Option RuleFault) → found ≡ None → IsFaultOfText text found
+    → IsByteIn text kind None
 without text kind found is all byte = (
   λ equal. let no : ⊥ = cc in absurd no,
   λ faulty.
@@ -50,7 +51,8 @@ without text kind found is all byte = (
 )
 
 -- that of the text of a category
-under : (value : Data) (category : PluralCategory) (kind : ParseError) (text : List ℕ) (found : Option ℕ) → Some text ≡ text_under category value
+under : (value : Data) (category : PluralCategory) (kind : ParseError) (text : List ℕ) (found : Option ℕ)
+    → Some text ≡ text_under category value
     → IsByteIn text kind found → (byte : ℕ) → (found ≡ Some byte) ↔ HasFaultAt (Some value) category kind byte
 under value category kind text found there all byte = (
   λ equal. (text, sym there, (all byte).0 equal),

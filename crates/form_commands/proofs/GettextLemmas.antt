@@ -1,5 +1,6 @@
 -- The line for gettext.
-use Rattle.std.proofs.Common.{◌≡◌, ℕ, suc, ◌+◌, ◌<◌, ◌≤◌, List, [], ◌∷◌, ◌++◌, length, drop, get_or, Bool, true, false, inl, inr, refl, sym, ap, subst, ◌∙◌, append_assoc, arith, add-one}
+use Rattle.std.proofs.Common.{◌≡◌, ℕ, suc, ◌+◌, ◌<◌, ◌≤◌, List, [], ◌∷◌, ◌++◌, length, drop, get_or, Bool, true, false, inl, inr}
+use Rattle.std.proofs.Common.{refl, sym, ap, subst, ◌∙◌, append_assoc, arith, add-one}
 use Rattle.std.specs.Prelude.{◌⊎◌, ◌||◌, MatchBool, Option, Some, None, Result, Ok, Err, codes, is_some, slice_get, if◌then◌else◌}
 use Rattle.std.specs.Fmt.{decimal}
 use Rattle.std.proofs.Math.Seq.{drop-cons}
@@ -19,9 +20,10 @@ use Rattle.plural_fallback.specs.declared.locales.Part.{Part}
 use Rattle.serde_json.specs.Data.{Data}
 use Rattle.serde_json.specs.View.{view}
 use Rattle.form_commands.specs.Inner.RunSteps.{IsFoundUnder}
-use Rattle.form_commands.specs.declared.language.Language.{Language}
+use Rattle.form_commands.specs.declared.language.LanguageRules.{LanguageRules}
 use Rattle.form_commands.specs.CExpressions.{c_condition_text, choice_text, choice_value, condition_value}
-use Rattle.form_commands.specs.GettextLines.{AreFormsOf, FormsAreChosen, HasForm, SomeHas, tried_powers, condition_if, conditions_of, rule_for, whole_category}
+use Rattle.form_commands.specs.GettextLines.{AreFormsOf, FormsAreChosen, HasForm, SomeHas, tried_powers, condition_if}
+use Rattle.form_commands.specs.GettextLines.{conditions_of, rule_for, whole_category}
 use Rattle.form_commands.proofs.ConditionValues.{condition_values}
 
 -- ---- The forms
@@ -45,7 +47,8 @@ forms_go_on rules category all left after now next is so_far (inl has) rest h =
 forms_go_on rules category all left after now next is so_far (inr has) rest h =
     rw has.1 (subst (λ (cs : List PluralCategory). FormsLeft rules cs all now) is so_far rest (rest, h, inr (has.0, refl)))
 
-pub forms_end : (rules : FiveRules) (all left now : List PluralCategory) → left ≡ [] → FormsLeft rules left all now → AreFormsOf rules all now
+pub forms_end : (rules : FiveRules) (all left now : List PluralCategory) → left ≡ [] → FormsLeft rules left all now
+    → AreFormsOf rules all now
 forms_end rules all left now none so_far =
     subst (AreFormsOf rules all) (append-nil now) (subst (λ (cs : List PluralCategory). FormsLeft rules cs all now) none so_far [] refl)
 
@@ -213,7 +216,8 @@ none_some e = cc
 
 has_one_category : (rules : FiveRules) → has_one (categories_of rules) ≡ true
 has_one_category rules = has_last
-    ((((listed Zero (is_some rules.zero) ++ listed One (is_some rules.one)) ++ listed Two (is_some rules.two)) ++ listed Few (is_some rules.few))
+    ((((listed Zero (is_some rules.zero) ++ listed One (is_some rules.one)) ++ listed Two (is_some rules.two))
+    ++ listed Few (is_some rules.few))
     ++ listed Many (is_some rules.many))
 
 -- the form at the value of the expression is the category
@@ -258,7 +262,8 @@ found_step rules n c d ds forms rest place false is has (inr own) first after = 
 
 found_last : (rules : FiveRules) (n : ℕ) (c : PluralCategory) (forms rest : List PluralCategory) (place : ℕ)
     → HasForm rules (whole_category rules n) → rest ≡ []
-    → (HasForm rules c × (forms ≡ c ∷ rest)) ⊎ (¬ (HasForm rules c) × (forms ≡ rest)) → c ≡ whole_category rules n → Found rules n forms place
+    → (HasForm rules c × (forms ≡ c ∷ rest)) ⊎ (¬ (HasForm rules c) × (forms ≡ rest)) → c ≡ whole_category rules n
+    → Found rules n forms place
 found_last rules n c forms rest place has none (inl own) first =
     rw (own.1, none) (0, omega arith, ap (λ (x : PluralCategory). Some x) first)
 found_last rules n c forms rest place has none (inr own) first = absurd (own.0 (subst (HasForm rules) (sym first) has))
@@ -281,7 +286,7 @@ forms_chosen rules forms n are has =
 -- ---- The rules of a language
 
 -- they are those of its value
-pub found_language : (document : Data) (part : Part) (locale : List ℕ) (first : Result (List ℕ) FallbackError) (language : Language)
+pub found_language : (document : Data) (part : Part) (locale : List ℕ) (first : Result (List ℕ) FallbackError) (language : LanguageRules)
     → IsFoundUnder document part locale first (Ok language) → rules_of_json (view language.value.now) ≡ Ok language.rules
 found_language document part locale (Ok key) language found = found.2
 found_language document part locale (Err reason) language found = absurd (cc found)

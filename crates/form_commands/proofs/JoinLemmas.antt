@@ -15,7 +15,8 @@ use Rattle.icu_plurals.specs.PackedRelations.{PackedRelation, at_front, cut_befo
 use Rattle.icu_plurals.specs.declared.provider.rules.runtime.ast.AndOr.{AndOr}
 use Rattle.icu_plurals.specs.declared.provider.rules.runtime.ast.AndOr.TheVariants.{And, Or}
 use Rattle.form_commands.specs.CExpressions.{Atom, Comparison, and_text, atom_text, bracketed, compared, comparison_text}
-use Rattle.form_commands.specs.RuleConditions.{atoms_of, atoms_of_group, atoms_under, conditions_of_groups, in_ranges, inside, is_of_number, is_possible}
+use Rattle.form_commands.specs.RuleConditions.{atoms_of, atoms_of_group, atoms_under, conditions_of_groups, in_ranges, inside}
+use Rattle.form_commands.specs.RuleConditions.{is_of_number, is_possible}
 use Rattle.form_commands.specs.Inner.ConditionSteps.{AreCut, AreJoined, IsGroup, Joins, begun_before, ended_before, group_texts}
 use Rattle.form_commands.specs.declared.c_condition.Group.{Group}
 use Rattle.form_commands.specs.declared.joined.Joined.{Joined}
@@ -93,7 +94,8 @@ at_ok (Err e) f h = tt
 more_atoms : (group : List PackedRelation) (r : PackedRelation)
     → map atom_text (atoms_of_group (group ++ r ∷ [])) ≡ map atom_text (atoms_of_group group) ++ map atom_text (atoms_of r)
 more_atoms group r =
-    ap (map atom_text) (flat_map-append atoms_of group (r ∷ []) ∙ ap (λ (l : List Atom). atoms_of_group group ++ l) (append-nil (atoms_of r)))
+    ap (map atom_text)
+    (flat_map-append atoms_of group (r ∷ []) ∙ ap (λ (l : List Atom). atoms_of_group group ++ l) (append-nil (atoms_of r)))
     ∙ map-append atom_text (atoms_of_group group) (atoms_of r)
 
 and_one : (a b : Bool) → (a && (b && true)) ≡ (a && b)
@@ -143,7 +145,8 @@ more_texts done group =
     ∙ map-append text (conditions_of_groups done) (conditions_of_groups (group ∷ []))
 
 -- the open group ends
-pub cut_at_or : (done : List (List PackedRelation)) (group : List PackedRelation) (old_ended new_ended : Joined) (old_current new_current : Group)
+pub cut_at_or : (done : List (List PackedRelation)) (group : List PackedRelation) (old_ended new_ended : Joined)
+    (old_current new_current : Group)
     → Joins (codes " || ") (group_texts (group ∷ [])) old_ended new_ended → IsGroup [] new_current → AreCut done group old_ended old_current
     → AreCut (done ++ group ∷ []) [] new_ended new_current
 cut_at_or done group old_ended new_ended old_current new_current joins new is = record {
@@ -194,7 +197,8 @@ pub record IsTaken (relations left : List PackedRelation) (ended : Joined) (curr
   pub cut : groups relations ≡ done ++ glued group (groups left)
   pub are : AreCut done group ended current
 
-pub none_taken : (relations : List PackedRelation) (ended : Joined) (current : Group) → AreJoined (codes " || ") [] ended → IsGroup [] current
+pub none_taken : (relations : List PackedRelation) (ended : Joined) (current : Group) → AreJoined (codes " || ") [] ended
+    → IsGroup [] current
     → IsTaken relations relations ended current
 none_taken relations ended current none empty = record {
   done = [];
@@ -203,7 +207,8 @@ none_taken relations ended current none empty = record {
   are = record { are_ended = none; is_current = empty };
 }
 
-pub one_more_taken : (relations left after : List PackedRelation) (r : PackedRelation) (ended new_ended : Joined) (current mid_current new_current : Group)
+pub one_more_taken : (relations left after : List PackedRelation) (r : PackedRelation) (ended new_ended : Joined)
+    (current mid_current new_current : Group)
     → left ≡ r ∷ after → IsTaken relations left ended current
     → ((done : List (List PackedRelation)) (group : List PackedRelation) → AreCut done group ended current
     → AreCut (ended_before r.and_or done group) (begun_before r.and_or group) new_ended mid_current)

@@ -13,7 +13,8 @@ use Rattle.form_commands.specs.declared.error.FormsError.TheVariants.{Rules, Too
 use Rattle.form_commands.specs.declared.error.Verdict.{Verdict}
 
 -- what an answer leaves alone, its notes do, if a failed write needs not
-pub left_by_notes : (Q : FormsError → Type 0) (P : Type 0) (notes : List ℕ) (old new : Option (List ℕ)) (answer result : Result Verdict FormsError)
+pub left_by_notes : (Q : FormsError → Type 0) (P : Type 0) (notes : List ℕ) (old new : Option (List ℕ))
+    (answer result : Result Verdict FormsError)
     → (Q Write → ⊥) → IfErr answer (λ e. Q e → P) → Notes answer notes old new result → IfErr result (λ e. Q e → P)
 left_by_notes Q P notes old new (Ok verdict) result none alone (inl w) = rw w.0 tt
 left_by_notes Q P notes old new (Ok verdict) result none alone (inr w) = rw w.0 (λ q. absurd (none q))
@@ -34,7 +35,8 @@ pub nothing_written : (A B : Type 0) (text : List ℕ) (old new : Option (List �
     → IfErr answer (λ e. e ≢ Write → A) → Notes answer text old new result → IfErr result (λ e. e ≢ Write → B)
     → IfErr result (λ e. e ≢ Write → A × B)
 nothing_written A B text old new answer result writer notes after =
-    both_left (λ e. e ≢ Write) A B result (left_by_notes (λ e. e ≢ Write) A text old new answer result (λ none. none refl) writer notes) after
+    both_left (λ e. e ≢ Write) A B result (left_by_notes (λ e. e ≢ Write) A text old new answer result (λ none. none refl) writer notes)
+    after
 
 -- the lines of numbers are read only if the rules have no fault
 pub lines_left : (rules : FiveRules) (before left old new : Option (List ℕ)) (P : Type 0) (r : Result Verdict FormsError)

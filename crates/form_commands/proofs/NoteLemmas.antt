@@ -1,5 +1,6 @@
 -- Notes of keys, one after the other, and after an answer.
-use Rattle.std.proofs.Common.{◌≡◌, ℕ, ◌+◌, ◌<◌, List, [], ◌∷◌, ◌++◌, length, get_or, drop, Option, Result, Ok, Err, inl, inr, refl, sym, ap, subst, ◌∙◌, append_assoc, add-one, arith, String, Global}
+use Rattle.std.proofs.Common.{◌≡◌, ℕ, ◌+◌, ◌<◌, List, [], ◌∷◌, ◌++◌, length, get_or, drop, Option, Result, Ok, Err, inl, inr}
+use Rattle.std.proofs.Common.{refl, sym, ap, subst, ◌∙◌, append_assoc, add-one, arith, String, Global}
 use Rattle.std.specs.Prelude.{◌⊎◌, Bool, true, false, not, Some, IfOk, string_bytes}
 use Rattle.std.specs.declared.alloc.AllocError.{AllocError}
 use Rattle.std.specs.Io.KnownBytes.{Appends}
@@ -22,7 +23,8 @@ use Rattle.form_commands.specs.FormsAnswers.{IsAnsweredLines, IsAnsweredText, Is
 use Rattle.form_commands.specs.Inner.NoteSteps.{Notes, NotesAfter, Writes}
 use Rattle.form_commands.specs.Inner.RunSteps.{AnswersLines, Checks}
 use Rattle.form_commands.specs.Inner.PrintedSteps.{Grows}
-use Rattle.form_commands.specs.KeyNotes.{AreFileNotes, AreLocaleNotes, AreMemberNotes, AreNoted, IsFileNote, IsKeyNote, IsNote, IsNoted, IsNoteIf, has_members, is_asked, note_text}
+use Rattle.form_commands.specs.KeyNotes.{AreFileNotes, AreLocaleNotes, AreMemberNotes, AreNoted, IsFileNote, IsKeyNote, IsNote}
+use Rattle.form_commands.specs.KeyNotes.{IsNoted, IsNoteIf, has_members, is_asked, note_text}
 use Rattle.form_commands.specs.Languages.{IsFoundFor, IsKnown, IsKnownIn}
 use Rattle.form_commands.specs.declared.error.FormsError.{FormsError}
 use Rattle.form_commands.specs.declared.error.FormsError.TheVariants.{Memory}
@@ -69,7 +71,8 @@ pub members_begin : (document : Data) (place : List ℕ) (all left : Members) (f
 members_begin document place all left first same rest h =
     (rest, subst (λ (ms : Members). AreMemberNotes document place ms rest) same h, refl)
 
-pub members_go_on : (document : Data) (place : List ℕ) (all : Members) (first locale : List ℕ) (value : Data) (left : Members) (now next : List ℕ)
+pub members_go_on : (document : Data) (place : List ℕ) (all : Members) (first locale : List ℕ) (value : Data) (left : Members)
+    (now next : List ℕ)
     → MembersLeft document place (member locale value left) all now first → Grows (AreLocaleNotes document place locale value) now next
     → MembersLeft document place left all next first
 members_go_on document place all first locale value left now next so_far added rest h =
@@ -127,7 +130,8 @@ noted AreNotes IsResult input document notes old new (Ok verdict) result given a
     rw w.0 (inr (verdict, whole, document, notes, given, are, w.1))
 noted AreNotes IsResult input document notes old new (Err error) result given are whole w = rw w.0 (inl w.1)
 
-pub answer_noted : (IsAnswer : Data → Result PrintedText LanguageError → Type 0) (input notes : List ℕ) (old new before after : Option (List ℕ))
+pub answer_noted : (IsAnswer : Data → Result PrintedText LanguageError → Type 0) (input notes : List ℕ)
+    (old new before after : Option (List ℕ))
     (answer result : Result Verdict FormsError) → IsAnsweredText IsAnswer input old new answer → Notes answer notes before after result
     → IsAnsweredText IsAnswer input old new result
 unfolding IsAnsweredText
@@ -180,7 +184,8 @@ printed_noted IsAnswer AreNotes input document old new before after result given
 )
 
 pub lines_noted_by : (part : Part) (locale : List ℕ) (AreNotes : Data → List ℕ → Type 0) (input : List ℕ) (document : Data)
-    (taken left old new before after : Option (List ℕ)) (result : Result Verdict FormsError) → IsDocumentIn input document → IsKnown document part locale
+    (taken left old new before after : Option (List ℕ)) (result : Result Verdict FormsError) → IsDocumentIn input document
+    → IsKnown document part locale
     → NotesAfter (AnswersLines (IsFoundFor document part locale) taken left old new) (AreNotes document) before after result
     → IsNoted AreNotes (IsAnsweredLines part locale input taken left old new) input before after result
 unfolding AreNoted
@@ -195,7 +200,8 @@ lines_noted_by part locale AreNotes input document taken left old new before aft
   rw n.1 (inl n.2),
 )
 
-pub report_noted : (text_of : Found → List ℕ) (files : List MessageFile) (AreNotes : Data → List ℕ → Type 0) (input : List ℕ) (document : Data)
+pub report_noted : (text_of : Found → List ℕ) (files : List MessageFile) (AreNotes : Data → List ℕ → Type 0) (input : List ℕ)
+    (document : Data)
     (old new before after : Option (List ℕ)) (result : Result Verdict FormsError) → IsDocumentIn input document
     → NotesAfter (Checks text_of document files old new) (AreNotes document) before after result
     → IsNoted AreNotes (IsCheckedAs text_of files input old new) input before after result

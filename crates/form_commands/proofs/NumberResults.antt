@@ -27,7 +27,8 @@ text_written printed old new (Ok has_fault) w = (ap verdict_by w.0, w.1)
 text_written printed old new (Err error) w = (ap lines_fault w.0, w.1)
 
 -- a text fails by a failed write alone
-pub only_writes : (P : Type 0) (printed : PrintedText) (old new : Option (List ℕ)) (r : Result Verdict FormsError) → WritesText printed old new r
+pub only_writes : (P : Type 0) (printed : PrintedText) (old new : Option (List ℕ)) (r : Result Verdict FormsError)
+    → WritesText printed old new r
     → IfErr r (λ e. e ≢ Write → P)
 only_writes P printed old new (Ok verdict) w = tt
 only_writes P printed old new (Err error) w = λ not. absurd (not w.0)

@@ -78,7 +78,8 @@ lines_read part locale left rest before after old new input document r end given
     (λ is. let long = subst (IsAnsweredLines part locale input before after old new) is answered in
     not_both (length input) most_bytes given.0 long.0)
 
-pub report_read : (text_of : Found → List ℕ) (files : List MessageFile) (left rest old new : Option (List ℕ)) (input : List ℕ) (document : Data)
+pub report_read : (text_of : Found → List ℕ) (files : List MessageFile) (left rest old new : Option (List ℕ)) (input : List ℕ)
+    (document : Data)
     (r : Result Verdict FormsError) → IsReadToEnd left rest → IsDocumentIn input document
     → IsCheckedAs text_of files input old new r → IsRead forms_origin left rest r
 unfolding IsCheckedAs

@@ -1,5 +1,6 @@
 -- Answers by a document that serves a locale as another one does.
-use Rattle.std.proofs.Common.{◌≡◌, ℕ, ◌≤◌, List, [], length, Option, Result, Ok, Err, inl, inr, refl, sym, subst, ◌∙◌, String, Global, string_bytes}
+use Rattle.std.proofs.Common.{◌≡◌, ℕ, ◌≤◌, List, [], length, Option, Result, Ok, Err, inl, inr, refl, sym, subst, ◌∙◌, String}
+use Rattle.std.proofs.Common.{Global, string_bytes}
 use Rattle.std.specs.Prelude.{IfOk}
 use Rattle.std.proofs.KnownBytes.{Keeps-refl}
 use Rattle.std.specs.declared.alloc.AllocError.{AllocError}
@@ -22,7 +23,7 @@ use Rattle.form_commands.specs.declared.error.FormsError.{FormsError}
 use Rattle.form_commands.specs.declared.error.FormsError.TheVariants.{Memory}
 use Rattle.form_commands.specs.declared.error.LanguageError.{LanguageError}
 use Rattle.form_commands.specs.declared.error.Verdict.{Verdict}
-use Rattle.form_commands.specs.declared.language.Language as code
+use Rattle.form_commands.specs.declared.language.LanguageRules as code
 use Rattle.form_commands.proofs.AnswerLemmas.{document_in, no_answer, no_lines}
 
 -- ---- The document
@@ -35,7 +36,7 @@ rules_in part locale input bytes (Err error) is short (inl none) = inl (document
 rules_in part locale input bytes (Err error) is short (inr unknown) = inr (unknown.0, (short, rw (← is) unknown.1), unknown.2)
 
 -- an unknown language is the answer
-pub unknown_answer : (Prints : code.Language → PrintedText → Type 0) (part : Part) (locale input : List ℕ) (old : Option (List ℕ))
+pub unknown_answer : (Prints : code.LanguageRules → PrintedText → Type 0) (part : Part) (locale input : List ℕ) (old : Option (List ℕ))
     (error : FormsError) → GivesRules part locale input (Err error)
     → IsAnsweredText (Answers Prints part locale) input old old (Err error)
 unfolding IsAnsweredText
@@ -52,14 +53,15 @@ unknown_lines part locale input before old error (inr (whole, given, (unknown, i
 
 -- ---- The answers
 
-module _ (part : Part) (locale : List ℕ) (kept : KeptRules) (whole : Data) (serves : Serves part locale kept whole) (known : IsKnown whole part locale) where
-  found_at : (key : List ℕ) (answer : Result code.Language LanguageError) → value_at (view kept.document) part key ≡ value_at whole part key
+module _ (part : Part) (locale : List ℕ) (kept : KeptRules) (whole : Data) (serves : Serves part locale kept whole)
+    (known : IsKnown whole part locale) where
+  found_at : (key : List ℕ) (answer : Result code.LanguageRules LanguageError) → value_at (view kept.document) part key ≡ value_at whole part key
       → IsFoundAt (view kept.document) part key answer → IsFoundAt whole part key answer
   found_at key (Ok language) alike at = (at.0, sym alike ∙ at.1, at.2)
   found_at key (Err error) alike at =
       (at.0, at.1, rw (← alike) at.2, subst (λ (value : Option Data). IsFaultByte value at.0 at.1) alike at.3, at.4)
 
-  found_by : (answer : Result code.Language LanguageError) → IsFoundBy kept part locale answer → IsFoundFor whole part locale answer
+  found_by : (answer : Result code.LanguageRules LanguageError) → IsFoundBy kept part locale answer → IsFoundFor whole part locale answer
   found_by answer = by (key_by string_bytes kept.key) serves
     where
       by : (first : Result (List ℕ) FallbackError) → ServesAt part locale (view kept.document) whole first
@@ -76,12 +78,12 @@ module _ (part : Part) (locale : List ℕ) (kept : KeptRules) (whole : Data) (se
       by (Ok key) served is = inl (string_bytes key, served.0, is)
       by (Err reason) served is = inr (reason, served, is)
 
-  answer_served : (Prints : code.Language → PrintedText → Type 0) (answer : Result PrintedText LanguageError)
+  answer_served : (Prints : code.LanguageRules → PrintedText → Type 0) (answer : Result PrintedText LanguageError)
       → AnswersFirst Prints (IsFoundBy kept part locale) answer → Answers Prints part locale whole answer
   answer_served Prints (Ok printed) is = (is.0, inr (known, found_by (Ok is.0) is.1), is.2)
   answer_served Prints (Err error) is = inr (known, found_by (Err error) is)
 
-  pub printed_served : (Prints : code.Language → PrintedText → Type 0) (answer : Result (Result PrintedText LanguageError) AllocError)
+  pub printed_served : (Prints : code.LanguageRules → PrintedText → Type 0) (answer : Result (Result PrintedText LanguageError) AllocError)
       → IfOk answer (λ a. AnswersFirst Prints (IsFoundBy kept part locale) a) → IfOk answer (λ a. Answers Prints part locale whole a)
   printed_served Prints (Ok answer) is = answer_served Prints answer is
   printed_served Prints (Err error) is = is
@@ -93,7 +95,7 @@ module _ (part : Part) (locale : List ℕ) (kept : KeptRules) (whole : Data) (se
   notes_after A B answers old new r (inr n) = inr (answers (Err Memory) n.0, n.1, n.2)
 
   -- a text and its notes
-  pub text_served : (Prints : code.Language → PrintedText → Type 0) (old new before after : Option (List ℕ)) (r : Result Verdict FormsError)
+  pub text_served : (Prints : code.LanguageRules → PrintedText → Type 0) (old new before after : Option (List ℕ)) (r : Result Verdict FormsError)
       → NotesAfter (Writes (AnswersFirst Prints (IsFoundBy kept part locale)) old new) (IsKeptNote kept part locale) before after r
       → NotesAfter (Writes (Answers Prints part locale whole) old new) (IsNote whole [] part locale) before after r
   text_served Prints old new before after r is =
@@ -111,5 +113,6 @@ module _ (part : Part) (locale : List ℕ) (kept : KeptRules) (whole : Data) (se
       → NotesAfter (AnswersLines (IsFoundBy kept part locale) taken left old new) (IsKeptNote kept part locale) before after r
       → NotesAfter (AnswersLines (IsFoundFor whole part locale) taken left old new) (IsNote whole [] part locale) before after r
   lines_served taken left old new before after r is =
-      notes_after (AnswersLines (IsFoundBy kept part locale) taken left old new) (AnswersLines (IsFoundFor whole part locale) taken left old new)
+      notes_after (AnswersLines (IsFoundBy kept part locale) taken left old new)
+      (AnswersLines (IsFoundFor whole part locale) taken left old new)
       (λ answer by. lines_by taken left old new answer by) before after r is

@@ -1,5 +1,6 @@
 -- Keys that are similar to a language.
-use Rattle.std.proofs.Common.{◌≡◌, ℕ, suc, ◌-◌, ◌<◌, ◌≤◌, List, [], ◌∷◌, ◌++◌, Bool, true, false, get_or, length, map, take, take_all, drop, refl, sym, ap, ◌∙◌, arith}
+use Rattle.std.proofs.Common.{◌≡◌, ℕ, suc, ◌-◌, ◌<◌, ◌≤◌, List, [], ◌∷◌, ◌++◌, Bool, true, false, get_or, length, map, take}
+use Rattle.std.proofs.Common.{take_all, drop, refl, sym, ap, ◌∙◌, arith}
 use Rattle.std.specs.Prelude.{◌==◌, ◌&&◌, ◌||◌, filter, if◌then◌else◌}
 use Rattle.std.specs.List.{list_any}
 use Rattle.std.proofs.Math.Bool.{and-false, and-true, or-false}
@@ -36,14 +37,16 @@ alike a b = folded a == folded b
 
 module _ (a b : ℕ) where
   longer_behind : (others : List ℕ) (lefts : List (List ℕ))
-      → list_any (λ left. is_same left (b ∷ others)) (map (λ left. a ∷ left) lefts) ≡ (alike a b && list_any (λ left. is_same left others) lefts)
+      → list_any (λ left. is_same left (b ∷ others)) (map (λ left. a ∷ left) lefts)
+      ≡ (alike a b && list_any (λ left. is_same left others) lefts)
   longer_behind others [] = sym (and-false (alike a b))
   longer_behind others (left ∷ lefts) =
       ap (λ (r : Bool). (alike a b && is_same left others) || r) (longer_behind others lefts)
       ∙ distributes (alike a b) (is_same left others) (list_any (λ left. is_same left others) lefts)
 
   shorter_behind : (ones : List ℕ) (lefts : List (List ℕ))
-      → list_any (λ left. is_same (a ∷ ones) left) (map (λ left. b ∷ left) lefts) ≡ (alike a b && list_any (λ left. is_same ones left) lefts)
+      → list_any (λ left. is_same (a ∷ ones) left) (map (λ left. b ∷ left) lefts)
+      ≡ (alike a b && list_any (λ left. is_same ones left) lefts)
   shorter_behind ones [] = sym (and-false (alike a b))
   shorter_behind ones (left ∷ lefts) =
       ap (λ (r : Bool). (alike a b && is_same ones left) || r) (shorter_behind ones lefts)
@@ -203,7 +206,8 @@ pub like_told : (likeness : Likeness) (language : List ℕ) (now next : SimilarK
     → is_like likeness language key ≡ true → next ≡ first_three (names_of now ++ key ∷ [])
     → told_in likeness language now (key ∷ keys) ≡ told_in likeness language next keys
 like_told likeness language now next key keys like added =
-    ap (λ (b : Bool). first_three (names_of now ++ (if b then key ∷ filter (is_like likeness language) keys else filter (is_like likeness language) keys)))
+    ap (λ (b : Bool). first_three
+    (names_of now ++ (if b then key ∷ filter (is_like likeness language) keys else filter (is_like likeness language) keys)))
     like
     ∙ sym (one_added now key (filter (is_like likeness language) keys))
     ∙ ap (λ (s : SimilarKeys). told_in likeness language s keys) (sym added)
@@ -211,5 +215,6 @@ like_told likeness language now next key keys like added =
 pub other_told : (likeness : Likeness) (language : List ℕ) (now : SimilarKeys) (key : List ℕ) (keys : List (List ℕ))
     → is_like likeness language key ≡ false → told_in likeness language now (key ∷ keys) ≡ told_in likeness language now keys
 other_told likeness language now key keys differs =
-    ap (λ (b : Bool). first_three (names_of now ++ (if b then key ∷ filter (is_like likeness language) keys else filter (is_like likeness language) keys)))
+    ap (λ (b : Bool). first_three
+    (names_of now ++ (if b then key ∷ filter (is_like likeness language) keys else filter (is_like likeness language) keys)))
     differs

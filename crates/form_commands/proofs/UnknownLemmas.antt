@@ -1,5 +1,6 @@
 -- Languages that are unknown, by an outline and by the whole document.
-use Rattle.std.proofs.Common.{◌≡◌, ℕ, List, true, false, Option, Some, Result, Ok, Err, inl, inr, sym, ap, subst, ◌∙◌, String, Global, string_bytes}
+use Rattle.std.proofs.Common.{◌≡◌, ℕ, List, true, false, Option, Some, Result, Ok, Err, inl, inr, sym, ap, subst, ◌∙◌, String}
+use Rattle.std.proofs.Common.{Global, string_bytes}
 use Rattle.std.specs.Prelude.{unwrap_or}
 use Rattle.plural_documents.specs.Inputs.{json_of}
 use Rattle.plural_fallback.specs.declared.error.FallbackError.{FallbackError}

@@ -16,7 +16,7 @@ use Rattle.number_categories.specs.WholeNumbers.{AreTwoLeast}
 use Rattle.plural_fallback.specs.LocalesJson.{part_name}
 use Rattle.plural_fallback.specs.declared.locales.Part.{Part}
 use Rattle.serde_json.specs.View.{view}
-use Rattle.form_commands.specs.declared.language.Language.{Language}
+use Rattle.form_commands.specs.declared.language.LanguageRules.{LanguageRules}
 
 -- ---- Whole numbers
 
@@ -48,14 +48,14 @@ IsSamplesOf (Some rule) text = IsSamplesText rule text
 -- ---- The line of a form
 
 -- the category, its whole numbers and the samples of its text
-abbrev pub IsForm : Language → PluralCategory → List ℕ → Type 0
+abbrev pub IsForm : LanguageRules → PluralCategory → List ℕ → Type 0
 IsForm language category line =
     (wholes samples : List ℕ) × IsWholesText language.rules category wholes
     × IsSamplesOf (text_under category (view language.value.now)) samples
     × (line ≡ name_of category ++ codes ": " ++ wholes ++ samples ++ codes "\n")
 
 -- those of several categories, in their order
-abbrev pub AreForms : Language → List PluralCategory → List ℕ → Type 0
+abbrev pub AreForms : LanguageRules → List PluralCategory → List ℕ → Type 0
 AreForms language [] text = text ≡ []
 AreForms language (category ∷ categories) text =
     (first rest : List ℕ) × IsForm language category first × AreForms language categories rest × (text ≡ first ++ rest)
@@ -70,12 +70,12 @@ abbrev pub alone_text : Bool → List ℕ
 alone_text alone = if alone then codes ", other alone" else []
 
 -- whose rules these are, whether other is alone, and below which limit whole numbers are looked at
-abbrev pub header_line : Part → List ℕ → Language → List ℕ
+abbrev pub header_line : Part → List ℕ → LanguageRules → List ℕ
 header_line part locale language =
     locale ++ codes ": " ++ part_name part ++ codes " rules of " ++ language.key.now ++ alone_text (is_alone language.rules)
     ++ codes ", whole numbers below 10000\n"
 
 -- the categories that have a rule, from zero to many, and other
-abbrev pub IsFormList : Part → List ℕ → Language → List ℕ → Type 0
+abbrev pub IsFormList : Part → List ℕ → LanguageRules → List ℕ → Type 0
 IsFormList part locale language text =
     (forms : List ℕ) × AreForms language (categories_of language.rules) forms × (text ≡ header_line part locale language ++ forms)

@@ -37,7 +37,7 @@ use Rattle.form_commands.specs.declared.error.FormsError.TheVariants.{Rules, Too
 use Rattle.form_commands.specs.declared.error.LanguageError.{LanguageError}
 use Rattle.form_commands.specs.declared.error.Verdict.{Verdict}
 use Rattle.form_commands.specs.declared.error.Verdict.TheVariants.{Complete, Noted, Faults}
-use Rattle.form_commands.specs.declared.language.Language as code
+use Rattle.form_commands.specs.declared.language.LanguageRules as code
 
 -- ---- Answers
 
@@ -50,21 +50,21 @@ abbrev pub IsNoJson : List ℕ → Type 0
 IsNoJson input = (length input ≤ most_bytes) × (json_of input ≡ None)
 
 -- the forms of a language
-abbrev pub IsListAnswer : Part → List ℕ → code.Language → PrintedText → Type 0
+abbrev pub IsListAnswer : Part → List ℕ → code.LanguageRules → PrintedText → Type 0
 IsListAnswer part locale language printed = (text : List ℕ) × IsFormList part locale language text × (printed ≡ only_text text)
 
 -- the line for gettext
-abbrev pub IsGettextAnswer : code.Language → PrintedText → Type 0
+abbrev pub IsGettextAnswer : code.LanguageRules → PrintedText → Type 0
 IsGettextAnswer language printed = (text : List ℕ) × IsGettextLine language.rules text × (printed ≡ only_text text)
 
 -- a line for each word of a list
-abbrev pub IsNumbersAnswer : List (List ℕ) → code.Language → PrintedText → Type 0
+abbrev pub IsNumbersAnswer : List (List ℕ) → code.LanguageRules → PrintedText → Type 0
 IsNumbersAnswer words language printed = AreNumberAnswers language.rules words printed
 
 -- what is printed by the rules of a locale, or why there are none
-abbrev pub Answers : (code.Language → PrintedText → Type 0) → Part → List ℕ → Data → Result PrintedText LanguageError → Type 0
+abbrev pub Answers : (code.LanguageRules → PrintedText → Type 0) → Part → List ℕ → Data → Result PrintedText LanguageError → Type 0
 Answers Prints part locale document (Ok printed) =
-    (language : code.Language) × IsLanguageFor document part locale (Ok language) × Prints language printed
+    (language : code.LanguageRules) × IsLanguageFor document part locale (Ok language) × Prints language printed
 Answers Prints part locale document (Err error) = IsLanguageFor document part locale (Err error)
 
 -- ---- What is written
@@ -111,7 +111,7 @@ IsStreamed rules before left old new (Err Memory) = IsAnsweredInPart rules befor
 abbrev pub IsStreamedFor : Part → List ℕ → List ℕ → Option (List ℕ) → Option (List ℕ) → Option (List ℕ) → Option (List ℕ)
     → Result Verdict FormsError → Type 0
 IsStreamedFor part locale input before left old new result =
-    (document : Data) × (language : code.Language) × IsDocumentIn input document × IsLanguageFor document part locale (Ok language)
+    (document : Data) × (language : code.LanguageRules) × IsDocumentIn input document × IsLanguageFor document part locale (Ok language)
     × IsStreamed language.rules before left old new result
 
 -- nothing is taken, and nothing is written

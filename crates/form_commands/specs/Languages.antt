@@ -24,7 +24,7 @@ use Rattle.form_commands.specs.declared.error.LanguageError.{LanguageError}
 use Rattle.form_commands.specs.FaultBytes.{IsFaultByte}
 use Rattle.form_commands.specs.SimilarKeys.{similar_keys}
 use Rattle.form_commands.specs.declared.error.LanguageError.TheVariants.{NotFound, Refused, Unknown}
-use Rattle.form_commands.specs.declared.language.Language.{Language}
+use Rattle.form_commands.specs.declared.language.LanguageRules.{LanguageRules}
 
 -- ---- The rules of a key
 
@@ -34,7 +34,7 @@ rules_in None = Err Shape
 rules_in (Some value) = rules_of_json value
 
 -- the value under the key and its rules, or why it is refused, and where
-abbrev pub IsFoundAt : Data → Part → List ℕ → Result Language LanguageError → Type 0
+abbrev pub IsFoundAt : Data → Part → List ℕ → Result LanguageRules LanguageError → Type 0
 IsFoundAt document part key (Ok language) =
     (language.key.now ≡ key) × (value_at document part key ≡ Some (view language.value.now))
     × (rules_of_json (view language.value.now) ≡ Ok language.rules)
@@ -45,7 +45,7 @@ IsFoundAt document part key (Err error) =
 -- ---- The rules of a locale
 
 -- those of the first key, or why there are none
-abbrev pub IsFoundFor : Data → Part → List ℕ → Result Language LanguageError → Type 0
+abbrev pub IsFoundFor : Data → Part → List ℕ → Result LanguageRules LanguageError → Type 0
 IsFoundFor document part locale answer =
     ((key : List ℕ) × IsKeyOf document part locale key × IsFoundAt document part key answer)
     ⊎ ((reason : FallbackError) × HasNoKey document part locale reason × (answer ≡ Err (NotFound part locale reason)))
@@ -84,7 +84,7 @@ unknown_error document part locale =
     Unknown part locale (similar_keys (language locale) (keys_under (part_name part) document))
 
 -- the rules of a known language, or why there are none
-abbrev pub IsLanguageFor : Data → Part → List ℕ → Result Language LanguageError → Type 0
+abbrev pub IsLanguageFor : Data → Part → List ℕ → Result LanguageRules LanguageError → Type 0
 IsLanguageFor document part locale answer =
     (IsUnknown document part locale × (answer ≡ Err (unknown_error document part locale)))
     ⊎ (IsKnown document part locale × IsFoundFor document part locale answer)

@@ -18,7 +18,7 @@ use std::alloc::{AllocError, Global};
 
 // A key of a document, what stands under it, and the rules of that.
 #[derive(Drop)]
-pub(crate) struct Language<'a> {
+pub(crate) struct LanguageRules<'a> {
     pub(crate) key: &'a str,
     pub(crate) value: &'a Value,
     pub(crate) rules: PluralRules<'static>,
@@ -30,7 +30,7 @@ pub(crate) fn language_of<'a>(
     kept: &'a KeptRules,
     part: Part,
     locale: &str,
-) -> Result<Result<Language<'a>, LanguageError>, AllocError>
+) -> Result<Result<LanguageRules<'a>, LanguageError>, AllocError>
     ensures { IfOk result (IsFoundBy kept.now part locale.now) }
 {
     match &kept.key {
@@ -48,14 +48,14 @@ fn at_key<'a>(
     document: &'a Value,
     part: Part,
     key: &'a str,
-) -> Result<Result<Language<'a>, LanguageError>, AllocError>
+) -> Result<Result<LanguageRules<'a>, LanguageError>, AllocError>
     ensures { IfOk result (λ answer. IsFoundAt (view document.now) part key.now answer) }
 {
     let Some(value) = value_at(document, part, key) else {
         return refused(alloc, part, key, JsonError::Shape, None);
     };
     match PluralRulesData::from_json(alloc, value) {
-        Ok(data) => Ok(Ok(Language {
+        Ok(data) => Ok(Ok(LanguageRules {
             key,
             value,
             rules: PluralRules::from_data(data),
@@ -82,7 +82,7 @@ fn refused<'a>(
     key: &str,
     reason: JsonError,
     byte: Option<usize>,
-) -> Result<Result<Language<'a>, LanguageError>, AllocError>
+) -> Result<Result<LanguageRules<'a>, LanguageError>, AllocError>
     ensures { IfOk result (λ answer. answer ≡ Err (LanguageError.Refused part key.now reason byte)) }
 {
     let key = Name::from_str(alloc, key)?;

@@ -11,7 +11,7 @@ ghost use Rattle.form_commands.specs.FormLines.{AreForms, IsForm, IsFormList, Is
 ghost use Rattle.form_commands.specs.Inner.PrintedSteps.{Grows};
 ghost use Rattle.serde_json.specs.View.{view};
 
-use crate::language::Language;
+use crate::language::LanguageRules;
 use icu_plurals::laws::one_list_of_tokens;
 use icu_plurals::provider::RawPluralCategory;
 use icu_plurals::provider::rules::reference::ast::Samples;
@@ -27,7 +27,7 @@ pub(crate) fn list_text(
     alloc: Global,
     part: Part,
     locale: &str,
-    language: &Language<'_>,
+    language: &LanguageRules<'_>,
 ) -> Result<String, AllocError>
     ensures { IfOk result (λ text. IsFormList part locale.now language.now (string_bytes text)) }
 {
@@ -41,7 +41,7 @@ fn header(
     alloc: Global,
     part: Part,
     locale: &str,
-    language: &Language<'_>,
+    language: &LanguageRules<'_>,
 ) -> Result<String, AllocError>
     ensures { IfOk result (λ text. string_bytes text ≡ header_line part locale.now language.now) }
 {
@@ -71,7 +71,11 @@ fn is_alone(rules: &PluralRules<'_>) -> bool
 }
 
 // Appends the lines of the forms, in the order of the rules.
-fn push_forms(alloc: Global, language: &Language<'_>, text: &mut String) -> Result<(), AllocError>
+fn push_forms(
+    alloc: Global,
+    language: &LanguageRules<'_>,
+    text: &mut String,
+) -> Result<(), AllocError>
     ensures { OnOk result (Grows (AreForms language.now (categories_of language.now.rules)) (string_bytes text.old) (string_bytes text.new)) }
 {
     let least = two_least_of_each(&language.rules, 0);
@@ -85,7 +89,7 @@ fn push_forms(alloc: Global, language: &Language<'_>, text: &mut String) -> Resu
 // Appends the line of a form, given its two least whole numbers.
 fn push_form(
     alloc: Global,
-    language: &Language<'_>,
+    language: &LanguageRules<'_>,
     category: PluralCategory,
     two: TwoNumbers,
     text: &mut String,

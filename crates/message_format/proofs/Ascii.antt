@@ -23,7 +23,8 @@ digits (d ∷ ds) h = (let l : d < 10 = h.0 in omega arith, digits ds h.1)
 
 unsigned : (text : List ℕ) (x : Places) → AreDigits x.whole → AreDigits x.fraction → StandsAs text x → Below text
 unsigned text x w f (inl h) = subst Below (sym h.1) (digits x.whole w)
-unsigned text x w f (inr (inl h)) = subst Below (sym h.1) (joined _ _ (joined _ _ (digits x.whole w) (omega arith, tt)) (digits x.fraction f))
+unsigned text x w f (inr (inl h)) =
+    subst Below (sym h.1) (joined _ _ (joined _ _ (digits x.whole w) (omega arith, tt)) (digits x.fraction f))
 unsigned text x w f (inr (inr h)) = subst Below (sym h.2) (joined (codes ".") _ (omega arith, tt) (digits x.fraction f))
 
 signs : (s : Sign) → Below (sign_text s)

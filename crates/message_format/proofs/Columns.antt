@@ -1,5 +1,6 @@
 -- Digits in columns, and the numbers that they write.
-use Rattle.std.proofs.Common.{◌≡◌, ◌↔◌, true, ℕ, zero, suc, ◌+◌, ◌-◌, ◌*◌, ◌^◌, ◌<◌, ◌≤◌, List, [], ◌∷◌, ◌++◌, length, take, drop, replicate, get_or, reverse, refl, sym, ap, subst, ◌∙◌, arith, length-append}
+use Rattle.std.proofs.Common.{◌≡◌, ◌↔◌, true, ℕ, zero, suc, ◌+◌, ◌-◌, ◌*◌, ◌^◌, ◌<◌, ◌≤◌, List, [], ◌∷◌, ◌++◌, length, take, drop}
+use Rattle.std.proofs.Common.{replicate, get_or, reverse, refl, sym, ap, subst, ◌∙◌, arith, length-append}
 use Rattle.std.specs.Bool.{IsTrue}
 use Rattle.std.proofs.Math.Nat.{pow-suc, mul-le-mul_right}
 use Rattle.std.proofs.Math.Seq.{drop-cons}
@@ -123,29 +124,34 @@ borrow_value d b c a next p q r low high h e k =
 borrow_more : (a b c d next : ℕ) (s t r : List ℕ) → IsBorrowed s t r c → d + (b + c) ≡ a + 10 * next → d < 10 → next ≤ 1
     → IsBorrowed (a ∷ s) (b ∷ t) (d ∷ r) next
 borrow_more a b c d next s t r h e l n =
-    let v = borrow_value d b c a next (10 ^ length r) (10 ^ suc (length r)) (value_of r) (value_of t) (value_of s) e (pow-suc 10 (length r)) h.value in
+    let v = borrow_value d b c a next (10 ^ length r) (10 ^ suc (length r)) (value_of r) (value_of t) (value_of s) e (pow-suc 10 (length r))
+    h.value in
     let up : 10 ^ length r ≡ 10 ^ length s = ap (λ (n : ℕ). 10 ^ n) h.upper in
     let down : 10 ^ length r ≡ 10 ^ length t = ap (λ (n : ℕ). 10 ^ n) h.lower in
     record {
       value =
           subst (λ (p : ℕ). (d * 10 ^ length r + value_of r) + (b * p + value_of t) ≡ value_of (a ∷ s) + next * 10 ^ suc (length r)) down
-          (subst (λ (p : ℕ). (d * 10 ^ length r + value_of r) + (b * 10 ^ length r + value_of t) ≡ (a * p + value_of s) + next * 10 ^ suc (length r)) up v);
+          (subst (λ (p : ℕ). (d * 10 ^ length r + value_of r) + (b * 10 ^ length r + value_of t)
+          ≡ (a * p + value_of s) + next * 10 ^ suc (length r)) up v);
       digits = (l, h.digits);
       upper = ap suc h.upper;
       lower = ap suc h.lower;
       most = n;
     }
 
-pub borrow_init : (s t items : List ℕ) (n : ℕ) → length s ≡ n → length t ≡ n → items ≡ [] → IsBorrowed (drop n s) (drop n t) (reverse items) 0
+pub borrow_init : (s t items : List ℕ) (n : ℕ) → length s ≡ n → length t ≡ n → items ≡ []
+    → IsBorrowed (drop n s) (drop n t) (reverse items) 0
 borrow_init s t items n h k e =
     let none : IsBorrowed [] [] [] 0 = record { value = refl; digits = tt; upper = refl; lower = refl; most = omega arith } in
     rw (drop_all s n (omega arith), drop_all t n (omega arith), e) none
 
-pub borrow_step : (s t old new : List ℕ) (i j a b c d next n : ℕ) → length s ≡ n → length t ≡ n → i < n → j ≡ suc i → a ≡ get_or s i 0 → b ≡ get_or t i 0
+pub borrow_step : (s t old new : List ℕ) (i j a b c d next n : ℕ) → length s ≡ n → length t ≡ n → i < n → j ≡ suc i → a ≡ get_or s i 0
+    → b ≡ get_or t i 0
     → d + (b + c) ≡ a + 10 * next → d < 10 → next ≤ 1 → new ≡ old ++ d ∷ [] → IsBorrowed (drop j s) (drop j t) (reverse old) c
     → IsBorrowed (drop i s) (drop i t) (reverse new) next
 borrow_step s t old new i j a b c d next n hs ht l e ea eb v below least pushed h =
-    let more : IsBorrowed (a ∷ drop j s) (b ∷ drop j t) (d ∷ reverse old) next = borrow_more a b c d next (drop j s) (drop j t) (reverse old) h v below least in
+    let more : IsBorrowed (a ∷ drop j s) (b ∷ drop j t) (d ∷ reverse old) next =
+    borrow_more a b c d next (drop j s) (drop j t) (reverse old) h v below least in
     let first : IsBorrowed (drop i s) (b ∷ drop j t) (d ∷ reverse old) next
     = subst (λ (u : List ℕ). IsBorrowed u (b ∷ drop j t) (d ∷ reverse old) next) (sym (dropped s i j a (omega arith) e ea)) more in
     let second : IsBorrowed (drop i s) (drop i t) (d ∷ reverse old) next
@@ -153,9 +159,11 @@ borrow_step s t old new i j a b c d next n hs ht l e ea eb v below least pushed 
     subst (λ (u : List ℕ). IsBorrowed (drop i s) (drop i t) u next) (sym (added_first old new d pushed)) second
 
 -- all columns
-pub borrow_all : (s t items new : List ℕ) (i c : ℕ) → i ≡ 0 → new ≡ reverse items → IsBorrowed (drop i s) (drop i t) (reverse items) c → IsBorrowed s t new c
+pub borrow_all : (s t items new : List ℕ) (i c : ℕ) → i ≡ 0 → new ≡ reverse items → IsBorrowed (drop i s) (drop i t) (reverse items) c
+    → IsBorrowed s t new c
 borrow_all s t items new i c none e h =
-    let k : IsBorrowed (drop 0 s) (drop 0 t) (reverse items) c = subst (λ (n : ℕ). IsBorrowed (drop n s) (drop n t) (reverse items) c) none h in
+    let k : IsBorrowed (drop 0 s) (drop 0 t) (reverse items) c =
+    subst (λ (n : ℕ). IsBorrowed (drop n s) (drop n t) (reverse items) c) none h in
     subst (λ (u : List ℕ). IsBorrowed s t u c) (sym e) k
 
 -- ---- the same of sums
@@ -169,13 +177,15 @@ carry_value d b c a next p q r low high h e k =
 carry_more : (a b c d next : ℕ) (s t r : List ℕ) → IsCarried s t r c → d + 10 * next ≡ a + b + c → d < 10 → next ≤ 1
     → IsCarried (a ∷ s) (b ∷ t) (d ∷ r) next
 carry_more a b c d next s t r h e l n =
-    let v = carry_value d b c a next (10 ^ length r) (10 ^ suc (length r)) (value_of r) (value_of t) (value_of s) e (pow-suc 10 (length r)) h.value in
+    let v = carry_value d b c a next (10 ^ length r) (10 ^ suc (length r)) (value_of r) (value_of t) (value_of s) e (pow-suc 10 (length r))
+    h.value in
     let up : 10 ^ length r ≡ 10 ^ length s = ap (λ (n : ℕ). 10 ^ n) h.upper in
     let down : 10 ^ length r ≡ 10 ^ length t = ap (λ (n : ℕ). 10 ^ n) h.lower in
     record {
       value =
           subst (λ (p : ℕ). (d * 10 ^ length r + value_of r) + next * 10 ^ suc (length r) ≡ value_of (a ∷ s) + (b * p + value_of t)) down
-          (subst (λ (p : ℕ). (d * 10 ^ length r + value_of r) + next * 10 ^ suc (length r) ≡ (a * p + value_of s) + (b * 10 ^ length r + value_of t)) up v);
+          (subst (λ (p : ℕ). (d * 10 ^ length r + value_of r) + next * 10 ^ suc (length r)
+          ≡ (a * p + value_of s) + (b * 10 ^ length r + value_of t)) up v);
       digits = (l, h.digits);
       upper = ap suc h.upper;
       lower = ap suc h.lower;
@@ -187,11 +197,13 @@ carry_init s t items n h k e =
     let none : IsCarried [] [] [] 0 = record { value = refl; digits = tt; upper = refl; lower = refl; most = omega arith } in
     rw (drop_all s n (omega arith), drop_all t n (omega arith), e) none
 
-pub carry_step : (s t old new : List ℕ) (i j a b c d next n : ℕ) → length s ≡ n → length t ≡ n → i < n → j ≡ suc i → a ≡ get_or s i 0 → b ≡ get_or t i 0
+pub carry_step : (s t old new : List ℕ) (i j a b c d next n : ℕ) → length s ≡ n → length t ≡ n → i < n → j ≡ suc i → a ≡ get_or s i 0
+    → b ≡ get_or t i 0
     → d + 10 * next ≡ a + b + c → d < 10 → next ≤ 1 → new ≡ old ++ d ∷ [] → IsCarried (drop j s) (drop j t) (reverse old) c
     → IsCarried (drop i s) (drop i t) (reverse new) next
 carry_step s t old new i j a b c d next n hs ht l e ea eb v below least pushed h =
-    let more : IsCarried (a ∷ drop j s) (b ∷ drop j t) (d ∷ reverse old) next = carry_more a b c d next (drop j s) (drop j t) (reverse old) h v below least in
+    let more : IsCarried (a ∷ drop j s) (b ∷ drop j t) (d ∷ reverse old) next =
+    carry_more a b c d next (drop j s) (drop j t) (reverse old) h v below least in
     let first : IsCarried (drop i s) (b ∷ drop j t) (d ∷ reverse old) next
     = subst (λ (u : List ℕ). IsCarried u (b ∷ drop j t) (d ∷ reverse old) next) (sym (dropped s i j a (omega arith) e ea)) more in
     let second : IsCarried (drop i s) (drop i t) (d ∷ reverse old) next
@@ -206,8 +218,10 @@ sum_of s t r c h =
     record { value = omega arith; digits = (omega arith, h.digits); places = omega arith }
 
 -- all columns, and what is carried
-pub carry_all : (s t items last new : List ℕ) (i c : ℕ) → i ≡ 0 → last ≡ items ++ c ∷ [] → new ≡ reverse last → IsCarried (drop i s) (drop i t) (reverse items) c
+pub carry_all : (s t items last new : List ℕ) (i c : ℕ) → i ≡ 0 → last ≡ items ++ c ∷ [] → new ≡ reverse last
+    → IsCarried (drop i s) (drop i t) (reverse items) c
     → IsSum s t new
 carry_all s t items last new i c none pushed e h =
-    let k : IsCarried (drop 0 s) (drop 0 t) (reverse items) c = subst (λ (n : ℕ). IsCarried (drop n s) (drop n t) (reverse items) c) none h in
+    let k : IsCarried (drop 0 s) (drop 0 t) (reverse items) c =
+    subst (λ (n : ℕ). IsCarried (drop n s) (drop n t) (reverse items) c) none h in
     subst (λ (u : List ℕ). IsSum s t u) (sym (e ∙ added_first items last c pushed)) (sum_of s t (reverse items) c k)

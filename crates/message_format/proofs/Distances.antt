@@ -1,5 +1,7 @@
 -- The digits of a difference, and the number that they write.
-use Rattle.std.proofs.Common.{◌≡◌, ◌↔◌, ℕ, zero, suc, ◌+◌, ◌-◌, ◌*◌, ◌^◌, ◌<◌, ◌≤◌, pos, ◌-ℤ◌, Bool, true, false, List, [], ◌∷◌, ◌++◌, length, take, replicate, get_or, refl, sym, ap, subst, ◌∙◌, arith, length-append, append_assoc, Result, Ok, Err}
+use Rattle.std.proofs.Common.{◌≡◌, ◌↔◌, ℕ, zero, suc, ◌+◌, ◌-◌, ◌*◌, ◌^◌, ◌<◌, ◌≤◌, pos, ◌-ℤ◌, Bool, true, false, List, [], ◌∷◌}
+use Rattle.std.proofs.Common.{◌++◌, length, take, replicate, get_or, refl, sym, ap, subst, ◌∙◌, arith, length-append}
+use Rattle.std.proofs.Common.{append_assoc, Result, Ok, Err}
 use Rattle.std.specs.Bool.{IsTrue}
 use Rattle.std.specs.Prelude.{IfOk}
 use Rattle.std.proofs.lemmas.Int.{ints}
@@ -18,7 +20,8 @@ abbrev pub placed : ℕ → ℕ → Places → List ℕ
 placed columns before p =
     (replicate before 0 ++ (p.whole ++ p.fraction)) ++ replicate (columns - length (replicate before 0 ++ (p.whole ++ p.fraction))) 0
 
-behind_length : (before : ℕ) (p : Places) → length (replicate before 0 ++ (p.whole ++ p.fraction)) ≡ before + (length p.whole + length p.fraction)
+behind_length : (before : ℕ) (p : Places)
+    → length (replicate before 0 ++ (p.whole ++ p.fraction)) ≡ before + (length p.whole + length p.fraction)
 behind_length before p =
     length-append (replicate before 0) (p.whole ++ p.fraction)
     ∙ (ap (λ (n : ℕ). n + length (p.whole ++ p.fraction)) (length-replicate {A = ℕ} before 0)
@@ -39,7 +42,8 @@ placed_length columns before p h =
     let e : length (placed columns before p)
     ≡ length (replicate {A = ℕ} before 0 ++ (p.whole ++ p.fraction))
     + length (replicate {A = ℕ} (columns - length (replicate {A = ℕ} before 0 ++ (p.whole ++ p.fraction))) 0)
-    = length-append (replicate {A = ℕ} before 0 ++ (p.whole ++ p.fraction)) (replicate {A = ℕ} (columns - length (replicate {A = ℕ} before 0 ++ (p.whole ++ p.fraction))) 0) in
+    = length-append (replicate {A = ℕ} before 0 ++ (p.whole ++ p.fraction))
+    (replicate {A = ℕ} (columns - length (replicate {A = ℕ} before 0 ++ (p.whole ++ p.fraction))) 0) in
     let z : length (replicate {A = ℕ} (columns - length (replicate {A = ℕ} before 0 ++ (p.whole ++ p.fraction))) 0)
     ≡ columns - length (replicate {A = ℕ} before 0 ++ (p.whole ++ p.fraction))
     = length-replicate {A = ℕ} (columns - length (replicate {A = ℕ} before 0 ++ (p.whole ++ p.fraction))) 0 in
@@ -48,7 +52,8 @@ placed_length columns before p h =
 -- ---- the three cases
 
 -- of a number below 0, or -0
-pub of_sum : (x : Decimal) (o : Places) (s t ds : List ℕ) → x.sign ≡ sign.Negative → IsSum s t ds → value_of s ≡ units (most_fraction x o) x.absolute
+pub of_sum : (x : Decimal) (o : Places) (s t ds : List ℕ) → x.sign ≡ sign.Negative → IsSum s t ds
+    → value_of s ≡ units (most_fraction x o) x.absolute
     → value_of t ≡ units (most_fraction x o) o → most_fraction x o ≤ length s → IsDistance x o true ds
 of_sum x o s t ds e h u v l =
     let sum : value_of ds ≡ value_of s + value_of t = h.value in
@@ -66,7 +71,8 @@ not_negative sign.Positive n h = refl
 
 -- of a number that isn't below the offset
 pub of_rest : (x : Decimal) (o : Places) (s t ds : List ℕ) (c : ℕ) → (x.sign ≡ sign.Negative → ⊥) → IsBorrowed s t ds c → c ≡ 0
-    → value_of s ≡ units (most_fraction x o) x.absolute → value_of t ≡ units (most_fraction x o) o → most_fraction x o + 1 ≤ length s → IsDistance x o false ds
+    → value_of s ≡ units (most_fraction x o) x.absolute → value_of t ≡ units (most_fraction x o) o → most_fraction x o + 1 ≤ length s
+    → IsDistance x o false ds
 of_rest x o s t ds c e h z u v l =
     let same : value_of ds + value_of t ≡ value_of s + c * 10 ^ length ds = h.value in
     let nothing : c * 10 ^ length ds ≡ 0 = ap (λ (n : ℕ). n * 10 ^ length ds) z ∙ omega arith in
@@ -88,8 +94,10 @@ is_none zero h = refl
 is_none (suc c) h = absurd (h (λ e. omega arith))
 
 -- of a number below the offset
-pub of_turned : (x : Decimal) (o : Places) (s t first ds : List ℕ) (b c : ℕ) → (x.sign ≡ sign.Negative → ⊥) → IsBorrowed s t first b → (b ≡ 0 → ⊥)
-    → IsBorrowed t s ds c → value_of s ≡ units (most_fraction x o) x.absolute → value_of t ≡ units (most_fraction x o) o → most_fraction x o + 1 ≤ length s
+pub of_turned : (x : Decimal) (o : Places) (s t first ds : List ℕ) (b c : ℕ) → (x.sign ≡ sign.Negative → ⊥) → IsBorrowed s t first b
+    → (b ≡ 0 → ⊥)
+    → IsBorrowed t s ds c → value_of s ≡ units (most_fraction x o) x.absolute → value_of t ≡ units (most_fraction x o) o
+    → most_fraction x o + 1 ≤ length s
     → IsDistance x o true ds
 of_turned x o s t first ds b c e h some k u v l =
     let one : b * 10 ^ length first ≡ 10 ^ length first = one_borrowed b (10 ^ length first) h.most some in
@@ -98,7 +106,8 @@ of_turned x o s t first ds b c e h some k u v l =
     let less : value_of s < value_of t = omega arith in
     let turned : value_of ds + value_of s ≡ value_of t + c * 10 ^ length ds = k.value in
     let few' : value_of ds < 10 ^ length ds = value_below ds k.digits in
-    let none : c ≡ 0 = is_none c (λ more. let one' : c * 10 ^ length ds ≡ 10 ^ length ds = one_borrowed c (10 ^ length ds) k.most more in omega arith) in
+    let none : c ≡ 0 =
+    is_none c (λ more. let one' : c * 10 ^ length ds ≡ 10 ^ length ds = one_borrowed c (10 ^ length ds) k.most more in omega arith) in
     let nothing : c * 10 ^ length ds ≡ 0 = ap (λ (n : ℕ). n * 10 ^ length ds) none ∙ omega arith in
     let n : length ds ≡ length s = k.lower in
     record {
@@ -127,10 +136,12 @@ module _ (x : Decimal) (o : Places) (most f columns before other : ℕ) (h : Are
   other_length = let a = h.other_whole in let b = h.other_zeros in behind_length other o ∙ omega arith
 
   first_value : value_of (placed columns before x.absolute) ≡ units (most_fraction x o) x.absolute
-  first_value = let a = first_length in let b = h.most_places in let d = h.all_columns in placed_value columns before (most_fraction x o) x.absolute (omega arith)
+  first_value = let a = first_length in let b = h.most_places in let d =
+      h.all_columns in placed_value columns before (most_fraction x o) x.absolute (omega arith)
 
   other_value : value_of (placed columns other o) ≡ units (most_fraction x o) o
-  other_value = let a = other_length in let b = h.most_places in let d = h.all_columns in placed_value columns other (most_fraction x o) o (omega arith)
+  other_value = let a = other_length in let b = h.most_places in let d =
+      h.all_columns in placed_value columns other (most_fraction x o) o (omega arith)
 
   all_columns : most_fraction x o + 1 ≤ length (placed columns before x.absolute)
   all_columns =
@@ -142,12 +153,14 @@ module _ (x : Decimal) (o : Places) (most f columns before other : ℕ) (h : Are
       let l : length (placed columns before x.absolute) ≡ columns = placed_length columns before x.absolute (omega arith) in
       omega arith
 
-  pub sum_distance : (ds : List ℕ) → x.sign ≡ sign.Negative → IsSum (placed columns before x.absolute) (placed columns other o) ds → IsDistance x o true ds
+  pub sum_distance : (ds : List ℕ) → x.sign ≡ sign.Negative → IsSum (placed columns before x.absolute) (placed columns other o) ds
+      → IsDistance x o true ds
   sum_distance ds e k =
       let l = all_columns in
       of_sum x o (placed columns before x.absolute) (placed columns other o) ds e k first_value other_value (omega arith)
 
-  pub rest_distance : (ds : List ℕ) (c : ℕ) → (x.sign ≡ sign.Negative → ⊥) → c ≡ 0 → IsBorrowed (placed columns before x.absolute) (placed columns other o) ds c
+  pub rest_distance : (ds : List ℕ) (c : ℕ) → (x.sign ≡ sign.Negative → ⊥) → c ≡ 0
+      → IsBorrowed (placed columns before x.absolute) (placed columns other o) ds c
       → IsDistance x o false ds
   rest_distance ds c e z k =
       of_rest x o (placed columns before x.absolute) (placed columns other o) ds c e k z first_value other_value all_columns
@@ -198,8 +211,10 @@ signed_so true false n m e h = (zero_so n m e (λ l. let b : false ≡ true = h.
         none (suc m) h = absurd (h (omega arith))
 
 -- the digits without needless zeros are those of the difference
-pub is_difference : (x : Decimal) (o : Places) (below negative : Bool) (ds short : List ℕ) → IsDistance x o below ds → value_of short ≡ value_of ds → AreDigits short
-    → most_fraction x o + 1 ≤ length short → (get_or short 0 0 ≡ 0 → length short ≡ most_fraction x o + 1) → IsTrue negative ↔ (IsTrue below × (0 < value_of short))
+pub is_difference : (x : Decimal) (o : Places) (below negative : Bool) (ds short : List ℕ) → IsDistance x o below ds
+    → value_of short ≡ value_of ds → AreDigits short
+    → most_fraction x o + 1 ≤ length short → (get_or short 0 0 ≡ 0 → length short ≡ most_fraction x o + 1)
+    → IsTrue negative ↔ (IsTrue below × (0 < value_of short))
     → IsDifference x o (number_of negative (most_fraction x o) short)
 is_difference x o below negative ds short h same digits least shortest is =
     let f = most_fraction x o in
@@ -210,19 +225,27 @@ is_difference x o below negative ds short h same digits least shortest is =
     = own_units (length d.absolute.fraction) d.absolute refl ∙ ap value_of (take-append-drop (length short - f) short) in
     let so = signed_so below negative (units (length d.absolute.fraction) d.absolute) (value_of short) all is in
     record {
-      written = record { nonempty = omega arith; whole = digits_take (length short - f) short digits; fraction = digits_drop (length short - f) short digits };
+      written =
+          record {
+            nonempty = omega arith;
+            whole = digits_take (length short - f) short digits;
+            fraction =
+                digits_drop (length short - f) short digits;
+          };
       places = places;
       value =
           so.0
           ∙ (ap (λ (n : ℕ). signed (sign_when below) n) same
-          ∙ subst (λ (n : ℕ). signed (sign_when below) (value_of ds) ≡ signed x.sign (units n x.absolute) -ℤ pos (units n o)) (sym places) h.value);
+          ∙ subst (λ (n : ℕ). signed (sign_when below) (value_of ds) ≡ signed x.sign (units n x.absolute) -ℤ pos (units n o)) (sym places)
+          h.value);
       sign = so.1;
       shortest = λ z.
           one_whole short f (shortest (sym (first_kept (length short - f) short (omega arith)) ∙ z) ∙ omega arith) z;
     }
 
 -- with the count of fraction digits as it was computed
-pub is_difference_at : (x : Decimal) (o : Places) (below negative : Bool) (ds short : List ℕ) (f : ℕ) → f ≡ most_fraction x o → IsDistance x o below ds
+pub is_difference_at : (x : Decimal) (o : Places) (below negative : Bool) (ds short : List ℕ) (f : ℕ) → f ≡ most_fraction x o
+    → IsDistance x o below ds
     → value_of short ≡ value_of ds → AreDigits short → f + 1 ≤ length short → (get_or short 0 0 ≡ 0 → length short ≡ f + 1)
     → IsTrue negative ↔ (IsTrue below × (0 < value_of short)) → IsDifference x o (number_of negative f short)
 is_difference_at x o below negative ds short f e h same digits least shortest is =

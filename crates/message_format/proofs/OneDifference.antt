@@ -1,5 +1,6 @@
 -- A number less an offset is one, and so is how it is written.
-use Rattle.std.proofs.Common.{◌≡◌, ℕ, zero, suc, ◌+◌, ◌*◌, ◌^◌, ◌<◌, ◌≤◌, pos, ◌-ℤ◌, List, [], ◌∷◌, ◌++◌, length, take, drop, get_or, refl, sym, ap, subst, ◌∙◌, inl, inr, arith, length-append}
+use Rattle.std.proofs.Common.{◌≡◌, ℕ, zero, suc, ◌+◌, ◌*◌, ◌^◌, ◌<◌, ◌≤◌, pos, ◌-ℤ◌, List, [], ◌∷◌, ◌++◌, length, take, drop}
+use Rattle.std.proofs.Common.{get_or, refl, sym, ap, subst, ◌∙◌, inl, inr, arith, length-append}
 use Rattle.std.proofs.Math.Nat.{mul-le-mul_right, pow-le-pow_right}
 use Rattle.std.proofs.Math.Seq.{take-append_seam, drop-append_seam}
 use Rattle.std.proofs.lemmas.Bool.{cases_lt}
@@ -62,7 +63,8 @@ at_least (suc d) ds n h l =
     let m : 1 * 10 ^ length ds ≤ suc d * 10 ^ length ds = mul-le-mul_right (10 ^ length ds) (omega arith) in
     omega arith
 
-longer : (s t f g : List ℕ) → AreDigits s → AreDigits f → 0 < length s → Shortest t → length f ≡ length g → value_of (s ++ f) ≡ value_of (t ++ g)
+longer : (s t f g : List ℕ) → AreDigits s → AreDigits f → 0 < length s → Shortest t → length f ≡ length g
+    → value_of (s ++ f) ≡ value_of (t ++ g)
     → length s < length t → ⊥
 longer s [] f g hs hf some short same v less = omega arith
 longer s (d ∷ t) f g hs hf some short same v less =
@@ -73,7 +75,8 @@ longer s (d ∷ t) f g hs hf some short same v less =
     let least : 10 ^ length (s ++ f) ≤ value_of (d ∷ (t ++ g)) = at_least d (t ++ g) (length (s ++ f)) first (omega arith) in
     omega arith
 
-one_length : (s t f g : List ℕ) → AreDigits s → AreDigits t → AreDigits f → AreDigits g → 0 < length s → 0 < length t → Shortest s → Shortest t → length f ≡ length g
+one_length : (s t f g : List ℕ) → AreDigits s → AreDigits t → AreDigits f → AreDigits g → 0 < length s → 0 < length t → Shortest s
+    → Shortest t → length f ≡ length g
     → value_of (s ++ f) ≡ value_of (t ++ g) → length s ≡ length t
 one_length s t f g hs ht hf hg some some' short short' same v =
     elim (cases_lt (length s) (length t)) [
@@ -110,24 +113,30 @@ same_decimal x y s a =
 one_absolute : (x y : Places) → IsWritten x → IsWritten y → Shortest x.whole → Shortest y.whole → length x.fraction ≡ length y.fraction
     → value_of (x.whole ++ x.fraction) ≡ value_of (y.whole ++ y.fraction) → x ≡ y
 one_absolute x y h k s t f v =
-    let w : length x.whole ≡ length y.whole = one_length x.whole y.whole x.fraction y.fraction h.whole k.whole h.fraction k.fraction h.nonempty k.nonempty s t f v in
+    let w : length x.whole ≡ length y.whole =
+    one_length x.whole y.whole x.fraction y.fraction h.whole k.whole h.fraction k.fraction h.nonempty k.nonempty s t f v in
     let m : length (x.whole ++ x.fraction) ≡ length x.whole + length x.fraction = length-append x.whole x.fraction in
     let n : length (y.whole ++ y.fraction) ≡ length y.whole + length y.fraction = length-append y.whole y.fraction in
     let all : x.whole ++ x.fraction ≡ y.whole ++ y.fraction
-    = one_run (x.whole ++ x.fraction) (y.whole ++ y.fraction) (digits_append x.whole x.fraction h.whole h.fraction) (digits_append y.whole y.fraction k.whole k.fraction) (omega arith) v in
+    = one_run (x.whole ++ x.fraction) (y.whole ++ y.fraction) (digits_append x.whole x.fraction h.whole h.fraction)
+    (digits_append y.whole y.fraction k.whole k.fraction) (omega arith) v in
     same_places x y
     (sym (take-append_seam x.whole x.fraction)
-    ∙ (ap (λ (l : List ℕ). take (length x.whole) l) all ∙ (ap (λ (n : ℕ). take n (y.whole ++ y.fraction)) w ∙ take-append_seam y.whole y.fraction)))
+    ∙ (ap (λ (l : List ℕ). take (length x.whole) l) all
+    ∙ (ap (λ (n : ℕ). take n (y.whole ++ y.fraction)) w ∙ take-append_seam y.whole y.fraction)))
     (sym (drop-append_seam x.whole x.fraction)
-    ∙ (ap (λ (l : List ℕ). drop (length x.whole) l) all ∙ (ap (λ (n : ℕ). drop n (y.whole ++ y.fraction)) w ∙ drop-append_seam y.whole y.fraction)))
+    ∙ (ap (λ (l : List ℕ). drop (length x.whole) l) all
+    ∙ (ap (λ (n : ℕ). drop n (y.whole ++ y.fraction)) w ∙ drop-append_seam y.whole y.fraction)))
 
 -- a difference is one
 pub one_difference : (x : Decimal) (o : Places) (d e : Decimal) → IsDifference x o d → IsDifference x o e → d ≡ e
 one_difference x o d e h k =
     let f : length e.absolute.fraction ≡ length d.absolute.fraction = k.places ∙ sym h.places in
     let k' : signed e.sign (units (length e.absolute.fraction) e.absolute) ≡ signed d.sign (units (length d.absolute.fraction) d.absolute)
-    = subst (λ (n : ℕ). signed e.sign (units (length e.absolute.fraction) e.absolute) ≡ signed x.sign (units n x.absolute) -ℤ pos (units n o)) f k.value ∙ sym h.value in
-    let so = one_sign d.sign e.sign (units (length d.absolute.fraction) d.absolute) (units (length e.absolute.fraction) e.absolute) h.sign k.sign (sym k') in
+    = subst (λ (n : ℕ). signed e.sign (units (length e.absolute.fraction) e.absolute)
+    ≡ signed x.sign (units n x.absolute) -ℤ pos (units n o)) f k.value ∙ sym h.value in
+    let so = one_sign d.sign e.sign (units (length d.absolute.fraction) d.absolute) (units (length e.absolute.fraction) e.absolute) h.sign
+    k.sign (sym k') in
     let v : value_of (d.absolute.whole ++ d.absolute.fraction) ≡ value_of (e.absolute.whole ++ e.absolute.fraction)
     = sym (own_units (length d.absolute.fraction) d.absolute refl) ∙ (so.1 ∙ own_units (length e.absolute.fraction) e.absolute refl) in
     same_decimal d e so.0 (one_absolute d.absolute e.absolute h.written k.written h.shortest k.shortest (sym f) v)

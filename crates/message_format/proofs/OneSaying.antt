@@ -1,5 +1,6 @@
 -- A pattern says one thing with its arguments.
-use Rattle.std.proofs.Common.{◌≡◌, ◌⊎◌, ◌<◌, ◌≤◌, ◌++◌, ◌-◌, ◌/◌, ◌^◌, ℕ, List, [], ◌∷◌, Option, Some, None, refl, sym, ap, subst, ◌∙◌, inl, inr, arith}
+use Rattle.std.proofs.Common.{◌≡◌, ◌⊎◌, ◌<◌, ◌≤◌, ◌++◌, ◌-◌, ◌/◌, ◌^◌, ℕ, List, [], ◌∷◌, Option, Some, None, refl, sym, ap, subst}
+use Rattle.std.proofs.Common.{◌∙◌, inl, inr, arith}
 use Rattle.fixed_decimal.specs.Places.{Places}
 use Rattle.fixed_decimal.specs.Places.{IsOverLimit}
 use Rattle.fixed_decimal.specs.Shown.{decimal_text}
@@ -18,7 +19,8 @@ use Rattle.message_format.specs.FormatArguments.{Value}
 use Rattle.message_format.specs.FormatArguments as argument
 use Rattle.message_format.specs.FormatBranches.{behind_end, branch_or_other, IsBranchOfValue, HasBranchOfValue, IsBranchOfNumber}
 use Rattle.message_format.specs.FormatOffsets.{IsDifference, plain}
-use Rattle.message_format.specs.FormatSteps.{Step, Stops, Prints, Chooses, Fails, TwoRules, StepsFromNumber, IsCounted, IsCountedBy, IsLess, IsCountedLess, IsPlural, IsChoice, IsStep}
+use Rattle.message_format.specs.FormatSteps.{Step, Stops, Prints, Chooses, Fails, TwoRules, StepsFromNumber, IsCounted}
+use Rattle.message_format.specs.FormatSteps.{IsCountedBy, IsLess, IsCountedLess, IsPlural, IsChoice, IsStep}
 use Rattle.message_format.specs.FormatMeaning.{PatternOutcome, Said, Faulty, Says, ends, stops, prints, chooses, breaks, fails}
 use Rattle.message_format.proofs.OneDifference.{one_difference}
 
@@ -56,7 +58,8 @@ one_kept x e o p h k =
 
 -- ---- the branch for a number is one
 
-one_by_value : (x : CompactNumber) (bs : List Branching) (a b : Option (List Part)) → IsBranchOfValue x bs a → IsBranchOfValue x bs b → a ≡ b
+one_by_value : (x : CompactNumber) (bs : List Branching) (a b : Option (List Part)) → IsBranchOfValue x bs a → IsBranchOfValue x bs b
+    → a ≡ b
 one_by_value x [] a b h k = h ∙ sym k
 one_by_value x (c ∷ bs) a b (inl h) (inl k) = h.1 ∙ sym k.1
 one_by_value x (c ∷ bs) a b (inl h) (inr k) = absurd (k.0 h.0)
@@ -86,8 +89,10 @@ one_branch rules x y bs p q (inr h) (inr k) =
 -- ---- what a part does is one
 
 -- where a text writes one number, what comes of it is one
-one_read : {A : Type 0} (Writes IsOver : A → Type 0) → ((x y : A) → Writes x → Writes y → x ≡ y) → (name : List ℕ) (Then : A → Step → Type 0)
-    → ((x : A) (s t : Step) → Then x s → Then x t → s ≡ t) → (s t : Step) → StepsFromNumber Writes IsOver name Then s → StepsFromNumber Writes IsOver name Then t → s ≡ t
+one_read : {A : Type 0} (Writes IsOver : A → Type 0) → ((x y : A) → Writes x → Writes y → x ≡ y)
+    → (name : List ℕ) (Then : A → Step → Type 0)
+    → ((x : A) (s t : Step) → Then x s → Then x t → s ≡ t) → (s t : Step) → StepsFromNumber Writes IsOver name Then s
+    → StepsFromNumber Writes IsOver name Then t → s ≡ t
 one_read Writes IsOver one name Then same s t (inl h) (inl k) = h.1 ∙ sym k.1
 one_read Writes IsOver one name Then same s t (inl h) (inr (inl k)) = absurd (h.0 k.0.0 k.0.1)
 one_read Writes IsOver one name Then same s t (inl h) (inr (inr k)) = absurd (h.0 k.0 k.1)
@@ -102,7 +107,8 @@ one_read {A = A} Writes IsOver one name Then same s t (inr (inr h)) (inr (inr k)
 one_counted : OneNumber → (rules : FiveRules) (name : List ℕ) (bs : List Branching) (text : List ℕ) (s t : Step)
     → IsCounted rules name bs text s → IsCounted rules name bs text t → s ≡ t
 one_counted one rules name bs text s t h k =
-    one_read (λ (x : CompactNumber). WritesCompact text x) (λ (x : CompactNumber). IsCompactOverLimit x) (λ x y p q. one.compact text x y p q) name
+    one_read (λ (x : CompactNumber). WritesCompact text x) (λ (x : CompactNumber). IsCompactOverLimit x)
+    (λ x y p q. one.compact text x y p q) name
     (λ (x : CompactNumber) (u : Step). (parts : List Part) × IsBranchOfNumber rules x x bs parts × (u ≡ Chooses text parts))
     (λ x u v p q. p.2 ∙ (ap (λ (l : List Part). Chooses text l) (one_branch rules x x bs p.0 q.0 p.1 q.1) ∙ sym q.2)) s t h k
 
@@ -117,8 +123,10 @@ one_counted_by rules name bs x less s t (inr h) (inr k) =
 one_less : OneNumber → (rules : FiveRules) (name : List ℕ) (bs : List Branching) (digits : List ℕ) (x : CompactNumber) (s t : Step)
     → IsLess rules name bs digits x s → IsLess rules name bs digits x t → s ≡ t
 one_less one rules name bs digits x s t (inl h) (inl k) = h.1 ∙ sym k.1
-one_less one rules name bs digits x s t (inl h) (inr k) = let l : 0 < x.exponent = h.0 in let e : x.exponent ≡ 0 = k.0 in absurd (omega arith)
-one_less one rules name bs digits x s t (inr h) (inl k) = let l : 0 < x.exponent = k.0 in let e : x.exponent ≡ 0 = h.0 in absurd (omega arith)
+one_less one rules name bs digits x s t (inl h) (inr k) = let l : 0 < x.exponent = h.0 in let e : x.exponent ≡ 0 =
+    k.0 in absurd (omega arith)
+one_less one rules name bs digits x s t (inr h) (inl k) = let l : 0 < x.exponent = k.0 in let e : x.exponent ≡ 0 =
+    h.0 in absurd (omega arith)
 one_less one rules name bs digits x s t (inr h) (inr k) =
     one_read (λ (o : Places). WritesUnsigned digits o) (λ (o : Places). IsOverLimit o) (λ o p q r. one.unsigned digits o p q r) name
     (λ (o : Places) (u : Step). (less : Decimal) × IsDifference x.significand o less × IsCountedBy rules name bs x less u)
@@ -129,23 +137,29 @@ one_less one rules name bs digits x s t (inr h) (inr k) =
 one_counted_less : OneNumber → (rules : FiveRules) (name : List ℕ) (bs : List Branching) (digits text : List ℕ) (s t : Step)
     → IsCountedLess rules name bs digits text s → IsCountedLess rules name bs digits text t → s ≡ t
 one_counted_less one rules name bs digits text s t h k =
-    one_read (λ (x : CompactNumber). WritesCompact text x) (λ (x : CompactNumber). IsCompactOverLimit x) (λ x y p q. one.compact text x y p q) name
+    one_read (λ (x : CompactNumber). WritesCompact text x) (λ (x : CompactNumber). IsCompactOverLimit x)
+    (λ x y p q. one.compact text x y p q) name
     (λ (x : CompactNumber) (u : Step). IsLess rules name bs digits x u) (λ x u v p q. one_less one rules name bs digits x u v p q) s t h k
 
-one_plural : OneNumber → (rules : FiveRules) (name : List ℕ) (offset : Option (List ℕ)) (bs : List Branching) (value : Option Value) (s t : Step)
+one_plural : OneNumber
+    → (rules : FiveRules) (name : List ℕ) (offset : Option (List ℕ)) (bs : List Branching) (value : Option Value) (s t : Step)
     → IsPlural rules name offset bs value s → IsPlural rules name offset bs value t → s ≡ t
 one_plural one rules name offset bs None s t h k = h ∙ sym k
 one_plural one rules name offset bs (Some (argument.Text text)) s t h k = h ∙ sym k
 one_plural one rules name (Some digits) bs (Some (argument.Number text)) s t h k = one_counted_less one rules name bs digits text s t h k
 one_plural one rules name None bs (Some (argument.Number text)) s t h k = one_counted one rules name bs text s t h k
 
-one_choice : OneNumber → (rules : TwoRules) (hash : List ℕ) (kind : ArgumentKind) (name : List ℕ) (offset : Option (List ℕ)) (bs : List Branching) (value : Option Value) (s t : Step)
+one_choice : OneNumber
+    → (rules : TwoRules) (hash : List ℕ) (kind : ArgumentKind) (name : List ℕ) (offset : Option (List ℕ)) (bs : List Branching)
+    (value : Option Value) (s t : Step)
     → IsChoice rules hash kind name offset bs value s → IsChoice rules hash kind name offset bs value t → s ≡ t
 one_choice one rules hash Plural name offset bs value s t h k = one_plural one rules.cardinal name offset bs value s t h k
 one_choice one rules hash Ordinal name offset bs value s t h k = one_plural one rules.ordinal name offset bs value s t h k
 one_choice one rules hash Select name offset bs value s t h k = h ∙ sym k
 
-one_step : OneNumber → (arguments : List argument.Argument) (rules : TwoRules) (hash : List ℕ) (depth : ℕ) (piece : PatternPiece) (rest : List Part) (s t : Step)
+one_step : OneNumber
+    → (arguments : List argument.Argument) (rules : TwoRules) (hash : List ℕ) (depth : ℕ) (piece : PatternPiece) (rest : List Part)
+    (s t : Step)
     → IsStep arguments rules hash depth piece rest s → IsStep arguments rules hash depth piece rest t → s ≡ t
 one_step one arguments rules hash depth (Text text) rest s t h k = h ∙ sym k
 one_step one arguments rules hash depth Hash rest s t h k = h ∙ sym k
@@ -181,11 +195,14 @@ follows (breaks hash number before name p rest branch fault h j) = (Chooses numb
 follows (fails hash before name p rest fault h) = (Fails fault name, h, refl)
 
 -- where the first part does this, the message goes on so
-goes_on : {arguments : List argument.Argument} {rules : TwoRules} {hash before : List ℕ} {rest : List Part} {o : PatternOutcome} → OneNumber → (p : Part) (s : Step)
-    → IsStep arguments rules hash p.depth p.piece rest s → Says arguments rules hash before (p ∷ rest) o → GoesOn arguments rules hash before p rest s o
+goes_on : {arguments : List argument.Argument} {rules : TwoRules} {hash before : List ℕ} {rest : List Part} {o : PatternOutcome} → OneNumber
+    → (p : Part) (s : Step)
+    → IsStep arguments rules hash p.depth p.piece rest s → Says arguments rules hash before (p ∷ rest) o
+    → GoesOn arguments rules hash before p rest s o
 goes_on {arguments = arguments} {rules = rules} {hash = hash} {before = before} {rest = rest} {o = o} one p s h other =
     let f = follows other in
-    subst (λ (t : Step). GoesOn arguments rules hash before p rest t o) (one_step one arguments rules hash p.depth p.piece rest f.0 s f.1 h) f.2
+    subst (λ (t : Step). GoesOn arguments rules hash before p rest t o) (one_step one arguments rules hash p.depth p.piece rest f.0 s f.1 h)
+    f.2
 
 -- how a message goes on behind the branch that it chose
 abbrev pub Behind : List argument.Argument → TwoRules → List ℕ → ℕ → List Part → PatternOutcome → PatternOutcome → Type 0
@@ -193,7 +210,8 @@ Behind arguments rules hash depth rest (Said said) o = Says arguments rules hash
 Behind arguments rules hash depth rest (Faulty fault name) o = Faulty fault name ≡ o
 
 -- a message says one thing
-pub one_outcome : {arguments : List argument.Argument} {rules : TwoRules} {hash before : List ℕ} {parts : List Part} {a b : PatternOutcome} → OneNumber
+pub one_outcome : {arguments : List argument.Argument} {rules : TwoRules} {hash before : List ℕ} {parts : List Part} {a b : PatternOutcome}
+    → OneNumber
     → Says arguments rules hash before parts a → Says arguments rules hash before parts b → a ≡ b
 one_outcome one (ends hash before) other = follows other
 one_outcome one (stops hash before p rest h) other = goes_on one p Stops h other

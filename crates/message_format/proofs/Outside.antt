@@ -1,5 +1,6 @@
 -- Digits outside the written places are 0.
-use Rattle.std.proofs.Common.{◌≡◌, ◌⊎◌, ◌↔◌, ◌≤◌, ◌<◌, ℕ, zero, suc, ℤ, pos, negsuc, ◌+ℤ◌, ◌<ℤ◌, ◌≤ℤ◌, neg_ℤ, Bool, true, false, List, [], ◌∷◌, length, reverse, get_or, refl, sym, ap, subst, ◌∙◌, inl, inr, arith}
+use Rattle.std.proofs.Common.{◌≡◌, ◌⊎◌, ◌↔◌, ◌≤◌, ◌<◌, ℕ, zero, suc, ℤ, pos, negsuc, ◌+ℤ◌, ◌<ℤ◌, ◌≤ℤ◌, neg_ℤ, Bool, true, false}
+use Rattle.std.proofs.Common.{List, [], ◌∷◌, length, reverse, get_or, refl, sym, ap, subst, ◌∙◌, inl, inr, arith}
 use lib.Signed.{lt_z}
 use Rattle.std.specs.Bool.{IsTrue}
 use Rattle.std.proofs.lemmas.Int.{ints}
@@ -41,7 +42,8 @@ split a b =
     ] refl
 
 -- where the digits below a power are the same, and those from it on are 0, all are the same
-pub all_same : (x y : CompactNumber) (low high low' high' end : ℤ) → IsZeroOutside x low high → IsZeroOutside y low' high' → high <ℤ end → high' <ℤ end
+pub all_same : (x y : CompactNumber) (low high low' high' end : ℤ) → IsZeroOutside x low high → IsZeroOutside y low' high' → high <ℤ end
+    → high' <ℤ end
     → ((k : ℤ) → k <ℤ end → digit_of x k ≡ digit_of y k) → HaveSameDigits x y
 all_same x y low high low' high' end h h' l l' same k =
     elim (split k end) [
@@ -50,7 +52,8 @@ all_same x y low high low' high' end h h' l l' same k =
     ]
 
 -- both are 0 below both places
-pub none_below : (x y : CompactNumber) (low high low' high' k : ℤ) → IsZeroOutside x low high → IsZeroOutside y low' high' → k <ℤ low → k <ℤ low'
+pub none_below : (x y : CompactNumber) (low high low' high' k : ℤ) → IsZeroOutside x low high → IsZeroOutside y low' high' → k <ℤ low
+    → k <ℤ low'
     → digit_of x k ≡ digit_of y k
 none_below x y low high low' high' k h h' l l' = h.below k l ∙ sym (h'.below k l')
 
@@ -59,7 +62,8 @@ pub moved : (x y : Places) (k j : ℤ) (r : ℕ) → r ≡ digit_at x k → x �
 moved x y k j r e p q = e ∙ (ap (λ (z : Places). digit_at z k) p ∙ ap (λ (i : ℤ). digit_at y i) q)
 
 -- one power more
-pub one_more : (x y : CompactNumber) (power next k : ℤ) → ((k : ℤ) → k <ℤ power → digit_of x k ≡ digit_of y k) → digit_of x power ≡ digit_of y power
+pub one_more : (x y : CompactNumber) (power next k : ℤ) → ((k : ℤ) → k <ℤ power → digit_of x k ≡ digit_of y k)
+    → digit_of x power ≡ digit_of y power
     → next ≡ power +ℤ pos 1 → k <ℤ next → digit_of x k ≡ digit_of y k
 one_more x y power next k before here e h =
     elim (split k power) [
@@ -92,7 +96,8 @@ pub none_between : (x : CompactNumber) (power next k : ℤ) → next ≡ power +
 none_between x power next k e l h = absurd (omega (arith, ints))
 
 -- where the digits below a power are 0, and those from it on, all are
-pub none_other : (x : CompactNumber) (low high end k : ℤ) → IsZeroOutside x low high → high <ℤ end → ((k : ℤ) → k <ℤ end → digit_of x k ≡ 0) → digit_of x k ≡ 0
+pub none_other : (x : CompactNumber) (low high end k : ℤ) → IsZeroOutside x low high → high <ℤ end → ((k : ℤ) → k <ℤ end → digit_of x k ≡ 0)
+    → digit_of x k ≡ 0
 none_other x low high end k h l before =
     elim (split k end) [
       | inl e ↦ before k e
@@ -100,6 +105,7 @@ none_other x low high end k h l before =
     ]
 
 -- a digit above those of the other number
-pub not_same : (x y : CompactNumber) (low high k : ℤ) → IsZeroOutside y low high → high <ℤ k → 0 < digit_of x k → IsTrue false ↔ HaveSameDigits x y
+pub not_same : (x y : CompactNumber) (low high k : ℤ) → IsZeroOutside y low high → high <ℤ k → 0 < digit_of x k
+    → IsTrue false ↔ HaveSameDigits x y
 not_same x y low high k h l positive =
     (λ t. let e : false ≡ true = t in cc, λ same. let e = same k in let z = h.above k l in absurd (omega (arith, e, z)))

@@ -1,5 +1,6 @@
 -- The first of the parts that are left, and the branch at their front.
-use Rattle.std.proofs.Common.{◌≡◌, ◌≤◌, ◌<◌, ◌-◌, ℕ, List, [], ◌∷◌, Option, Some, Bool, true, false, nat_lt, if◌then◌else◌, length, take, drop, get_or, refl, sym, ap, subst, inl, inr, arith}
+use Rattle.std.proofs.Common.{◌≡◌, ◌≤◌, ◌<◌, ◌-◌, ℕ, List, [], ◌∷◌, Option, Some, Bool, true, false, nat_lt, if◌then◌else◌}
+use Rattle.std.proofs.Common.{length, take, drop, get_or, refl, sym, ap, subst, inl, inr, arith}
 use Rattle.std.specs.Bool.{IsTrue}
 use Rattle.std.proofs.lemmas.List.{take_all}
 use Rattle.std.proofs.lemmas.Bool.Decides.{nat_tests}
@@ -26,14 +27,17 @@ none_left [] h = refl
 none_left (p ∷ ps) h = absurd (omega arith)
 
 -- the first branch
-pub branches_from : (depth : ℕ) (p : parts.Part) (rest : List parts.Part) (s : selectors.Selector) → p.depth ≤ depth → p.piece ≡ pieces.Branch s
-    → branches_of depth (parts_view (p ∷ rest)) ≡ record { selector = selector_view s; parts = parts_view rest } ∷ branches_of depth (parts_view rest)
+pub branches_from : (depth : ℕ) (p : parts.Part) (rest : List parts.Part) (s : selectors.Selector) → p.depth ≤ depth
+    → p.piece ≡ pieces.Branch s
+    → branches_of depth (parts_view (p ∷ rest))
+    ≡ record { selector = selector_view s; parts = parts_view rest } ∷ branches_of depth (parts_view rest)
 branches_from depth p rest s h is =
     let f : nat_lt depth p.depth ≡ false = grind (arith, nat_tests) in
     rw (f, is)
 
 -- a branch that isn't chosen is passed
-pub passed : (P : Selector → Type 0) (depth : ℕ) (ps : List parts.Part) (p : parts.Part) (rest : List parts.Part) (s : selectors.Selector) (found : Option (List Part))
+pub passed : (P : Selector → Type 0) (depth : ℕ) (ps : List parts.Part) (p : parts.Part) (rest : List parts.Part) (s : selectors.Selector)
+    (found : Option (List Part))
     → ps ≡ p ∷ rest → p.depth ≤ depth → p.piece ≡ pieces.Branch s → (P (selector_view s) → ⊥)
     → IsFirst P (branches_of depth (parts_view rest)) found → IsFirst P (branches_of depth (parts_view ps)) found
 passed P depth ps p rest s found e h is other k =
@@ -57,7 +61,8 @@ behind_branch depth ps p rest s e h is =
 
 -- ---- the first branch that is chosen by a value, and by a keyword
 
-pub of_value : (x : CompactNumber) (bs : List Branching) (found : Option (List Part)) → IsFirst (λ s. Equals x s) bs found → IsBranchOfValue x bs found
+pub of_value : (x : CompactNumber) (bs : List Branching) (found : Option (List Part)) → IsFirst (λ s. Equals x s) bs found
+    → IsBranchOfValue x bs found
 of_value x [] found h = h
 of_value x (b ∷ bs) found (inl h) = inl h
 of_value x (b ∷ bs) found (inr h) = inr (h.0, of_value x bs found h.1)
@@ -66,7 +71,8 @@ not_true : (b : Bool) → (IsTrue b → ⊥) → b ≡ false
 not_true false h = refl
 not_true true h = absurd (h refl)
 
-pub of_keyword : (word : List ℕ) (bs : List Branching) (found : Option (List Part)) → IsFirst (λ s. IsTrue (is_keyword word s)) bs found → found ≡ branch_of_keyword word bs
+pub of_keyword : (word : List ℕ) (bs : List Branching) (found : Option (List Part)) → IsFirst (λ s. IsTrue (is_keyword word s)) bs found
+    → found ≡ branch_of_keyword word bs
 of_keyword word [] found h = h
 of_keyword word (b ∷ bs) found (inl h) =
     let is : is_keyword word b.selector ≡ true = h.0 in

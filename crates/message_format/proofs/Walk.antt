@@ -1,5 +1,6 @@
 -- A walk over the parts of a message.
-use Rattle.std.proofs.Common.{◌≡◌, ◌∙◌, ◌++◌, ◌<◌, ◌≤◌, ℕ, List, [], ◌∷◌, Bor, drop, length, arith, Option, Some, None, Err, refl, sym, ap, subst, inl, inr}
+use Rattle.std.proofs.Common.{◌≡◌, ◌∙◌, ◌++◌, ◌<◌, ◌≤◌, ℕ, List, [], ◌∷◌, Bor, drop, length, arith, Option, Some, None, Err, refl}
+use Rattle.std.proofs.Common.{sym, ap, subst, inl, inr}
 use Rattle.message_pattern.specs.declared.part.Part as parts
 use Rattle.message_pattern.specs.declared.part.ArgumentKind.{ArgumentKind}
 use Rattle.message_pattern.specs.declared.part.Piece as pieces
@@ -11,7 +12,8 @@ use Rattle.message_format.specs.FormatArguments.{Argument, Value, value_named}
 use Rattle.message_format.specs.FormatBranches.{behind_end}
 use Rattle.message_format.specs.FormatParts.{branches_at, first_depth, IsBegun}
 use Rattle.message_format.specs.FormatSteps.{Step, Stops, Prints, Chooses, TwoRules, IsChoice, IsStep}
-use Rattle.message_format.specs.FormatMeaning.{PatternOutcome, Said, Faulty, Says, ends, stops, prints, chooses, breaks, fails, PatternSays, SaysExactly}
+use Rattle.message_format.specs.FormatMeaning.{PatternOutcome, Said, Faulty, Says, ends, stops, prints, chooses, breaks, fails}
+use Rattle.message_format.specs.FormatMeaning.{PatternSays, SaysExactly}
 use Rattle.message_format.specs.Inner.FormatViews.{GivesFault, IsFaultOf, outcome_of}
 use Rattle.message_format.specs.FormatWalk.{GoesOn, GoesOnBehind}
 use Rattle.message_format.specs.declared.error.ArgumentFault.{ArgumentFault}
@@ -22,14 +24,17 @@ abbrev pub PartIs : List Argument → TwoRules → List ℕ → parts.Part → L
 PartIs arguments rules hash p rest s = IsStep arguments rules hash p.depth (piece_view p.piece) rest s
 
 -- it does what its piece does
-pub does : (arguments : List Argument) (rules : TwoRules) (hash : List ℕ) (p : parts.Part) (rest : List Part) (what : pieces.Piece) (s : Step)
+pub does : (arguments : List Argument) (rules : TwoRules) (hash : List ℕ) (p : parts.Part) (rest : List Part) (what : pieces.Piece)
+    (s : Step)
     → p.piece ≡ what → IsStep arguments rules hash p.depth (piece_view what) rest s → PartIs arguments rules hash p rest s
 does arguments rules hash p rest what s is h =
     subst (λ (q : pieces.Piece). IsStep arguments rules hash p.depth (piece_view q) rest s) (sym is) h
 
 -- it chooses what the argument chooses that begins there
-pub begins : (arguments : List Argument) (rules : TwoRules) (hash : List ℕ) (ps : List Part) (p : parts.Part) (rest : List Part) (kind : ArgumentKind) (name : Bor (List ℕ)) (offset : Option (Bor (List ℕ)))
-    (value : Option Value) (s : Step) → ps ≡ part_view p ∷ rest → p.piece ≡ piece.Begin kind name offset → value ≡ value_named name.now arguments
+pub begins : (arguments : List Argument) (rules : TwoRules) (hash : List ℕ) (ps : List Part) (p : parts.Part) (rest : List Part)
+    (kind : ArgumentKind) (name : Bor (List ℕ)) (offset : Option (Bor (List ℕ)))
+    (value : Option Value) (s : Step) → ps ≡ part_view p ∷ rest → p.piece ≡ piece.Begin kind name offset
+    → value ≡ value_named name.now arguments
     → IsChoice rules hash kind name.now (offset_view offset) (branches_at ps) value s → PartIs arguments rules hash p rest s
 begins arguments rules hash ps p rest kind name offset value s e is named h =
     does arguments rules hash p rest (piece.Begin kind name offset) s is
@@ -37,7 +42,8 @@ begins arguments rules hash ps p rest kind name offset value s e is named h =
     (subst (λ (l : List Part). IsChoice rules hash kind name.now (offset_view offset) (branches_at l) value s) e h))
 
 -- an argument begins
-pub begun : (ps : List Part) (p : parts.Part) (rest : List Part) (kind : ArgumentKind) (name : Bor (List ℕ)) (offset : Option (Bor (List ℕ))) → ps ≡ part_view p ∷ rest
+pub begun : (ps : List Part) (p : parts.Part) (rest : List Part) (kind : ArgumentKind) (name : Bor (List ℕ))
+    (offset : Option (Bor (List ℕ))) → ps ≡ part_view p ∷ rest
     → p.piece ≡ piece.Begin kind name offset → IsBegun ps
 begun ps p rest kind name offset e is = subst (λ (l : List Part). IsBegun l) (sym e) (rw is tt)
 
@@ -55,7 +61,8 @@ at_stop arguments rules hash before ps p rest e h =
     (stops hash before (part_view p) rest h)
 
 -- a text is printed
-pub at_text : (arguments : List Argument) (rules : TwoRules) (hash before text new : List ℕ) (ps : List Part) (p : parts.Part) (rest : List Part)
+pub at_text : (arguments : List Argument) (rules : TwoRules) (hash before text new : List ℕ) (ps : List Part) (p : parts.Part)
+    (rest : List Part)
     → ps ≡ part_view p ∷ rest → PartIs arguments rules hash p rest (Prints text) → new ≡ before ++ text
     → GoesOn arguments rules hash before new ps rest
 at_text arguments rules hash before text new ps p rest e h n = record {
@@ -69,7 +76,8 @@ pub rest_fewer : (ps : List Part) (p : parts.Part) (rest : List Part) → ps ≡
 rest_fewer ps p rest e = subst (λ (l : List Part). length rest < length l) (sym e) (omega arith)
 
 -- a branch is chosen
-pub at_branch : (arguments : List Argument) (rules : TwoRules) (hash number before : List ℕ) (ps : List Part) (p : parts.Part) (rest branch after : List Part)
+pub at_branch : (arguments : List Argument) (rules : TwoRules) (hash number before : List ℕ) (ps : List Part) (p : parts.Part)
+    (rest branch after : List Part)
     → ps ≡ part_view p ∷ rest → PartIs arguments rules hash p rest (Chooses number branch)
     → after ≡ behind_end (first_depth ps) (drop 1 ps)
     → GoesOnBehind arguments rules hash number before before ps branch after
@@ -78,14 +86,16 @@ at_branch arguments rules hash number before ps p rest branch after e h a =
     record {
       comes = λ said o j k.
           subst (λ (l : List Part). Says arguments rules hash before l o) (sym e)
-          (chooses hash number before said (part_view p) rest branch o h j (subst (λ (l : List Part). Says arguments rules hash said l o) n k));
+          (chooses hash number before said (part_view p) rest branch o h j
+          (subst (λ (l : List Part). Says arguments rules hash said l o) n k));
       breaks = λ fault name j.
           subst (λ (l : List Part). Says arguments rules hash before l (Faulty fault name)) (sym e)
           (breaks hash number before name (part_view p) rest branch fault h j);
     }
 
 -- fewer follow then, and in the branch
-pub branch_fewer : (ps : List Part) (p : parts.Part) (rest branch after : List Part) → ps ≡ part_view p ∷ rest → length branch ≤ length (drop 1 ps)
+pub branch_fewer : (ps : List Part) (p : parts.Part) (rest branch after : List Part) → ps ≡ part_view p ∷ rest
+    → length branch ≤ length (drop 1 ps)
     → length after ≤ length (drop 1 ps) → (length after < length ps) × (length branch < length ps)
 branch_fewer ps p rest branch after e shorter fewer =
     let s : length branch ≤ length rest = subst (λ (l : List Part). length branch ≤ length (drop 1 l)) e shorter in
@@ -93,7 +103,8 @@ branch_fewer ps p rest branch after e shorter fewer =
     subst (λ (l : List Part). (length after < length l) × (length branch < length l)) (sym e) (omega (arith, f), omega (arith, s))
 
 -- an argument has a fault
-pub at_fault : (arguments : List Argument) (rules : TwoRules) (hash before : List ℕ) (ps : List Part) (p : parts.Part) (rest : List Part) (f : FormatError)
+pub at_fault : (arguments : List Argument) (rules : TwoRules) (hash before : List ℕ) (ps : List Part) (p : parts.Part) (rest : List Part)
+    (f : FormatError)
     → ps ≡ part_view p ∷ rest → GivesFault (PartIs arguments rules hash p rest) f → IsFaultOf arguments rules hash ps before f
 at_fault arguments rules hash before ps p rest (error.Argument fault name) e h =
     subst (λ (l : List Part). Says arguments rules hash before l (Faulty fault name.now)) (sym e)
@@ -105,7 +116,8 @@ at_fault arguments rules hash before ps p rest error.Memory e h = tt
 -- what is a fault of the parts that are left is one of all
 pub fault_of_all : (arguments : List Argument) (rules : TwoRules) (hash number before old : List ℕ) (whole ps : List Part) (f : FormatError)
     → IsFaultOf arguments rules number ps before f
-    → ((fault : ArgumentFault) (name : List ℕ) → Says arguments rules number before ps (Faulty fault name) → Says arguments rules hash old whole (Faulty fault name))
+    → ((fault : ArgumentFault) (name : List ℕ) → Says arguments rules number before ps (Faulty fault name)
+    → Says arguments rules hash old whole (Faulty fault name))
     → IsFaultOf arguments rules hash whole old f
 fault_of_all arguments rules hash number before old whole ps (error.Argument fault name) h says = says fault name.now h
 fault_of_all arguments rules hash number before old whole ps error.Memory h says = tt
@@ -120,7 +132,8 @@ exactly one arguments rules ps (Some x) only =
     record { only = only; every = λ o h. inl (ap Some (one_outcome one (only x refl) h)) }
 
 -- an outcome of a walk over the whole pattern
-pub whole : (arguments : List Argument) (rules : TwoRules) (ps : List Part) (x o : PatternOutcome) → PatternSays arguments rules ps x → Some x ≡ Some o → PatternSays arguments rules ps o
+pub whole : (arguments : List Argument) (rules : TwoRules) (ps : List Part) (x o : PatternOutcome) → PatternSays arguments rules ps x
+    → Some x ≡ Some o → PatternSays arguments rules ps o
 whole arguments rules ps x o h e = let f : x ≡ o = cc in subst (λ (y : PatternOutcome). PatternSays arguments rules ps y) f h
 
 -- an error of a walk over the whole pattern

@@ -198,7 +198,8 @@ last_lines [] none there = absurd (there refl)
 last_lines (byte ∷ bytes) none there = unended byte bytes none
 
 -- its answer completes the answers to all lines
-pub last_answered : (rules : FiveRules) (bytes text : List ℕ) (old mid : Lines) → (old.line.items ≡ [] → ⊥) → EndsLine rules old.line.items old mid
+pub last_answered : (rules : FiveRules) (bytes text : List ℕ) (old mid : Lines) → (old.line.items ≡ [] → ⊥)
+    → EndsLine rules old.line.items old mid
     → IsAfter rules bytes text old → AreLineAnswers rules (lines_of bytes) (after_text text mid.printed)
 last_answered rules bytes text old mid there e a =
     let begun : a.last ≡ [] → ⊥ = λ none. there (a.kept ∙ ap (take (most_number_bytes + 1)) none ∙ take-nil (most_number_bytes + 1)) in

@@ -1,8 +1,10 @@
 -- The lines of an input.
-use Rattle.std.proofs.Common.{◌∙◌, ◌≡◌, ◌-◌, min, ℕ, zero, suc, ap, get_or, drop, ◌==◌, true, ◌≤◌, ◌<◌, ◌+◌, List, [], ◌∷◌, ◌++◌, length, take, refl, sym, arith}
+use Rattle.std.proofs.Common.{◌∙◌, ◌≡◌, ◌-◌, min, ℕ, zero, suc, ap, get_or, drop, ◌==◌, true, ◌≤◌, ◌<◌, ◌+◌, List, [], ◌∷◌, ◌++◌}
+use Rattle.std.proofs.Common.{length, take, refl, sym, arith}
 use Rattle.std.specs.Prelude.{◌≢◌}
 use Rattle.std.proofs.lemmas.Bool.{eq-eqb, ne_eqb}
-use Rattle.std.proofs.lemmas.List.{take_min, length-take, take-append-le, take_all, length-append, length-take-le, take-append-drop, drop_more, get_or-take}
+use Rattle.std.proofs.lemmas.List.{take_min, length-take, take-append-le, take_all, length-append, length-take-le}
+use Rattle.std.proofs.lemmas.List.{take-append-drop, drop_more, get_or-take}
 use Rattle.std.proofs.Math.Seq.{take-append-add}
 use Rattle.number_lines.specs.InputLines.{HasNoEnd, lines_of}
 

@@ -1,11 +1,13 @@
 -- Lines of digits, which are read as they are cut off.
-use Rattle.std.proofs.Common.{◌≡◌, ℕ, ◌+◌, ◌-◌, ◌<◌, ◌≤◌, List, [], ◌∷◌, ◌++◌, Option, Some, None, Ok, Bor, length, take, drop, get_or, max, refl, sym, ◌∙◌, ap, subst, arith, inr, append_assoc}
+use Rattle.std.proofs.Common.{◌≡◌, ℕ, ◌+◌, ◌-◌, ◌<◌, ◌≤◌, List, [], ◌∷◌, ◌++◌, Option, Some, None, Ok, Bor, length, take, drop}
+use Rattle.std.proofs.Common.{get_or, max, refl, sym, ◌∙◌, ap, subst, arith, inr, append_assoc}
 use Rattle.std.specs.Prelude.{◌≢◌, IfSome}
 use Rattle.std.proofs.lemmas.List.{append-nil, take-append-drop, drop_more, length-take-le, length-append}
 use Rattle.fixed_decimal.specs.Digits.{AreDigits, text_of}
 use Rattle.fixed_decimal.specs.declared.sign.Sign.TheVariants as sign
 use Rattle.plural_operands.specs.Operands.{Operands, of_whole}
-use Rattle.plural_operands.specs.Inner.ShortTexts.{AreDigitsOf, HasFront, HasFractionFront, HasPlain, IsTrimmedAt, WritesShort, WritesShortSigned}
+use Rattle.plural_operands.specs.Inner.ShortTexts.{AreDigitsOf, HasFront, HasFractionFront, HasPlain, IsTrimmedAt, WritesShort}
+use Rattle.plural_operands.specs.Inner.ShortTexts.{WritesShortSigned}
 use Rattle.plural_operands.proofs.numbers.ShortReading.{integer_is_short, pointed_plain, without_exponent}
 use Rattle.plural_operands.proofs.numbers.ShortReading.{short_number, short_writes, short_limit, short_exponent, short_kept}
 use Rattle.icu_plurals.specs.PackedTruth.{packed_truth}
@@ -15,7 +17,7 @@ use Rattle.plural_base.specs.FiveRules.{FiveRules, first_category}
 use Rattle.plural_base.specs.declared.category.PluralCategory.{PluralCategory}
 use Rattle.number_lines.specs.InputLines.{HasNoEnd}
 use Rattle.number_lines.specs.Inner.LineSteps.{BeginsWithLine, EndsByCategory, TakesFront}
-use Rattle.number_lines.specs.Inner.PlainLines.{BeginsWithFraction, HasFraction}
+use Rattle.number_lines.specs.Inner.PlainLines.{BeginsWithFraction, HasFractionLine}
 use Rattle.number_lines.specs.NumberAnswers.{IsChosenFor, category_answer}
 use Rattle.number_lines.specs.declared.stream.Lines.{Lines}
 use Rattle.number_lines.proofs.AfterLemmas.{after_line}
@@ -71,7 +73,15 @@ fraction_line bytes after i k f w t o digits few within some trimmed end rest is
     let size : length line ≡ k = length-take-le k bytes (omega arith) in
     let p : Operands = record { i = i; v = k; w = w; f = f; t = t; c = 0 } in
     let fraction : HasFractionFront line p []
-    = record { front = line; digits = digits; few = omega (arith, size); shown = sym size; trimmed = trimmed; spelled = sym (append-nil line) } in
+    = record {
+      front = line;
+      digits = digits;
+      few = omega (arith, size);
+      shown = sym size;
+      trimmed = trimmed;
+      spelled =
+          sym (append-nil line);
+    } in
     let begun : BeginsWithFraction i bytes p after
     = record {
       digits = line;
@@ -113,7 +123,7 @@ pointed_line rules bytes behind after k n o category exact digits few within poi
 
 pub if_pointed : (rules : FiveRules) (bytes behind : List ℕ) (k n : ℕ) (r : Option (PluralCategory × Bor (List ℕ))) → KeptChoiceIsExact
     → AreDigitsOf (take k bytes) n → k ≤ 18 → k < length bytes → get_or bytes k 0 ≡ 46 → behind ≡ drop (k + 1) bytes
-    → IfSome r (λ p. HasFraction rules n behind p.0 p.1.now) → IfSome r (λ p. BeginsWithLine rules bytes p.0 p.1.now)
+    → IfSome r (λ p. HasFractionLine rules n behind p.0 p.1.now) → IfSome r (λ p. BeginsWithLine rules bytes p.0 p.1.now)
 if_pointed rules bytes behind k n None exact digits few within point rest h = tt
 if_pointed rules bytes behind k n (Some p) exact digits few within point rest h =
     pointed_line rules bytes behind p.1.now k n h.0 p.0 exact digits few within point rest h.1 h.2

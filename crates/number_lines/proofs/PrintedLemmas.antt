@@ -1,5 +1,6 @@
 -- What is printed, one after the other.
-use Rattle.std.proofs.Common.{◌≡◌, ℕ, List, [], ◌∷◌, ◌++◌, Bool, true, false, Result, Ok, Err, Bor, length, ◌<◌, arith, refl, sym, ◌∙◌, ap, subst, append_assoc}
+use Rattle.std.proofs.Common.{◌≡◌, ℕ, List, [], ◌∷◌, ◌++◌, Bool, true, false, Result, Ok, Err, Bor, length, ◌<◌, arith, refl, sym}
+use Rattle.std.proofs.Common.{◌∙◌, ap, subst, append_assoc}
 use Rattle.std.specs.Prelude.{◌||◌, OnOk, ⊤}
 use Rattle.std.specs.declared.alloc.AllocError.{AllocError}
 use Rattle.icu_plurals.specs.declared.PluralCategory.{PluralCategory}
@@ -42,7 +43,8 @@ pub answers_grown : (at : ℕ → Place) (rules : FiveRules) (place : ℕ) (word
     → IsAnswerAt rules (at place) word m → new ≡ both_printed old m
     → (more : PrintedText) → AreAnswersFrom at rules (next_place place) words more → AreAnswersFrom at rules 1 all (both_printed new more)
 answers_grown at rules place word words all old new m so_far is grown more h =
-    rw grown (subst (λ (p : PrintedText). AreAnswersFrom at rules 1 all p) (joined_assoc old m more) (so_far (both_printed m more) (m, more, is, h, refl)))
+    rw grown (subst (λ (p : PrintedText). AreAnswersFrom at rules 1 all p) (joined_assoc old m more)
+    (so_far (both_printed m more) (m, more, is, h, refl)))
 
 -- one more answer at the end
 pub answers_append : (at : ℕ → Place) (rules : FiveRules) (place : ℕ) (done : List (List ℕ)) (line : List ℕ) (p q : PrintedText)

@@ -1,5 +1,6 @@
 -- What is taken of an input and written of its answers.
-use Rattle.std.proofs.Common.{◌≡◌, ℕ, List, [], ◌++◌, Bool, Option, Result, Ok, Err, take, refl, sym, ◌∙◌, ap, subst, append_assoc, inl, inr}
+use Rattle.std.proofs.Common.{◌≡◌, ℕ, List, [], ◌++◌, Bool, Option, Result, Ok, Err, take, refl, sym, ◌∙◌, ap, subst}
+use Rattle.std.proofs.Common.{append_assoc, inl, inr}
 use Rattle.std.specs.Prelude.{◌⊎◌, OnOk, IfErr, ⊤}
 use Rattle.std.specs.Io.KnownBytes.{Appends, Consumes, IsAtEnd}
 use Rattle.std.proofs.KnownBytes.{Appends-nil, Appends-trans, Consumes-trans}
@@ -37,7 +38,8 @@ wrote_on rules more lines mid new before after (Err e) takes appended forgets pa
 -- ---- The last line
 
 pub finished : (rules : FiveRules) (lines mid : Lines) (before after : Option (List ℕ)) (r : Result Bool LinesError)
-    → (lines.line.items ≡ [] → ⊥) → EndsLine rules lines.line.items lines mid → WritesPrinted mid.printed before after r → FinishesLines rules lines before after r
+    → (lines.line.items ≡ [] → ⊥) → EndsLine rules lines.line.items lines mid → WritesPrinted mid.printed before after r
+    → FinishesLines rules lines before after r
 finished rules lines mid before after (Ok has_fault) there e written = λ bytes text h. (
   after_text text mid.printed,
   mid.printed.text,
@@ -120,7 +122,8 @@ failed rules before left old new error (inl is) begun = rw is begun
 failed rules before left old new error (inr is) begun = rw is begun
 
 -- the last line completes the answers
-pub streamed : (rules : FiveRules) (bytes text : List ℕ) (lines : Lines) (before left old mid new : Option (List ℕ)) (r : Result Bool LinesError)
+pub streamed : (rules : FiveRules) (bytes text : List ℕ) (lines : Lines) (before left old mid new : Option (List ℕ))
+    (r : Result Bool LinesError)
     → Consumes before left bytes → IsAtEnd left → Appends old mid text → IsWrittenAfter rules bytes text lines
     → FinishesLines rules lines mid new r → AnswersInput rules before left old new r
 unfolding AnswersInput

@@ -3,7 +3,7 @@
 ghost use Rattle.std.specs.Prelude.{◌≡◌, ◌≤◌, IfSome, length, take};
 ghost use Rattle.plural_operands.specs.Inner.ShortTexts.{AreDigitsOf, IsTrimmedAt};
 ghost use Rattle.number_lines.specs.Inner.LineSteps.{BeginsWithLine};
-ghost use Rattle.number_lines.specs.Inner.PlainLines.{HasFraction};
+ghost use Rattle.number_lines.specs.Inner.PlainLines.{HasFractionLine};
 
 use icu_plurals::{AskedRules, PluralCategory, PluralOperands, RawPluralOperands};
 use plural_base::laws::kept_choice_is_exact;
@@ -43,7 +43,7 @@ fn plain_fraction<'b>(
     bytes: &'b [u8],
 ) -> Option<(PluralCategory, &'b [u8])>
     requires { 19 ≤ length bytes.now }
-    ensures { IfSome result (λ r. HasFraction rules.now i bytes.now r.0 r.1.now) }
+    ensures { IfSome result (λ r. HasFractionLine rules.now i bytes.now r.0 r.1.now) }
 {
     let (f, shown) = front_digits(bytes);
     if shown == 0 || bytes[shown] != b'\n' {

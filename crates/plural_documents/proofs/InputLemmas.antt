@@ -7,8 +7,10 @@ use Rattle.std.proofs.lemmas.List.{append-nil, length-append}
 use Rattle.std.specs.Io.KnownBytes.{Consumes, IsAtEnd}
 use Rattle.std.specs.declared.alloc.Global.{Global}
 use Rattle.std.proofs.KnownBytes.{Consumes-nil}
-use Rattle.plural_documents.specs.Inputs.{GivesBy, GivesByReading, GivesInput, IsFaultOf, IsFaultOfReading, IsInput, IsRead, IsReadToEnd, IsReadUpTo, Origin}
-use Rattle.plural_documents.specs.Inputs.{from_answer, from_length, from_memory, from_reader, from_writer, input_origin, most_bytes, within_limit}
+use Rattle.plural_documents.specs.Inputs.{GivesBy, GivesByReading, GivesInput, IsFaultOf, IsFaultOfReading, IsInput, IsRead}
+use Rattle.plural_documents.specs.Inputs.{IsReadToEnd, IsReadUpTo, Origin}
+use Rattle.plural_documents.specs.Inputs.{from_answer, from_length, from_memory, from_reader, from_writer, input_origin}
+use Rattle.plural_documents.specs.Inputs.{most_bytes, within_limit}
 use Rattle.plural_documents.specs.declared.input.InputError.{InputError}
 use Rattle.plural_documents.specs.declared.input.InputError.TheVariants.{Read, TooLong, Memory}
 

@@ -1,5 +1,7 @@
 -- The keys of an object that stand there more than once.
-use Rattle.std.proofs.Common.{◌≡◌, ℕ, ◌+◌, ◌<◌, ◌≤◌, List, [], ◌∷◌, ◌++◌, map, Bool, true, false, true≢false, cond, not, ◌||◌, bytes_eq, Ordering, Less, Equal, Greater, is_eq, nat_cmp, append_assoc, add-zero, zero-add, refl, sym, ap, subst, ◌∙◌, arith}
+use Rattle.std.proofs.Common.{◌≡◌, ℕ, ◌+◌, ◌<◌, ◌≤◌, List, [], ◌∷◌, ◌++◌, map, Bool, true, false, true≢false, cond, not, ◌||◌}
+use Rattle.std.proofs.Common.{bytes_eq, Ordering, Less, Equal, Greater, is_eq, nat_cmp, append_assoc, add-zero, zero-add, refl}
+use Rattle.std.proofs.Common.{sym, ap, subst, ◌∙◌, arith}
 use Rattle.std.proofs.lemmas.Bool.{ltb-true, lt-ltb, le-ltb, ltb-false}
 use Rattle.std.proofs.lemmas.List.{map-append}
 use Rattle.std.proofs.lemmas.List.Sums.{sum_by-append}

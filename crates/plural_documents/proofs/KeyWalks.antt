@@ -5,7 +5,8 @@ use Rattle.json.specs.Json as json
 use Rattle.json.specs.Strict.{keys}
 use Rattle.document_tokens.specs.HeldTokens.{Held, held_members, held_tokens}
 use Rattle.plural_documents.specs.Inner.KeysStanding.{AddsRepeated, AreStanding, HasAdded, IsFoundAgain, object_path}
-use Rattle.plural_documents.specs.RepeatedKeys.{AreRepeated, AreRepeatedBelow, AreRepeatedIn, AreRepeatedInObject, Path, RepeatedAt, path_below, repeated_view}
+use Rattle.plural_documents.specs.RepeatedKeys.{AreRepeated, AreRepeatedBelow, AreRepeatedIn, AreRepeatedInObject, Path}
+use Rattle.plural_documents.specs.RepeatedKeys.{RepeatedAt, path_below, repeated_view}
 use Rattle.plural_documents.specs.declared.repeated_key.RepeatedKey.{RepeatedKey}
 use Rattle.plural_documents.specs.declared.repeated_key.StandingKeys.{StandingKeys}
 use Rattle.plural_documents.proofs.HeldLemmas.{no_members_left, rest_of}
@@ -89,7 +90,8 @@ object_added path at first ts left old new looked adds value rest is =
 -- ---- The members of an object
 
 -- what is added so far comes before what is found in the members that are left
-pub record Goes (path : Path) (members : json.Members) (rest left : List Held) (old now : List RepeatedKey) (standing : StandingKeys) : Type 0 where
+pub record Goes (path : Path) (members : json.Members) (rest left : List Held) (old now : List RepeatedKey) (standing : StandingKeys) : Type
+    0 where
   pub others : json.Members
   pub before : List (List ℕ)
   pub inner : List RepeatedAt
@@ -136,7 +138,9 @@ module _ (path : Path) (members : json.Members) (rest : List Held) (old now new 
             before = goes.before ++ key ∷ [];
             inner = goes.inner ++ first;
             left_is = found.0;
-            keys_are = are ∙ ap (λ (name : List ℕ). goes.before ++ (name ∷ keys ms)) (sym same) ∙ sym (append_assoc goes.before (key ∷ []) (keys ms));
+            keys_are =
+                are ∙ ap (λ (name : List ℕ). goes.before ++ (name ∷ keys ms)) (sym same)
+                ∙ sym (append_assoc goes.before (key ∷ []) (keys ms));
             stand = more_keys goes.before goes.stand;
             added = both_added old now new goes.inner first goes.added found.1.2;
             go_on = λ more below.

@@ -1,10 +1,12 @@
 -- What is kept of a document of rules for a locale has for it what the whole has.
-use Rattle.std.proofs.Common.{◌≡◌, ℕ, List, [], ◌∷◌, Bool, true, false, Option, Some, None, Result, Ok, Err, Bor, bytes_eq, codes, refl, sym, ap, subst, ◌∙◌}
+use Rattle.std.proofs.Common.{◌≡◌, ℕ, List, [], ◌∷◌, Bool, true, false, Option, Some, None, Result, Ok, Err, Bor, bytes_eq, codes}
+use Rattle.std.proofs.Common.{refl, sym, ap, subst, ◌∙◌}
 use Rattle.std.specs.Bool.{OnTrue}
 use Rattle.std.specs.Prelude.{IfOk, if◌then◌else◌, option_and_then}
 use Rattle.std.proofs.lemmas.Bool.{or_from, or_parts}
 use Rattle.std.proofs.lemmas.Slice.Eq.{bytes_eq-Decides}
-use Rattle.plural_base.specs.DocumentJson.{row_of, Document as Maps, Rows, all_maps, document_for, document_meant, document_of_json, found, map_meant, rows_meant, with_locale}
+use Rattle.plural_base.specs.DocumentJson.{row_of, Document as Maps, Rows, all_maps, document_for, document_meant}
+use Rattle.plural_base.specs.DocumentJson.{document_of_json, found, map_meant, rows_meant, with_locale}
 use Rattle.plural_base.specs.FiveRules.{FiveRules}
 use Rattle.plural_base.specs.Json.{Stands, ◌>>=◌}
 use Rattle.plural_base.specs.RangesJson.{ranges_meant}
@@ -45,11 +47,13 @@ mutual
   kept_exact (kept.Members choice) (boolean b) part exact is = subst (λ (d : Data). has_float d ≡ false) (some_is (boolean b) part is) exact
   kept_exact (kept.Members choice) (number n) part exact is = subst (λ (d : Data). has_float d ≡ false) (some_is (number n) part is) exact
   kept_exact (kept.Members choice) (string s) part exact is = subst (λ (d : Data). has_float d ≡ false) (some_is (string s) part is) exact
-  kept_exact (kept.Members choice) (array items) part exact is = subst (λ (d : Data). has_float d ≡ false) (some_is (array items) part is) exact
+  kept_exact (kept.Members choice) (array items) part exact is =
+      subst (λ (d : Data). has_float d ≡ false) (some_is (array items) part is) exact
   kept_exact (kept.Members choice) (object ms) part exact is =
       subst (λ (d : Data). has_float d ≡ false) (some_is (object (outline_members keeps choice ms)) part is) (members_exact choice ms exact)
 
-  members_exact : (choice : LocaleSieve) (ms : Members) → members_have_float ms ≡ false → members_have_float (outline_members keeps choice ms) ≡ false
+  members_exact : (choice : LocaleSieve) (ms : Members) → members_have_float ms ≡ false
+      → members_have_float (outline_members keeps choice ms) ≡ false
   members_exact choice no_members exact = refl
   members_exact choice (member key value ms) exact =
       let both = or_parts (has_float value) (members_have_float ms) exact in
@@ -78,7 +82,8 @@ module _ (locale : Bor (List ℕ)) where
       where
         kept_by : (b : Bool) → bytes_eq locale.now key ≡ b → (x : A) → meant value ≡ Ok x → (more : Rows A)
             → Same (rows_meant meant (outline_members keeps row ms)) more
-            → Same (rows_meant meant (with_member key (outline keeps (if b then kept.Whole else kept.Nothing) value) (outline_members keeps row ms)))
+            → Same (rows_meant meant
+            (with_member key (outline keeps (if b then kept.Whole else kept.Nothing) value) (outline_members keeps row ms)))
             ((key, x) ∷ more)
         kept_by true same x first more further =
             ((key, x) ∷ further.0, rw (first, further.1) refl, rw (same) refl)
@@ -91,7 +96,8 @@ module _ (locale : Bor (List ℕ)) where
         by (Err e) first others is further = absurd (cc)
         by (Ok x) first (Err e) is further = absurd (cc)
         by (Ok x) first (Ok more) is further =
-            subst (λ (r : Rows A). Same (rows_meant meant (outline_members keeps row (member key value ms))) r) (ok_is ((key, x) ∷ more) rows is)
+            subst (λ (r : Rows A). Same (rows_meant meant (outline_members keeps row (member key value ms))) r)
+            (ok_is ((key, x) ∷ more) rows is)
             (kept_by (bytes_eq locale.now key) refl x first more (further more refl))
 
     map_kept : (value : Option Data) (rows : Rows A) → map_meant meant value ≡ Ok rows
@@ -123,7 +129,8 @@ module _ (locale : Bor (List ℕ)) where
       rw (cs.1, os.1, rs.1, cs.2, os.2, rs.2)
       (ap (λ (m : Maps). with_locale locale.now (Ok m)) (ok_is (record { cardinal = c; ordinal = o; ranges = r }) maps is))
 
-  document_kept : (whole : Data) (maps : Maps) → document_meant whole ≡ Ok maps → (part : Data) → outline keeps (kept.Members top) whole ≡ Some part
+  document_kept : (whole : Data) (maps : Maps) → document_meant whole ≡ Ok maps → (part : Data)
+      → outline keeps (kept.Members top) whole ≡ Some part
       → with_locale locale.now (document_meant part) ≡ with_locale locale.now (document_meant whole)
   document_kept null maps is part kept = absurd (cc)
   document_kept (boolean b) maps is part kept = absurd (cc)
@@ -136,7 +143,8 @@ module _ (locale : Bor (List ℕ)) where
       (three_kept (map_meant rules_meant (get_member (codes "cardinal") ms)) (map_meant rules_meant (at (codes "cardinal")))
       (map_meant rules_meant (get_member (codes "ordinal") ms)) (map_meant rules_meant (at (codes "ordinal")))
       (map_meant ranges_meant (get_member (codes "ranges") ms)) (map_meant ranges_meant (at (codes "ranges"))) maps is
-      (λ rows c. rw (found_kept LocaleSieve keeps top (codes "cardinal") ms) (map_kept rules_meant (get_member (codes "cardinal") ms) rows c))
+      (λ rows c. rw (found_kept LocaleSieve keeps top (codes "cardinal") ms)
+      (map_kept rules_meant (get_member (codes "cardinal") ms) rows c))
       (λ rows o. rw (found_kept LocaleSieve keeps top (codes "ordinal") ms) (map_kept rules_meant (get_member (codes "ordinal") ms) rows o))
       (λ rows r. rw (found_kept LocaleSieve keeps top (codes "ranges") ms) (map_kept ranges_meant (get_member (codes "ranges") ms) rows r)))
 
@@ -148,7 +156,8 @@ module _ (locale : Bor (List ℕ)) where
       by true some is = absurd (cc)
       by false none is = (none, is)
 
-  faultless_serves : (whole part : Data) (maps : Maps) → document_of_json whole ≡ Ok maps → outline keeps (kept.Members top) whole ≡ Some part
+  faultless_serves : (whole part : Data) (maps : Maps) → document_of_json whole ≡ Ok maps
+      → outline keeps (kept.Members top) whole ≡ Some part
       → document_for locale.now part ≡ document_for locale.now whole
   faultless_serves whole part maps is outlined =
       let exact = exact_of whole maps is in

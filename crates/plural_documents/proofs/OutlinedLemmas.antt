@@ -1,9 +1,11 @@
 -- What is kept of a value, by the tokens that are held of it.
-use Rattle.std.proofs.Common.{◌≡◌, ℕ, List, ◌∷◌, ◌++◌, Bool, true, false, true≢false, Option, Some, None, Result, Ok, Err, String, Global, string_bytes, refl, rules, sym, ap, ◌∙◌}
+use Rattle.std.proofs.Common.{◌≡◌, ℕ, List, ◌∷◌, ◌++◌, Bool, true, false, true≢false, Option, Some, None, Result, Ok, Err, String}
+use Rattle.std.proofs.Common.{Global, string_bytes, refl, rules, sym, ap, ◌∙◌}
 use Rattle.std.specs.Prelude.{OnOk, option_map, unwrap_or}
 use Rattle.json.specs.Json as json
 use Rattle.document_tokens.specs.HeldTokens.{Held, held_tokens}
-use Rattle.plural_documents.specs.Inner.OutlineSteps.{AreItems, AreOutlined, IsOutlined, IsPassed, KeepsPart, members_by, portion_by, put_portion}
+use Rattle.plural_documents.specs.Inner.OutlineSteps.{AreItems, AreOutlined, IsOutlined, IsPassed, KeepsPart, members_by}
+use Rattle.plural_documents.specs.Inner.OutlineSteps.{portion_by, put_portion}
 use Rattle.plural_documents.specs.Outlines.{outline}
 use Rattle.plural_documents.specs.declared.outline.Portion.{Portion}
 use Rattle.plural_documents.specs.declared.outline.Portion.TheVariants as kept

@@ -24,7 +24,8 @@ mutual
   items_passed : (n : ℕ) (js : json.Items) (rest : List Held) → passed (suc n) (held_items js ++ rest) ≡ passed n rest
   items_passed n json.no_items rest = ap (λ k. passed k rest) (one_less n)
   items_passed n (json.item j js) rest =
-      ap (passed (suc n)) (append_assoc (held_tokens j) (held_items js) rest) ∙ value_passed n j (held_items js ++ rest) ∙ items_passed n js rest
+      ap (passed (suc n)) (append_assoc (held_tokens j) (held_items js) rest) ∙ value_passed n j (held_items js ++ rest)
+      ∙ items_passed n js rest
 
   members_passed : (n : ℕ) (ms : json.Members) (rest : List Held) → passed (suc n) (held_members ms ++ rest) ≡ passed n rest
   members_passed n json.no_members rest = ap (λ k. passed k rest) (one_less n)

@@ -1,5 +1,6 @@
 -- The texts of ranges, and the names of categories.
-use Rattle.std.proofs.Common.{◌≡◌, ◌↔◌, ℕ, List, [], ◌∷◌, Bool, true, false, cond, find, bytes_eq, Option, Some, None, is_some, refl, sym, ap, subst, ◌∙◌}
+use Rattle.std.proofs.Common.{◌≡◌, ◌↔◌, ℕ, List, [], ◌∷◌, Bool, true, false, cond, find, bytes_eq, Option, Some, None, is_some}
+use Rattle.std.proofs.Common.{refl, sym, ap, subst, ◌∙◌}
 use Rattle.std.specs.Prelude.{unwrap_or}
 use Rattle.std.proofs.lemmas.Slice.Eq.{bytes_eq-Decides}
 use Rattle.plural_base.specs.Categories.{name_of, raw_category_of}
@@ -48,7 +49,8 @@ found_passes : (test : Range → Bool) (ranges : List Range) (range : Range) →
 found_passes test [] range is = absurd (cc)
 found_passes test (first ∷ ranges) range is = by (test first) refl is (found_passes test ranges range)
   where
-    by : (b : Bool) → test first ≡ b → cond b (Some first) (find test ranges) ≡ Some range → (find test ranges ≡ Some range → test range ≡ true)
+    by : (b : Bool) → test first ≡ b → cond b (Some first) (find test ranges) ≡ Some range
+        → (find test ranges ≡ Some range → test range ≡ true)
         → test range ≡ true
     by true passes is further = subst (λ (r : Range). test r ≡ true) (ap (λ o. unwrap_or o range) is) passes
     by false passes is further = further is

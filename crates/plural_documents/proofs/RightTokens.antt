@@ -1,5 +1,6 @@
 -- What is right in a document of rules, by the tokens that are held of it.
-use Rattle.std.proofs.Common.{◌≡◌, ◌↔◌, ◌⊎◌, inl, inr, ℕ, List, [], ◌∷◌, ◌++◌, Bool, true, false, ◌||◌, Option, Some, None, Result, Ok, Err, is_some, Ordering, Less, Equal, Greater, refl, sym, ap, subst, ◌∙◌, append_assoc}
+use Rattle.std.proofs.Common.{◌≡◌, ◌↔◌, ◌⊎◌, inl, inr, ℕ, List, [], ◌∷◌, ◌++◌, Bool, true, false, ◌||◌, Option, Some, None}
+use Rattle.std.proofs.Common.{Result, Ok, Err, is_some, Ordering, Less, Equal, Greater, refl, sym, ap, subst, ◌∙◌, append_assoc}
 use Rattle.std.specs.Bool.{OnTrue}
 use Rattle.std.specs.List.{list_any}
 use Rattle.std.specs.Prelude.{IfOk, option_map}
@@ -8,7 +9,8 @@ use Rattle.std.proofs.lemmas.List.Folds.{list_any-append}
 use Rattle.json.specs.Json as json
 use Rattle.document_tokens.specs.HeldTokens.{Held, held_items, held_members, held_tokens}
 use Rattle.plural_documents.specs.Inner.OutlineSteps.{IsPassed}
-use Rattle.plural_documents.specs.Inner.RulesPlaces.{AreRight, AreRightParts, GivesRule, IsRight, IsRightBelow, IsRightPart, IsRightText, allows_null, below, is_any_read, is_float}
+use Rattle.plural_documents.specs.Inner.RulesPlaces.{AreRight, AreRightParts, GivesRule, IsRight, IsRightBelow, IsRightPart}
+use Rattle.plural_documents.specs.Inner.RulesPlaces.{IsRightText, allows_null, below, is_any_read, is_float}
 use Rattle.plural_base.specs.Categories.{name_of}
 use Rattle.plural_base.specs.declared.category.PluralCategory.{PluralCategory}
 use Rattle.plural_documents.specs.declared.rules_place.RulesPlace.{RulesPlace}
@@ -19,7 +21,8 @@ use Rattle.plural_documents.proofs.OutlineLemmas.{order, put_in, same_key}
 use Rattle.plural_documents.proofs.WalkLemmas.{held_then}
 use Rattle.plural_runtime.specs.RuleOfText.{RuleAnswer, TextGives, TextsGiveOneAnswer}
 use Rattle.plural_runtime.specs.declared.error.RuleError.TheVariants as cause
-use Rattle.serde_json.specs.Data.{Data, Num, null, boolean, number, string, array, object, Items, no_items, item, Members, no_members, member, put}
+use Rattle.serde_json.specs.Data.{Data, Num, null, boolean, number, string, array, object, Items, no_items, item, Members}
+use Rattle.serde_json.specs.Data.{no_members, member, put}
 use Rattle.serde_json.specs.Read.{number_of, of_items, of_json, of_members}
 use Rattle.serde_json.specs.Written.{has_float, items_have_float, members_have_float}
 
@@ -55,7 +58,8 @@ module _ (place : RulesPlace) (k : List ℕ) (value : Data) where
           → is_any_read place (put_in k value l old ms o) ≡ (is_any_read place (member l old ms) || is_some (below place k))
       by Less is further = either (is_some (below place k)) (is_any_read place (member l old ms))
       by Equal is further =
-          subst (λ (key : List ℕ). is_any_read place (member l value ms) ≡ (is_any_read place (member l old ms) || is_some (below place key)))
+          subst (λ (key : List ℕ). is_any_read place (member l value ms)
+          ≡ (is_any_read place (member l old ms) || is_some (below place key)))
           (sym (same_key k l is)) (again (is_some (below place l)) (is_any_read place ms))
       by Greater is further =
           ap (λ b. is_some (below place l) || b) further
@@ -85,7 +89,8 @@ right_added place k ts new rest whole any now (json.no_members, before, is, read
 right_added place k ts new rest whole any now (json.member l j ms, before, is, read, right, so_far) passes then =
     let same : k ≡ l = cc in
     let first = held_then (of_json j) (λ d. of_members ms (put l d before)) whole read in
-    let passed = passes j (held_members ms ++ rest) first.0 (ap rest_of is ∙ append_assoc (held_tokens j) (held_members ms) rest) first.1 in (
+    let passed =
+    passes j (held_members ms ++ rest) first.0 (ap rest_of is ∙ append_assoc (held_tokens j) (held_members ms) rest) first.1 in (
       ms,
       put k first.0 before,
       passed.0,
@@ -117,8 +122,11 @@ module _ (place : RulesPlace) (ts : List Held) where
   text_right s right (json.boolean b) rest whole is read = absurd (cc)
   text_right s right (json.number n) rest whole is read = absurd (cc)
   text_right s right (json.string t) rest whole is read =
-      let same : s ≡ t = cc in
-      (ap rest_of is, right_here place (string t) whole (some_is (string t) whole read) (subst (λ (u : List ℕ). IsRightText place u) same right))
+      let same : s ≡ t = cc in (
+        ap rest_of is,
+        right_here place (string t) whole (some_is (string t) whole read)
+            (subst (λ (u : List ℕ). IsRightText place u) same right),
+      )
   text_right s right (json.array js) rest whole is read = absurd (cc)
   text_right s right (json.object ms) rest whole is read = absurd (cc)
 
@@ -162,7 +170,8 @@ name_right text (Some c) named = (c, (named c).0 refl)
 exact_put : (k : List ℕ) (value : Data) (ms : Members) → has_float value ≡ false → members_have_float ms ≡ false
     → members_have_float (put k value ms) ≡ false
 exact_put k value no_members exact all = or_from (has_float value) false exact refl
-exact_put k value (member l old ms) exact all = by (order k l) (exact_put k value ms exact (or_parts (has_float old) (members_have_float ms) all).1)
+exact_put k value (member l old ms) exact all =
+    by (order k l) (exact_put k value ms exact (or_parts (has_float old) (members_have_float ms) all).1)
   where
     parts : (has_float old ≡ false) × (members_have_float ms ≡ false)
     parts = or_parts (has_float old) (members_have_float ms) all
@@ -173,10 +182,12 @@ exact_put k value (member l old ms) exact all = by (order k l) (exact_put k valu
     by Greater further = or_from (has_float old) (members_have_float (put k value ms)) parts.0 further
 
 -- of two lists
-apart : (one other : List Held) → list_any is_float (one ++ other) ≡ false → (list_any is_float one ≡ false) × (list_any is_float other ≡ false)
+apart : (one other : List Held) → list_any is_float (one ++ other) ≡ false
+    → (list_any is_float one ≡ false) × (list_any is_float other ≡ false)
 apart one other none = or_parts (list_any is_float one) (list_any is_float other) (sym (list_any-append is_float one other) ∙ none)
 
-number_exact : (o : Option Num) (d : Data) → list_any is_float (Held.number o ∷ []) ≡ false → option_map number o ≡ Some d → has_float d ≡ false
+number_exact : (o : Option Num) (d : Data) → list_any is_float (Held.number o ∷ []) ≡ false → option_map number o ≡ Some d
+    → has_float d ≡ false
 number_exact None d none read = absurd (cc)
 number_exact (Some n) d none read =
     subst (λ (e : Data). has_float e ≡ false) (some_is (number n) d read) (or_parts (is_float (Held.number (Some n))) false none).0
@@ -193,17 +204,22 @@ mutual
   value_exact (json.object ms) d none read =
       let some = held_map object (of_members ms no_members) d read in rw (some.2) (members_exact ms no_members some.0 refl none some.1)
 
-  items_exact : (js : json.Items) (ds : Items) → list_any is_float (held_items js) ≡ false → of_items js ≡ Some ds → items_have_float ds ≡ false
+  items_exact : (js : json.Items) (ds : Items) → list_any is_float (held_items js) ≡ false → of_items js ≡ Some ds
+      → items_have_float ds ≡ false
   items_exact json.no_items ds none read = subst (λ (es : Items). items_have_float es ≡ false) (some_is no_items ds read) refl
   items_exact (json.item j js) ds none read =
       let first = held_then (of_json j) (λ d. option_map (item d) (of_items js)) ds read in
       let after = held_map (item first.0) (of_items js) ds first.2 in
       let both = apart (held_tokens j) (held_items js) none in
-      rw (after.2) (or_from (has_float first.0) (items_have_float after.0) (value_exact j first.0 both.0 first.1) (items_exact js after.0 both.1 after.1))
+      rw (after.2)
+      (or_from (has_float first.0) (items_have_float after.0) (value_exact j first.0 both.0 first.1)
+      (items_exact js after.0 both.1 after.1))
 
-  members_exact : (ms : json.Members) (before whole : Members) → members_have_float before ≡ false → list_any is_float (held_members ms) ≡ false
+  members_exact : (ms : json.Members) (before whole : Members) → members_have_float before ≡ false
+      → list_any is_float (held_members ms) ≡ false
       → of_members ms before ≡ Some whole → members_have_float whole ≡ false
-  members_exact json.no_members before whole exact none read = subst (λ (es : Members). members_have_float es ≡ false) (some_is before whole read) exact
+  members_exact json.no_members before whole exact none read =
+      subst (λ (es : Members). members_have_float es ≡ false) (some_is before whole read) exact
   members_exact (json.member k j ms) before whole exact none read =
       let first = held_then (of_json j) (λ d. of_members ms (put k d before)) whole read in
       let both = apart (held_tokens j) (held_members ms) none in

@@ -1,5 +1,6 @@
 -- What is right in a document of rules means something.
-use Rattle.std.proofs.Common.{◌≡◌, ℕ, List, [], ◌∷◌, Bool, true, false, ◌||◌, Option, Some, None, is_some, Ok, Ordering, Less, Equal, Greater, bytes_eq, codes, refl, sym, ap, subst, ◌∙◌, true≢false}
+use Rattle.std.proofs.Common.{◌≡◌, ℕ, List, [], ◌∷◌, Bool, true, false, ◌||◌, Option, Some, None, is_some, Ok, Ordering, Less}
+use Rattle.std.proofs.Common.{Equal, Greater, bytes_eq, codes, refl, sym, ap, subst, ◌∙◌, true≢false}
 use Rattle.std.specs.List.{list_any}
 use Rattle.std.specs.Ordering.{match_ordering}
 use Rattle.std.specs.Prelude.{if◌then◌else◌}
@@ -18,10 +19,12 @@ use Rattle.plural_base.specs.declared.five.Five.{Five}
 use Rattle.plural_base.specs.declared.ranges.PluralRanges.{PluralRanges}
 use Rattle.plural_documents.specs.Inner.HeldTexts.{Holds}
 use Rattle.document_tokens.specs.HeldTokens.{Held, held_tokens}
-use Rattle.plural_documents.specs.Inner.RulesPlaces.{AreRight, IsFaultless, IsRight, IsRightBelow, IsRightPart, IsRightText, below, is_any_read, is_float}
+use Rattle.plural_documents.specs.Inner.RulesPlaces.{AreRight, IsFaultless, IsRight, IsRightBelow, IsRightPart, IsRightText}
+use Rattle.plural_documents.specs.Inner.RulesPlaces.{below, is_any_read, is_float}
 use Rattle.plural_documents.specs.Outlines.{HeldText}
 use Rattle.plural_documents.specs.declared.rules_place.RulesPlace.{RulesPlace}
-use Rattle.plural_documents.specs.declared.rules_place.RulesPlace.TheVariants.{Document, LocalesRules, Rules, Rule, LocalesRanges, Ranges, Categories, Category, Nowhere}
+use Rattle.plural_documents.specs.declared.rules_place.RulesPlace.TheVariants.{Document, LocalesRules, Rules, Rule, LocalesRanges}
+use Rattle.plural_documents.specs.declared.rules_place.RulesPlace.TheVariants.{Ranges, Categories, Category, Nowhere}
 use Rattle.plural_documents.proofs.HeldOutlines.{held_same}
 use Rattle.plural_documents.proofs.OutlinedLemmas.{some_is}
 use Rattle.plural_documents.proofs.OutlineLemmas.{order, same_key}
@@ -80,7 +83,8 @@ rules_mean (array items) right = absurd right
 rules_mean (object ms) right =
     all_mean (member_meant Zero (object ms)) (member_meant One (object ms)) (member_meant Two (object ms)) (member_meant Few (object ms))
     (member_meant Many (object ms))
-    (member_means Zero ms right.1 refl) (member_means One ms right.1 refl) (member_means Two ms right.1 refl) (member_means Few ms right.1 refl)
+    (member_means Zero ms right.1 refl) (member_means One ms right.1 refl) (member_means Two ms right.1 refl)
+    (member_means Few ms right.1 refl)
     (member_means Many ms right.1 refl)
 
 -- ---- Ranges
@@ -101,7 +105,8 @@ category_means (string s) right = (raw_category_of right.0, rw (right.1, categor
 category_means (array items) right = absurd right
 category_means (object ms) right = absurd (true≢false (sym right.0))
 
-categories_mean : (ranges : PluralRanges) (ms : Members) → AreRight Categories ms → (all : PluralRanges) × (members_meant ranges ms ≡ Ok all)
+categories_mean : (ranges : PluralRanges) (ms : Members) → AreRight Categories ms
+    → (all : PluralRanges) × (members_meant ranges ms ≡ Ok all)
 categories_mean ranges no_members right = (ranges, refl)
 categories_mean ranges (member key value ms) right = by (range_named key) refl (λ others. categories_mean others ms right.1)
   where
@@ -134,7 +139,8 @@ any_found (member key value ms) any = by (bytes_eq key ranges_key) refl (any_fou
         on (order ranges_key key) refl (others
         (sym (ap (λ b. is_some (if b then Some Categories else None) || is_any_read Ranges ms) other) ∙ any))
 
-table_means : (value : Data) → IsRight Categories value → (all : PluralRanges) × ((there_or Shape (as_object value) >>= members_meant no_ranges) ≡ Ok all)
+table_means : (value : Data) → IsRight Categories value
+    → (all : PluralRanges) × ((there_or Shape (as_object value) >>= members_meant no_ranges) ≡ Ok all)
 table_means null right = absurd (true≢false (sym right))
 table_means (boolean b) right = absurd right
 table_means (number n) right = absurd right
@@ -183,7 +189,8 @@ document_means (number n) right = absurd right
 document_means (string s) right = absurd right
 document_means (array items) right = absurd right
 document_means (object ms) right =
-    let under = λ (key : List ℕ) (place : RulesPlace) (named : below Document key ≡ Some place) (v : Data) (is : get_member key ms ≡ Some v).
+    let under =
+    λ (key : List ℕ) (place : RulesPlace) (named : below Document key ≡ Some place) (v : Data) (is : get_member key ms ≡ Some v).
     found_right Document key ms v right.1 is place named in
     let rules = map_means rules_meant LocalesRules Rules (λ key. refl) rules_mean (λ s text. text) in
     let cardinal = rules (get_member (codes "cardinal") ms) (under (codes "cardinal") LocalesRules refl) in

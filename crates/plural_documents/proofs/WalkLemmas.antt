@@ -38,7 +38,8 @@ no_end (variant.Bool b) other is = absurd (cc)
 no_end variant.Null other is = absurd (cc)
 
 -- what opens no array and no object doesn't stand for a bracket that does
-pub no_opening : (first : HeldToken) → (first ≡ variant.BeginArray → ⊥) → (first ≡ variant.BeginObject → ⊥) → opens (held_token first) ≡ false
+pub no_opening : (first : HeldToken) → (first ≡ variant.BeginArray → ⊥) → (first ≡ variant.BeginObject → ⊥)
+    → opens (held_token first) ≡ false
 no_opening variant.BeginObject array object = absurd (object refl)
 no_opening variant.EndObject array object = refl
 no_opening variant.BeginArray array object = absurd (array refl)
@@ -132,7 +133,8 @@ module _ {S : Type 0} (keeps : S → List ℕ → Portion S) where
     member_added k ts new rest whole found after (json.member l j ms, before, is, read, sorted, so_far) keeps_it =
         let same : k ≡ l = cc in
         let first = held_then (of_json j) (λ d. of_members ms (put l d before)) whole read in
-        let kept = keeps_it j (held_members ms ++ rest) first.0 (ap rest_of is ∙ append_assoc (held_tokens j) (held_members ms) rest) first.1 in (
+        let kept =
+        keeps_it j (held_members ms ++ rest) first.0 (ap rest_of is ∙ append_assoc (held_tokens j) (held_members ms) rest) first.1 in (
           ms,
           put k first.0 before,
           kept.0,

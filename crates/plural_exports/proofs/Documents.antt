@@ -55,7 +55,8 @@ maps_refused value json.Memory r is answers float shape =
 -- a value that means no elements
 pub elements_refused : (value : Data) (e : JsonError) (r : Result PackedElements Fault) → r ≡ Err (json_fault e)
     → IsRefusal e (packed_of_json value)
-    → (◌≡◌ {A = Result PackedElements JsonError} (Err e) (Err json.Memory) → (elements : PackedElements) × (packed_of_json value ≡ Ok elements))
+    → (◌≡◌ {A = Result PackedElements JsonError} (Err e) (Err json.Memory)
+    → (elements : PackedElements) × (packed_of_json value ≡ Ok elements))
     → MeansElements value r
 elements_refused value json.Float r is answers packable = rw is answers
 elements_refused value json.Shape r is answers packable = rw is answers

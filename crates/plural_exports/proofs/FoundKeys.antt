@@ -7,7 +7,8 @@ use Rattle.plural_fallback.specs.LocaleNames.{key_of}
 use Rattle.plural_fallback.specs.declared.error.FallbackError.{FallbackError}
 use Rattle.plural_fallback.specs.declared.error.FallbackError.TheVariants.{NotFound, LongChain, NotLoaded}
 
-one_more : (next : List ℕ → Option (List ℕ)) (locale : List ℕ) (n : ℕ) → locale_at next locale (n + 1) ≡ option_and_then next (locale_at next locale n)
+one_more : (next : List ℕ → Option (List ℕ)) (locale : List ℕ) (n : ℕ)
+    → locale_at next locale (n + 1) ≡ option_and_then next (locale_at next locale n)
 unfolding locale_at
 one_more next locale n = let e : n + 1 ≡ suc n = omega arith in ap (locale_at next locale) e
 

@@ -26,7 +26,8 @@ use Rattle.serde_json.specs.Data.{Data}
 -- ---- A text
 
 -- no JSON text
-pub text_refused : (bytes locale : List ℕ) (e : JsonTextError) (r : Result Maps Fault) → r ≡ Err (json_text_fault e) → GivesHeldText None bytes (Err e)
+pub text_refused : (bytes locale : List ℕ) (e : JsonTextError) (r : Result Maps Fault) → r ≡ Err (json_text_fault e)
+    → GivesHeldText None bytes (Err e)
     → HasMapsFor bytes locale r
 text_refused bytes locale text.Json r is none = rw is (Err (json_text_fault text.Json), none, refl)
 text_refused bytes locale text.Memory r is some = rw is (Err (json_text_fault text.Memory), some, refl)
@@ -54,12 +55,14 @@ module _ (bytes locale : List ℕ) (value : Data) (reads : json_of bytes ≡ Som
   document_refused (json.Rule category fault) r is why =
       rw is (refused (json.Rule category fault) _ (refusal_of locale (document_of_json value) (json.Rule category fault) why))
   document_refused json.RangeKey r is why = rw is (refused json.RangeKey _ (refusal_of locale (document_of_json value) json.RangeKey why))
-  document_refused json.RangeValue r is why = rw is (refused json.RangeValue _ (refusal_of locale (document_of_json value) json.RangeValue why))
+  document_refused json.RangeValue r is why =
+      rw is (refused json.RangeValue _ (refusal_of locale (document_of_json value) json.RangeValue why))
   document_refused (json.Pack fault) r is why =
       rw is (refused (json.Pack fault) _ (refusal_of locale (document_of_json value) (json.Pack fault) why))
   document_refused json.Memory r is why = rw is (Err Memory, some_bytes bytes value reads, refl)
 
-  maps_of : (some : Maps) (stands : Stands Maps) → with_locale locale stands ≡ Ok some → (maps : Maps) × (stands ≡ Ok maps) × (some ≡ of_locale locale maps)
+  maps_of : (some : Maps) (stands : Stands Maps) → with_locale locale stands ≡ Ok some
+      → (maps : Maps) × (stands ≡ Ok maps) × (some ≡ of_locale locale maps)
   maps_of some (Ok maps) is = let same : some ≡ of_locale locale maps = cc in (maps, refl, same)
   maps_of some (Err e) is = absurd (cc)
 
@@ -69,20 +72,23 @@ module _ (bytes locale : List ℕ) (value : Data) (reads : json_of bytes ≡ Som
 
 -- ---- A locale
 
-before : {C : Type 0} (Last : Maps → Result C Fault → Type 0) (bytes : List ℕ) (fault : Fault) → Then (ReadsJson bytes) MeansMaps (Err fault)
+before : {C : Type 0} (Last : Maps → Result C Fault → Type 0) (bytes : List ℕ) (fault : Fault)
+    → Then (ReadsJson bytes) MeansMaps (Err fault)
     → Then (ReadsJson bytes) (λ value. Then (MeansMaps value) Last) (Err fault)
 before {C} Last bytes fault (Ok value, reads, refused) = (Ok value, reads, (Err fault, refused, refl))
 before {C} Last bytes fault (Err other, reads, same) = let is : fault ≡ other = cc in (Err other, reads, rw is refl)
 
 module _ (bytes locale : List ℕ) where
   -- a document without rules for the locale
-  pub rules_refused : (type : PluralRuleType) (fault : Fault) → HasMapsFor bytes locale (Err fault) → HasRulesFor bytes locale type (Err fault)
+  pub rules_refused : (type : PluralRuleType) (fault : Fault) → HasMapsFor bytes locale (Err fault)
+      → HasRulesFor bytes locale type (Err fault)
   rules_refused type fault refused = before (λ maps. HasRulesAt locale (rows_for type maps)) bytes fault refused
 
   pub ranges_refused : (fault : Fault) → HasMapsFor bytes locale (Err fault) → HasRangesFor bytes locale (Err fault)
   ranges_refused fault refused = before (λ maps. HasRangesAt locale maps.ranges) bytes fault refused
 
-  same_rules : (type : PluralRuleType) (maps : Maps) → found locale (rows_for type (of_locale locale maps)) ≡ found locale (rows_for type maps)
+  same_rules : (type : PluralRuleType) (maps : Maps)
+      → found locale (rows_for type (of_locale locale maps)) ≡ found locale (rows_for type maps)
   same_rules Cardinal maps = row_found locale (found locale maps.cardinal)
   same_rules Ordinal maps = row_found locale (found locale maps.ordinal)
 

@@ -19,7 +19,8 @@ number_refused text decimal.Syntax r is syntax limit short = rw is (syntax.0 ref
 number_refused text decimal.Limit r is syntax limit short = rw is (limit.0 refl)
 number_refused text decimal.Memory r is syntax limit short =
     rw is (
-      λ none. (let same : ◌≡◌ {A = Result CompactNumber DecimalError} (Err decimal.Memory) (Err decimal.Syntax) = syntax.1 none in absurd cc),
+      λ none. (let same : ◌≡◌ {A = Result CompactNumber DecimalError} (Err decimal.Memory) (Err decimal.Syntax) =
+          syntax.1 none in absurd cc),
       λ over. (let same : ◌≡◌ {A = Result CompactNumber DecimalError} (Err decimal.Memory) (Err decimal.Limit) = limit.1 over in absurd cc),
       lt_of_not-le (λ few. short few refl),
     )

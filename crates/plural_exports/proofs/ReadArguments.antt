@@ -1,5 +1,6 @@
 -- Arguments that are read one after another.
-use Rattle.std.proofs.Common.{◌≡◌, ℕ, ◌-◌, ◌≤◌, ◌<◌, ◌++◌, List, [], ◌∷◌, length, take, drop, get_or, Result, Ok, Err, inl, inr, refl, subst, sym, ap, ◌∙◌, arith}
+use Rattle.std.proofs.Common.{◌≡◌, ℕ, ◌-◌, ◌≤◌, ◌<◌, ◌++◌, List, [], ◌∷◌, length, take, drop, get_or, Result, Ok, Err, inl, inr}
+use Rattle.std.proofs.Common.{refl, subst, sym, ap, ◌∙◌, arith}
 use Rattle.std.proofs.lemmas.List.{append-nil, append_assoc, map-append, take_all}
 use Rattle.message_format.specs.declared.arguments.Argument as arguments
 use Rattle.message_format.specs.FormatArguments.{Argument, named_value_view, arguments_view}
@@ -29,15 +30,18 @@ headed [] d n h e = absurd (omega arith)
 headed (g ∷ given) d n h e = ap (λ (l : List GivenArgument). g ∷ l) (sym (take_all (n - 1) given (omega arith)))
 
 -- one argument more
-pub goes_on : (given : List GivenArgument) (read new : List arguments.Argument) (left rest : List GivenArgument) (first : GivenArgument) (x : arguments.Argument)
+pub goes_on : (given : List GivenArgument) (read new : List arguments.Argument) (left rest : List GivenArgument) (first : GivenArgument)
+    (x : arguments.Argument)
     → left ≡ first ∷ rest → ReadsArgument first (Ok (named_value_view x)) → new ≡ read ++ (x ∷ [])
     → IsReadBefore given (arguments_view read) left → IsReadBefore given (arguments_view new) rest
 goes_on given read new left rest first x parts one pushed before (Ok others) is =
     subst (λ (all : List Argument). AreArguments given (Ok all))
-    (sym (ap (λ (l : List arguments.Argument). arguments_view l ++ others) pushed ∙ ap (λ (l : List Argument). l ++ others) (map-append named_value_view read (x ∷ []))
+    (sym (ap (λ (l : List arguments.Argument). arguments_view l ++ others) pushed
+    ∙ ap (λ (l : List Argument). l ++ others) (map-append named_value_view read (x ∷ []))
     ∙ append_assoc (arguments_view read) (named_value_view x ∷ []) others))
     (before (Ok (named_value_view x ∷ others))
-    (subst (λ (l : List GivenArgument). AreArguments l (Ok (named_value_view x ∷ others))) (sym parts) (Ok (named_value_view x), one, inl (Ok others, is, refl))))
+    (subst (λ (l : List GivenArgument). AreArguments l (Ok (named_value_view x ∷ others))) (sym parts)
+    (Ok (named_value_view x), one, inl (Ok others, is, refl))))
 goes_on given read new left rest first x parts one pushed before (Err fault) is =
     before (Err fault)
     (subst (λ (l : List GivenArgument). AreArguments l (Err fault)) (sym parts) (Ok (named_value_view x), one, inl (Err fault, is, refl)))

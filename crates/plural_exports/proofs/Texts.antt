@@ -48,4 +48,6 @@ pub pack_refused : (rules : FiveRules) (e : RulesPackError) (r : Block) → r �
     → GivesSeen bytes_of (PackRules rules) r
 pack_refused rules packing.StartLimit r is limit = rw is (limit.0 refl)
 pack_refused rules packing.Memory r is limit =
-    rw is (λ high. (let same : ◌≡◌ {A = Result (Vec ℕ Global) RulesPackError} (Err packing.Memory) (Err packing.StartLimit) = limit.1 high in absurd cc))
+    rw is (λ high.
+    (let same : ◌≡◌ {A = Result (Vec ℕ Global) RulesPackError} (Err packing.Memory) (Err packing.StartLimit) =
+    limit.1 high in absurd cc))

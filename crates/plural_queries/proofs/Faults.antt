@@ -17,7 +17,8 @@ pub handed_on : {X : Type 0} (r : Result X RunError) (e : RunError) (p : (f : Ru
 handed_on r e p = p.1 ∙ ap Err p.2
 
 -- so an error of the result is the error of the call
-pub same_fault : {X Y : Type 0} (r : Result X RunError) (e f : RunError) → r ≡ Err e → r ≡ Err f → ◌≡◌ {A = Result Y RunError} (Err e) (Err f)
+pub same_fault : {X Y : Type 0} (r : Result X RunError) (e f : RunError) → r ≡ Err e → r ≡ Err f
+    → ◌≡◌ {A = Result Y RunError} (Err e) (Err f)
 same_fault {X} {Y} r e f is h = let same : e ≡ f = cc in ap Err same
 
 -- an error is the same in another result

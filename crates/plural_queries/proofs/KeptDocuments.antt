@@ -9,7 +9,8 @@ use Rattle.icu_plurals.specs.PackedElements.{PackedElements}
 use Rattle.icu_plurals.specs.declared.PluralRuleType.{PluralRuleType}
 use Rattle.icu_plurals.specs.declared.PluralRuleType.TheVariants.{Cardinal, Ordinal}
 use Rattle.plural_queries.specs.LookupAnswers.{AnswersFrom}
-use Rattle.plural_queries.specs.Input.{RuledElements, WholeDocument, document_of_value, elements_at_key, elements_for, or_bad, ranged_for, ruled_with, rules_for}
+use Rattle.plural_queries.specs.Input.{RuledElements, WholeDocument, document_of_value, elements_at_key, elements_for, or_bad}
+use Rattle.plural_queries.specs.Input.{ranged_for, ruled_with, rules_for}
 use Rattle.plural_queries.specs.Lines.{AreRuleLines, IsCategoryLine, IsElementLine, IsMessageLine, IsRangeLine}
 use Rattle.plural_queries.specs.Queries.{Lookup, number_category, range_category, printed_rules, number_element, number_message}
 use Rattle.plural_queries.specs.CallAnswers.{GivesRunFault, GivesText, Text}
@@ -33,7 +34,8 @@ all_kept : (value : Option Data) → option_and_then (outline keeps portion.Whol
 all_kept None = refl
 all_kept (Some value) = refl
 
-elements_in : (sieve : ElementsSieve) (whole part : Data) → outline keeps (portion.Members sieve) whole ≡ Some part → HaveElements part whole
+elements_in : (sieve : ElementsSieve) (whole part : Data) → outline keeps (portion.Members sieve) whole ≡ Some part
+    → HaveElements part whole
 elements_in sieve null part is = ap (get (codes "elements")) (sym (some_is null part is))
 elements_in sieve (boolean b) part is = ap (get (codes "elements")) (sym (some_is (boolean b) part is))
 elements_in sieve (number n) part is = ap (get (codes "elements")) (sym (some_is (number n) part is))
@@ -112,7 +114,8 @@ refused_by value locale (Ok maps) fault is = absurd (no_error is)
 refused_by value locale (Err refusal) fault is = same_error is
 
 -- a refusal of what is of a locale is one of the document
-pub document_refused : (value : Data) (locale : List ℕ) (e : RunError) → GivesRunFault (λ fault. or_bad (document_for locale value) ≡ Err fault) e
+pub document_refused : (value : Data) (locale : List ℕ) (e : RunError)
+    → GivesRunFault (λ fault. or_bad (document_for locale value) ≡ Err fault) e
     → GivesRunFault (λ fault. document_of_value value ≡ Err fault) e
 document_refused value locale e h =
     mapped (λ fault. or_bad (document_for locale value) ≡ Err fault) (λ fault. document_of_value value ≡ Err fault)

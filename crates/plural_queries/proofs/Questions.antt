@@ -45,7 +45,8 @@ integer_not_usage : (word : List ℕ) → integer_of word ≡ Err Usage → ⊥
 integer_not_usage word = of_tests (not (is_numeral word)) (nat_lt (digits_value 10 word) (2 ^ 64))
   where
     of_tests : (a b : Bool)
-        → ◌≡◌ {A = Result ℕ RunError} (cond a (Err (Number decimal.Syntax)) (cond b (Ok (digits_value 10 word)) (Err (Number decimal.Limit)))) (Err Usage) → ⊥
+        → ◌≡◌ {A = Result ℕ RunError}
+        (cond a (Err (Number decimal.Syntax)) (cond b (Ok (digits_value 10 word)) (Err (Number decimal.Limit)))) (Err Usage) → ⊥
     of_tests true b h = cc
     of_tests false true h = cc
     of_tests false false h = cc
@@ -78,7 +79,8 @@ value_not_usage Next (Ok x) none nones h = nones x h
 value_not_usage Next (Err e) none nones h = let same : e ≡ Usage = cc in none (ap Err same)
 
 -- nor has a number that a query asks for
-number_asked_not_usage : (word : List ℕ) (query : CompactNumber → Query) → Then (ReadsNumberWord word) (λ n. IsAsked (query n)) (Err Usage) → ⊥
+number_asked_not_usage : (word : List ℕ) (query : CompactNumber → Query) → Then (ReadsNumberWord word) (λ n. IsAsked (query n)) (Err Usage)
+    → ⊥
 number_asked_not_usage word query =
     steps_not_usage (ReadsNumberWord word) (λ n. IsAsked (query n)) (number_not_usage word) (λ n. asked_not_usage (query n))
 

@@ -27,7 +27,8 @@ found_passes : (test : List ℕ → Bool) (keys : List (List ℕ)) (key : List �
 found_passes test [] key is = absurd (cc)
 found_passes test (first ∷ keys) key is = by (test first) refl is (found_passes test keys key)
   where
-    by : (b : Bool) → test first ≡ b → cond b (Some first) (find test keys) ≡ Some key → (find test keys ≡ Some key → test key ≡ true) → test key ≡ true
+    by : (b : Bool) → test first ≡ b → cond b (Some first) (find test keys) ≡ Some key → (find test keys ≡ Some key → test key ≡ true)
+        → test key ≡ true
     by true passes is further = subst (λ k. test k ≡ true) (ap (λ o. unwrap_or o key) is) passes
     by false passes is further = further is
 
@@ -58,7 +59,8 @@ module _ (locales : KeptLocales) where
   part_of whole = option_and_then (outline keeps (kept.Members (Keys locales))) whole
 
   find_in_part : (test : List ℕ → Bool) → ((key : List ℕ) → test key ≡ true → IsInside key) → (whole : Option Data)
-      → find test (keys_in_object (option_and_then as_object (part_of whole))) ≡ find test (keys_in_object (option_and_then as_object whole))
+      → find test (keys_in_object (option_and_then as_object (part_of whole)))
+      ≡ find test (keys_in_object (option_and_then as_object whole))
   find_in_part test inside None = refl
   find_in_part test inside (Some null) = refl
   find_in_part test inside (Some (boolean truth)) = refl
@@ -69,7 +71,8 @@ module _ (locales : KeptLocales) where
 
   -- the locale itself, and the keys that are the same, are inside as it is
   key_in_part : (locale : List ℕ) → IsInside locale → (whole : Option Data)
-      → key_of (keys_in_object (option_and_then as_object (part_of whole))) locale ≡ key_of (keys_in_object (option_and_then as_object whole)) locale
+      → key_of (keys_in_object (option_and_then as_object (part_of whole))) locale
+      ≡ key_of (keys_in_object (option_and_then as_object whole)) locale
   key_in_part locale inside whole =
       rw (
         find_in_part (bytes_eq locale)
@@ -136,7 +139,8 @@ parents_named Ordinal = refl
 parents_named Ranges = refl
 
 -- the outline of a document
-module _ (part : Part) (locales : KeptLocales) (whole document : Data) (is : outline keeps (kept.Members (Document part locales)) whole ≡ Some document) where
+module _ (part : Part) (locales : KeptLocales) (whole document : Data)
+    (is : outline keeps (kept.Members (Document part locales)) whole ≡ Some document) where
   -- a locale inside has the same key
   pub same_key : (locale : List ℕ) → is_inside locales locale ≡ true
       → key_of (keys_under (part_name part) document) locale ≡ key_of (keys_under (part_name part) whole) locale
@@ -162,12 +166,16 @@ module _ (part : Part) (locales : KeptLocales) (whole document : Data) (is : out
       (key_in_part locales locale inside (get (codes "parents") whole))
 
   -- so the same locale comes next
-  pub same_next : (locale : List ℕ) → is_inside locales locale ≡ true → next_of (parent_in document) locale ≡ next_of (parent_in whole) locale
+  pub same_next : (locale : List ℕ) → is_inside locales locale ≡ true
+      → next_of (parent_in document) locale ≡ next_of (parent_in whole) locale
   same_next locale inside = ap (λ parent. next_by parent locale (before_last locale)) same_parent
     where
-      by : (key : Option (List ℕ)) → key_of (keys_under (codes "parents") whole) locale ≡ key → option_and_then (text_at document) key ≡ option_and_then (text_at whole) key
+      by : (key : Option (List ℕ)) → key_of (keys_under (codes "parents") whole) locale ≡ key
+          → option_and_then (text_at document) key ≡ option_and_then (text_at whole) key
       by None found = refl
       by (Some key) found = same_text key (key_inside locales (keys_under (codes "parents") whole) locale key inside found)
 
       same_parent : parent_in document locale ≡ parent_in whole locale
-      same_parent = ap (option_and_then (text_at document)) (same_parent_key locale inside) ∙ by (key_of (keys_under (codes "parents") whole) locale) refl
+      same_parent =
+          ap (option_and_then (text_at document)) (same_parent_key locale inside)
+          ∙ by (key_of (keys_under (codes "parents") whole) locale) refl

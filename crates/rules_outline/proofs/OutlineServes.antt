@@ -1,5 +1,6 @@
 -- An outline of a document of rules serves as the whole does, where the chain stays inside.
-use Rattle.std.proofs.Common.{◌≡◌, ℕ, zero, suc, ◌<◌, ◌≤◌, List, [], ◌∷◌, Bool, true, false, Option, Some, None, Result, Ok, Err, refl, sym, ap, subst, ◌∙◌, arith}
+use Rattle.std.proofs.Common.{◌≡◌, ℕ, zero, suc, ◌<◌, ◌≤◌, List, [], ◌∷◌, Bool, true, false, Option, Some, None, Result, Ok, Err}
+use Rattle.std.proofs.Common.{refl, sym, ap, subst, ◌∙◌, arith}
 use Rattle.std.specs.Prelude.{◌||◌, bytes_eq, codes, IfOk, IfErr, is_some, option_and_then, string_bytes}
 use Rattle.plural_documents.proofs.HeldOutlines.{outline_held}
 use Rattle.plural_documents.specs.Outlines.{HeldText, IsOutlineOf, is_named, outline, part_by_names}
@@ -23,86 +24,92 @@ use Rattle.rules_outline.specs.declared.outline.RulesSieve.TheVariants.{Document
 use Rattle.rules_outline.proofs.OutlineFound.{key_inside, same_key, same_next, same_value}
 
 module _ (part : Part) (locale : List ℕ) (locales : KeptLocales) (whole document : Data)
-    (is : outline keeps (kept.Members (Document part locales)) whole ≡ Some document) (stays : StaysInside locales document part locale) where
-  -- the locale after some steps of the chain
-  abbrev at : Data → ℕ → Option (List ℕ)
-  at value n = locale_at (next_of (parent_in value)) locale n
+    (is : outline keeps (kept.Members (Document part locales)) whole ≡ Some document) (stays : StaysInside locales document part locale)
+  where
+    -- the locale after some steps of the chain
+    abbrev at : Data → ℕ → Option (List ℕ)
+    at value n = locale_at (next_of (parent_in value)) locale n
 
-  abbrev key : Data → ℕ → Option (List ℕ)
-  key value n = key_after value part locale n
+    abbrev key : Data → ℕ → Option (List ℕ)
+    key value n = key_after value part locale n
 
-  inside : (n : ℕ) (current : List ℕ) → n < most_locales → NoneBefore n (key document) → at document n ≡ Some current
-      → is_inside locales current ≡ true
-  inside n current below none here = stays n below current none here
+    inside : (n : ℕ) (current : List ℕ) → n < most_locales → NoneBefore n (key document) → at document n ≡ Some current
+        → is_inside locales current ≡ true
+    inside n current below none here = stays n below current none here
 
-  -- ---- The chain
+    -- ---- The chain
 
-  -- the same key, where the chains are at the same locale
-  key_agrees : (n : ℕ) → n < most_locales → NoneBefore n (key document) → at document n ≡ at whole n → key document n ≡ key whole n
-  key_agrees n below none alike = by (at document n) refl
-    where
-      by : (current : Option (List ℕ)) → at document n ≡ current → key document n ≡ key whole n
-      by None here = rw (here, ← alike, here) refl
-      by (Some current) here =
-          ap (option_and_then (key_of (keys_under (part_name part) document))) here
-          ∙ same_key part locales whole document is current (inside n current below none here)
-          ∙ ap (option_and_then (key_of (keys_under (part_name part) whole))) (sym here ∙ alike)
+    -- the same key, where the chains are at the same locale
+    key_agrees : (n : ℕ) → n < most_locales → NoneBefore n (key document) → at document n ≡ at whole n → key document n ≡ key whole n
+    key_agrees n below none alike = by (at document n) refl
+      where
+        by : (current : Option (List ℕ)) → at document n ≡ current → key document n ≡ key whole n
+        by None here = rw (here, ← alike, here) refl
+        by (Some current) here =
+            ap (option_and_then (key_of (keys_under (part_name part) document))) here
+            ∙ same_key part locales whole document is current (inside n current below none here)
+            ∙ ap (option_and_then (key_of (keys_under (part_name part) whole))) (sym here ∙ alike)
 
-  next_agrees : (n : ℕ) → n < most_locales → NoneBefore n (key document) → at document n ≡ at whole n → at document (suc n) ≡ at whole (suc n)
-  unfolding locale_at
-  next_agrees n below none alike = by (at document n) refl
-    where
-      by : (current : Option (List ℕ)) → at document n ≡ current → at document (suc n) ≡ at whole (suc n)
-      by None here = ap (option_and_then (next_of (parent_in document))) here ∙ ap (option_and_then (next_of (parent_in whole))) (sym here ∙ alike)
-      by (Some current) here =
-          ap (option_and_then (next_of (parent_in document))) here
-          ∙ same_next part locales whole document is current (inside n current below none here)
-          ∙ ap (option_and_then (next_of (parent_in whole))) (sym here ∙ alike)
+    next_agrees : (n : ℕ) → n < most_locales → NoneBefore n (key document) → at document n ≡ at whole n
+        → at document (suc n) ≡ at whole (suc n)
+    unfolding locale_at
+    next_agrees n below none alike = by (at document n) refl
+      where
+        by : (current : Option (List ℕ)) → at document n ≡ current → at document (suc n) ≡ at whole (suc n)
+        by None here =
+            ap (option_and_then (next_of (parent_in document))) here ∙ ap (option_and_then (next_of (parent_in whole))) (sym here ∙ alike)
+        by (Some current) here =
+            ap (option_and_then (next_of (parent_in document))) here
+            ∙ same_next part locales whole document is current (inside n current below none here)
+            ∙ ap (option_and_then (next_of (parent_in whole))) (sym here ∙ alike)
 
-  none_sooner : (n : ℕ) → NoneBefore (suc n) (key document) → NoneBefore n (key document)
-  none_sooner n none m below = none m (omega arith)
+    none_sooner : (n : ℕ) → NoneBefore (suc n) (key document) → NoneBefore n (key document)
+    none_sooner n none m below = none m (omega arith)
 
-  at_agrees : (n : ℕ) → n ≤ most_locales → NoneBefore n (key document) → at document n ≡ at whole n
-  unfolding locale_at
-  at_agrees zero within none = refl
-  at_agrees (suc n) within none =
-      next_agrees n (omega arith) (none_sooner n none) (at_agrees n (omega arith) (none_sooner n none))
+    at_agrees : (n : ℕ) → n ≤ most_locales → NoneBefore n (key document) → at document n ≡ at whole n
+    unfolding locale_at
+    at_agrees zero within none = refl
+    at_agrees (suc n) within none =
+        next_agrees n (omega arith) (none_sooner n none) (at_agrees n (omega arith) (none_sooner n none))
 
-  none_before : (n : ℕ) → n ≤ most_locales → NoneBefore n (key document) → NoneBefore n (key whole)
-  none_before n within none m below =
-      let earlier : NoneBefore m (key document) = λ k lower. none k (omega arith) in
-      sym (key_agrees m (omega arith) earlier (at_agrees m (omega arith) earlier)) ∙ none m below
+    none_before : (n : ℕ) → n ≤ most_locales → NoneBefore n (key document) → NoneBefore n (key whole)
+    none_before n within none m below =
+        let earlier : NoneBefore m (key document) = λ k lower. none k (omega arith) in
+        sym (key_agrees m (omega arith) earlier (at_agrees m (omega arith) earlier)) ∙ none m below
 
-  -- ---- The first key
+    -- ---- The first key
 
-  first_key : (found : List ℕ) → IsKeyOf document part locale found → IsKeyOf whole part locale found
-  first_key found first =
-      let n = first.0 in
-      let within : n ≤ most_locales = omega (arith, first.1) in (
-        n,
-        first.1,
-        sym (key_agrees n first.1 first.3 (at_agrees n within first.3)) ∙ first.2,
-        none_before n within first.3,
-      )
+    first_key : (found : List ℕ) → IsKeyOf document part locale found → IsKeyOf whole part locale found
+    first_key found first =
+        let n = first.0 in
+        let within : n ≤ most_locales = omega (arith, first.1) in (
+          n,
+          first.1,
+          sym (key_agrees n first.1 first.3 (at_agrees n within first.3)) ∙ first.2,
+          none_before n within first.3,
+        )
 
-  no_key : (reason : FallbackError) → HasNoKey document part locale reason → HasNoKey whole part locale reason
-  no_key NotFound none = (none.0, none.1, sym (at_agrees none.0 none.1 none.3) ∙ none.2, none_before none.0 none.1 none.3)
-  no_key LongChain none = (sym (ap is_some (at_agrees most_locales (omega arith) none.1)) ∙ none.0, none_before most_locales (omega arith) none.1)
-  no_key NotLoaded none = absurd none.2
+    no_key : (reason : FallbackError) → HasNoKey document part locale reason → HasNoKey whole part locale reason
+    no_key NotFound none = (none.0, none.1, sym (at_agrees none.0 none.1 none.3) ∙ none.2, none_before none.0 none.1 none.3)
+    no_key LongChain none =
+        (sym (ap is_some (at_agrees most_locales (omega arith) none.1)) ∙ none.0, none_before most_locales (omega arith) none.1)
+    no_key NotLoaded none = absurd none.2
 
-  key_is_inside : (found : List ℕ) → IsKeyOf document part locale found → is_inside locales found ≡ true
-  key_is_inside found first = by (at document first.0) refl
-    where
-      by : (current : Option (List ℕ)) → at document first.0 ≡ current → is_inside locales found ≡ true
-      by None here =
-          let never : None ≡ Some found = sym (ap (option_and_then (key_of (keys_under (part_name part) document))) here) ∙ first.2 in absurd (cc)
-      by (Some current) here =
-          key_inside locales (keys_under (part_name part) document) current found (inside first.0 current first.1 first.3 here)
-          (sym (ap (option_and_then (key_of (keys_under (part_name part) document))) here) ∙ first.2)
+    key_is_inside : (found : List ℕ) → IsKeyOf document part locale found → is_inside locales found ≡ true
+    key_is_inside found first = by (at document first.0) refl
+      where
+        by : (current : Option (List ℕ)) → at document first.0 ≡ current → is_inside locales found ≡ true
+        by None here =
+            let never : None ≡ Some found =
+            sym (ap (option_and_then (key_of (keys_under (part_name part) document))) here) ∙ first.2 in absurd (cc)
+        by (Some current) here =
+            key_inside locales (keys_under (part_name part) document) current found (inside first.0 current first.1 first.3 here)
+            (sym (ap (option_and_then (key_of (keys_under (part_name part) document))) here) ∙ first.2)
 
-  pub outline_serves : (first : Result (List ℕ) FallbackError) → IsFirst document part locale first → ServesAt part locale document whole first
-  outline_serves (Ok key) first = (first_key key first, same_value part locales whole document is key (key_is_inside key first))
-  outline_serves (Err reason) none = no_key reason none
+    pub outline_serves : (first : Result (List ℕ) FallbackError) → IsFirst document part locale first
+        → ServesAt part locale document whole first
+    outline_serves (Ok key) first = (first_key key first, same_value part locales whole document is key (key_is_inside key first))
+    outline_serves (Err reason) none = no_key reason none
 
 -- where all locales are kept, every chain stays
 pub all_stay : (document : Data) (part : Part) (locale : List ℕ) → StaysInside All document part locale
@@ -121,7 +128,8 @@ no_other : (part : Part) (locales : KeptLocales) (key : List ℕ) → is_named (
 no_other part locales key other = rw (with_none (bytes_eq key (part_name part)) (bytes_eq key (codes "parents")) other) refl
 
 -- so what is kept of a part serves
-pub part_serves : (part : Part) (locale : List ℕ) (text : HeldText) (locales : KeptLocales) (kept : KeptRules) (first : Result (List ℕ) FallbackError)
+pub part_serves : (part : Part) (locale : List ℕ) (text : HeldText) (locales : KeptLocales) (kept : KeptRules)
+    (first : Result (List ℕ) FallbackError)
     → HoldsPart part text → IsOutlineOf keeps (Document part locales) text (view kept.document) → key_by string_bytes kept.key ≡ first
     → IsFirstInside locales (view kept.document) part locale first → IsServedBy part locale text.bytes kept
 part_serves part locale text locales kept first names (held, (whole, reads, is_held), outlined) key (stays, is_first) =

@@ -30,7 +30,7 @@ use Rattle.form_commands.specs.declared.error.LanguageError.{LanguageError}
 use Rattle.form_commands.specs.declared.error.LanguageError.TheVariants.{NotFound}
 use Rattle.form_commands.specs.declared.error.Verdict.{Verdict}
 use Rattle.form_commands.specs.declared.error.Verdict.TheVariants.{Complete, Faults}
-use Rattle.form_commands.specs.declared.language.Language as code
+use Rattle.form_commands.specs.declared.language.LanguageRules as code
 
 -- the result of a report
 abbrev pub result_of_report : Result Counts ReportError → Result Verdict FormsError
@@ -75,11 +75,11 @@ GivesDocument input (Err Memory) = ⊤
 -- ---- The rules of a locale
 
 -- what stands under the key, or why there is none
-abbrev pub IsFoundUnder : Data → Part → List ℕ → Result (List ℕ) FallbackError → Result code.Language LanguageError → Type 0
+abbrev pub IsFoundUnder : Data → Part → List ℕ → Result (List ℕ) FallbackError → Result code.LanguageRules LanguageError → Type 0
 IsFoundUnder document part locale (Ok key) answer = IsFoundAt document part key answer
 IsFoundUnder document part locale (Err reason) answer = answer ≡ Err (NotFound part locale reason)
 
-abbrev pub IsFoundBy : KeptRules → Part → List ℕ → Result code.Language LanguageError → Type 0
+abbrev pub IsFoundBy : KeptRules → Part → List ℕ → Result code.LanguageRules LanguageError → Type 0
 IsFoundBy kept part locale = IsFoundUnder (view kept.document) part locale (key_by string_bytes kept.key)
 
 -- the key that is kept is `root`, which wasn't asked for
@@ -125,9 +125,9 @@ GivesRules part locale input (Err error) =
     GivesDocument input (Err error) ⊎ ((whole : Data) × IsDocumentIn input whole × IsToldUnknown part locale whole error)
 
 -- what is printed by the rules that are found, or why there are none
-abbrev pub AnswersFirst : (code.Language → PrintedText → Type 0) → (Result code.Language LanguageError → Type 0)
+abbrev pub AnswersFirst : (code.LanguageRules → PrintedText → Type 0) → (Result code.LanguageRules LanguageError → Type 0)
     → Result PrintedText LanguageError → Type 0
-AnswersFirst Prints IsFound (Ok printed) = (language : code.Language) × IsFound (Ok language) × Prints language printed
+AnswersFirst Prints IsFound (Ok printed) = (language : code.LanguageRules) × IsFound (Ok language) × Prints language printed
 AnswersFirst Prints IsFound (Err error) = IsFound (Err error)
 
 -- ---- What is written
@@ -147,10 +147,10 @@ WritesAnswer (Err error) old new result = (result ≡ Err Memory) × Keeps old n
 -- ---- The lines of another input
 
 -- the answers by the rules that are found, or that there are none
-abbrev pub AnswersLines : (Result code.Language LanguageError → Type 0) → Option (List ℕ) → Option (List ℕ) → Option (List ℕ) → Option (List ℕ)
+abbrev pub AnswersLines : (Result code.LanguageRules LanguageError → Type 0) → Option (List ℕ) → Option (List ℕ) → Option (List ℕ) → Option (List ℕ)
     → Result Verdict FormsError → Type 0
 AnswersLines IsFound before left old new result =
-    ((language : code.Language) × IsFound (Ok language) × IsStreamed language.rules before left old new result)
+    ((language : code.LanguageRules) × IsFound (Ok language) × IsStreamed language.rules before left old new result)
     ⊎ (((error : LanguageError) × IsFound (Err error) × (result ≡ Err (Language error))
     × IsUntouched before left old new)
     ⊎ ((result ≡ Err Memory) × IsUntouched before left old new))

@@ -19,6 +19,6 @@ pub record BeginsWithFraction (i : ℕ) (bytes : List ℕ) (o : Operands) (after
   pub spelled : bytes ≡ digits ++ 10 ∷ after
 
 -- ... and the category is the one that the rules choose for the operands
-abbrev pub HasFraction : FiveRules → ℕ → List ℕ → PluralCategory → List ℕ → Type 0
-HasFraction rules i bytes category after =
+abbrev pub HasFractionLine : FiveRules → ℕ → List ℕ → PluralCategory → List ℕ → Type 0
+HasFractionLine rules i bytes category after =
     (o : Operands) × BeginsWithFraction i bytes o after × (category ≡ first_category (packed_truth o) rules)

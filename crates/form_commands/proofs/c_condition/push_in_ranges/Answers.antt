@@ -16,7 +16,8 @@ returns-then-len-eq1 c =
     {Q = Joins (codes " && ") (map atom_text (in_ranges meaning.modulus meaning.ranges)) c.args.atoms.now c.push_inside.new.atoms}
     c.push_inside.result
     (λ joins. subst (λ (p : List (List ℕ)). Joins (codes " && ") p c.args.atoms.now c.push_inside.new.atoms)
-    (sym (ap (λ (ranges : List (ℕ × ℕ)). map atom_text (in_ranges meaning.modulus ranges)) all ∙ compared_texts (inside meaning.modulus range)))
+    (sym (ap (λ (ranges : List (ℕ × ℕ)). map atom_text (in_ranges meaning.modulus ranges)) all
+    ∙ compared_texts (inside meaning.modulus range)))
     joins) (c.push_inside.ensures meaning.modulus c.requires)
 
 pub returns : goal.returns
@@ -24,7 +25,8 @@ returns c =
     let meaning = (lent_relation c.args.relation.now).meaning in
     let many : in_ranges meaning.modulus meaning.ranges ≡ bracketed (map (inside meaning.modulus) meaning.ranges) ∷ [] =
     several meaning.modulus meaning.ranges (λ one. c.if-len-eq1.false (c.len.ensures ∙ one)) in
-    let inner = or_text (map (λ (all : List Comparison). and_text (map comparison_text all)) (map (inside meaning.modulus) meaning.ranges)) in
+    let inner =
+    or_text (map (λ (all : List Comparison). and_text (map comparison_text all)) (map (inside meaning.modulus) meaning.ranges)) in
     let text : c.as_str.result.now ≡ codes "(" ++ (inner ++ codes ")") =
     c.as_str.ensures.value ∙ c.in_ok-listed.ensures.ok ∙ ap (λ (t : List ℕ). codes "(" ++ (t ++ codes ")")) c.in_ok-ranges.ensures in
     at_ok {P = Joins (codes " && ") (c.as_str.result.now ∷ []) c.args.atoms.now c.push.new.self}

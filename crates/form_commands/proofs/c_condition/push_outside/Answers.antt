@@ -30,5 +30,6 @@ loop-place-preserved c =
 pub returns : goal.returns
 returns c =
     let meaning = (lent_relation c.args.relation.now).meaning in
-    subst (λ (ranges : List (ℕ × ℕ)). Joins (codes " && ") (map atom_text (map (outside meaning.modulus) ranges)) c.args.atoms.now c.loop-place.atoms)
+    subst (λ (ranges : List (ℕ × ℕ)). Joins (codes " && ") (map atom_text (map (outside meaning.modulus) ranges)) c.args.atoms.now
+    c.loop-place.atoms)
     (take_all c.loop-place.place meaning.ranges (omega arith)) c.loop-place.invariant

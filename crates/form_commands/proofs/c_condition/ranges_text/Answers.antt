@@ -18,7 +18,8 @@ loop-place-preserved c =
     let range = c.range_at.result in
     let text = λ (all : List Comparison). and_text (map comparison_text all) in
     let before = map text (map (inside meaning.modulus) (take place meaning.ranges)) in
-    let all : map text (map (inside meaning.modulus) (take (place + 1) meaning.ranges)) ≡ before ++ text (inside meaning.modulus range) ∷ [] =
+    let all : map text (map (inside meaning.modulus) (take (place + 1) meaning.ranges))
+    ≡ before ++ text (inside meaning.modulus range) ∷ [] =
     ap (map text) (one_mapped (inside meaning.modulus) meaning.ranges place range c.range_at.ensures)
     ∙ map-append text (map (inside meaning.modulus) (take place meaning.ranges)) (inside meaning.modulus range ∷ []) in
     let here : c.as_str.result.now ≡ text (inside meaning.modulus range) =

@@ -9,4 +9,5 @@ use Rattle.form_commands.proofs.c_condition.ranges_text.Given as goal
 abbrev pub invariant-loop-place : goal.invariant-loop-place
 invariant-loop-place l =
     let meaning = (lent_relation l.relation).meaning in
-    AreJoined (codes " || ") (map (λ all. and_text (map comparison_text all)) (map (inside meaning.modulus) (take l.place meaning.ranges))) l.texts
+    AreJoined (codes " || ") (map (λ all. and_text (map comparison_text all)) (map (inside meaning.modulus) (take l.place meaning.ranges)))
+    l.texts

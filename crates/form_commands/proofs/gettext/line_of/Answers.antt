@@ -17,7 +17,8 @@ returns c =
     let same : c.from_data-rules.result ≡ rules = c.from_data-rules.ensures ∙ ap rules_of c.as_borrowed.ensures in
     let are : AreFormsOf rules (categories_of rules) forms =
     subst (λ (r : FiveRules). AreFormsOf r (categories_of r) forms) same c.in_ok-forms.ensures in
-    IfOk-weaker c.line_text.result (λ s. string_bytes s ≡ line_text c.len.result c.as_str.result.now) (λ s. IsGettextLine rules (string_bytes s))
+    IfOk-weaker c.line_text.result (λ s. string_bytes s ≡ line_text c.len.result c.as_str.result.now)
+    (λ s. IsGettextLine rules (string_bytes s))
     (λ s wrote. (
       forms,
       are,

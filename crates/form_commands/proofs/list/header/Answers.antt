@@ -15,10 +15,14 @@ returns c =
     let key = c.args.language.now.key.now in
     let end = codes ", whole numbers below 10000\n" in
     IfOk-weaker c.format.result
-    (λ s. string_bytes s ≡ locale ++ (codes ": " ++ (c.as_str.result.now ++ (codes " rules of " ++ (key ++ (c.alone_text-alone.result.now ++ end))))))
+    (λ s. string_bytes s
+    ≡ locale ++ (codes ": " ++ (c.as_str.result.now ++ (codes " rules of " ++ (key ++ (c.alone_text-alone.result.now ++ end))))))
     (λ s. string_bytes s ≡ header_line c.args.part locale c.args.language.now)
     (λ s wrote. wrote
-    ∙ ap (λ (part : List ℕ). locale ++ (codes ": " ++ (part ++ (codes " rules of " ++ (key ++ (c.alone_text-alone.result.now ++ end)))))) c.as_str.ensures
-    ∙ ap (λ (alone : List ℕ). locale ++ (codes ": " ++ (part_name c.args.part ++ (codes " rules of " ++ (key ++ (alone ++ end)))))) c.alone_text-alone.ensures
-    ∙ sym (seven locale (codes ": ") (part_name c.args.part) (codes " rules of ") key (alone_text (is_alone c.args.language.now.rules)) end))
+    ∙ ap (λ (part : List ℕ). locale ++ (codes ": " ++ (part ++ (codes " rules of " ++ (key ++ (c.alone_text-alone.result.now ++ end))))))
+    c.as_str.ensures
+    ∙ ap (λ (alone : List ℕ). locale ++ (codes ": " ++ (part_name c.args.part ++ (codes " rules of " ++ (key ++ (alone ++ end))))))
+    c.alone_text-alone.ensures
+    ∙ sym (seven locale (codes ": ") (part_name c.args.part) (codes " rules of ") key (alone_text (is_alone c.args.language.now.rules))
+    end))
     c.format.ensures.ok

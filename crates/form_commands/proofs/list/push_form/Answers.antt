@@ -18,6 +18,7 @@ returns c =
       c.in_ok-push_str-3.ensures.bytes
           ∙ ap (λ (bytes : List ℕ). string_bytes c.push_str-2.new.self ++ bytes) (c.as_str.ensures.value ∙ c.in_ok-wholes.ensures),
     )
-    (subst (λ (rule : Option (List ℕ)). Grows (IsSamplesOf rule) (string_bytes c.push_str-3.new.self) (string_bytes c.push_samples_of.new.text))
+    (subst (λ (rule : Option (List ℕ)). Grows (IsSamplesOf rule) (string_bytes c.push_str-3.new.self)
+    (string_bytes c.push_samples_of.new.text))
     c.text_under.ensures c.in_ok-push_samples_of.ensures)
     c.in_ok-push_str-4.ensures.bytes

@@ -17,13 +17,19 @@ returns-in-Ok c =
     let new = string_bytes c.push_samples.new.text in
     let text = prefixed (codes ";") samples_text c.in-Ok.rule.samples in
     let same : option_copied c.as_ref.result ≡ c.in-Ok.rule.samples = search rules in
-    on_ok {P = new ≡ old ++ prefixed (codes ";") samples_text (option_copied c.as_ref.result)} {Q = Grows (IsSamplesText c.args.rule.now) old new}
+    on_ok {P = new ≡ old ++ prefixed (codes ";") samples_text (option_copied c.as_ref.result)}
+    {Q = Grows (IsSamplesText c.args.rule.now) old new}
     c.push_samples.result
     (λ grown. (
       text,
       inl (
         c.in-Ok.rule,
-        (tokens.0, subst (λ (t : List ℕ). AreTokensOf t tokens.0) c.as_bytes.ensures.value tokens.1, c.in-Ok.ensures.only tokens.0 tokens.1),
+        (
+          tokens.0,
+          subst (λ (t : List ℕ). AreTokensOf t tokens.0) c.as_bytes.ensures.value tokens.1,
+          c.in-Ok.ensures.only tokens.0
+              tokens.1,
+        ),
         refl,
       ),
       grown ∙ ap (λ (s : Option Samples). old ++ prefixed (codes ";") samples_text s) same,

@@ -29,6 +29,7 @@ returns-in_ok-place-in-Some c =
 pub returns-in-None : goal.returns-in-None
 returns-in-None c = (
   [],
-  subst (λ (ms : Option Members). AreNotesOf (view c.args.document.now) (c.args.file.now.name.now ++ codes ": ") ms []) c.in-None.ensures refl,
+  subst (λ (ms : Option Members). AreNotesOf (view c.args.document.now) (c.args.file.now.name.now ++ codes ": ") ms []) c.in-None.ensures
+      refl,
   sym (append-nil (string_bytes c.args.notes.now)),
 )

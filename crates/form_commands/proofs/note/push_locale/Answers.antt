@@ -19,6 +19,7 @@ returns c =
     on_ok {P = Grows (IsNoteIf c.is_asked-ordinal.result (IsNote document place Ordinal locale)) mid new}
     {Q = Grows (AreLocaleNotes document place locale value) old new} c.push_if-2.result
     (λ second. two_notes document place locale value old mid new
-    (subst (λ (b : Bool). Grows (IsNoteIf b (IsNote document place Cardinal locale)) old mid) c.is_asked-cardinal.ensures c.in_ok-push_if.ensures)
+    (subst (λ (b : Bool). Grows (IsNoteIf b (IsNote document place Cardinal locale)) old mid) c.is_asked-cardinal.ensures
+    c.in_ok-push_if.ensures)
     (subst (λ (b : Bool). Grows (IsNoteIf b (IsNote document place Ordinal locale)) mid new) c.is_asked-ordinal.ensures second))
     c.push_if-2.ensures

@@ -21,7 +21,8 @@ loop-locale-preserved c =
     let next = string_bytes c.push_locale.new.notes in
     members_go_on document place all first (string_bytes c.in-Some.locale.now) value (members_view c.next.new.self) now next
     (subst (λ es. MembersLeft document place (members_view es) all now first) c.in-Some.ensures.steps c.loop-locale.invariant)
-    (subst (λ (locale : List ℕ). Grows (AreLocaleNotes document place locale value) now next) c.as_str.ensures.value c.in_ok-push_locale.ensures)
+    (subst (λ (locale : List ℕ). Grows (AreLocaleNotes document place locale value) now next) c.as_str.ensures.value
+    c.in_ok-push_locale.ensures)
 
 pub returns : goal.returns
 returns c =

@@ -26,7 +26,8 @@ returns-in-Err-clause-answers g c =
       d.1,
       none_noted (λ document note. IsNote document [] c.args.part c.args.locale.now note)
           (IsAnsweredLines c.args.part c.args.locale.now d.0 (g.N.Read.remaining c.args.numbers.now) (g.N.Read.remaining c.args.numbers.now)
-          (g.W.Write.contents c.args.writer.now) (g.W.Write.contents c.args.writer.now)) d.0 (g.E.Write.contents c.args.notes.now) c.in-Err.error
+          (g.W.Write.contents c.args.writer.now) (g.W.Write.contents c.args.writer.now)) d.0 (g.E.Write.contents c.args.notes.now)
+          c.in-Err.error
           (unknown_lines c.args.part c.args.locale.now d.0 (g.N.Read.remaining c.args.numbers.now) (g.W.Write.contents c.args.writer.now)
           c.in-Err.error d.2),
     )
@@ -42,7 +43,8 @@ returns-in-Ok-clause-reads g c =
     let after = g.N.Read.remaining c.noted_lines.new.numbers in
     let old = g.W.Write.contents c.args.writer.now in
     let new = g.W.Write.contents c.noted_lines.new.writer in
-    let both = lines_noted_by c.args.part c.args.locale.now (λ document note. IsNote document [] c.args.part c.args.locale.now note) d.0 rules.0
+    let both =
+    lines_noted_by c.args.part c.args.locale.now (λ document note. IsNote document [] c.args.part c.args.locale.now note) d.0 rules.0
     before after old new (g.E.Write.contents c.args.notes.now) (g.E.Write.contents c.noted_lines.new.notes) c.noted_lines.result rules.1
     rules.3 served in
     lines_read c.args.part c.args.locale.now (g.R.Read.remaining c.args.rules.now) (g.R.Read.remaining c.rules_of.new.reader) before after

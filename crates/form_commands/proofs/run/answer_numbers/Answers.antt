@@ -11,7 +11,8 @@ pub returns-in-Ok-clause-answers : goal.returns-in-Ok-clause-answers
 returns-in-Ok-clause-answers g c =
     let d = c.in-Ok.ensures.document in
     let rules = d.2 in
-    let served = text_served c.args.part c.args.locale.now c.in-Ok.kept rules.0 rules.2 rules.3 (IsNumbersAnswer (words_view c.args.numbers.now))
+    let served =
+    text_served c.args.part c.args.locale.now c.in-Ok.kept rules.0 rules.2 rules.3 (IsNumbersAnswer (words_view c.args.numbers.now))
     (g.W.Write.contents c.args.writer.now) (g.W.Write.contents c.numbers_by.new.writer) (g.E.Write.contents c.args.notes.now)
     (g.E.Write.contents c.numbers_by.new.notes) c.numbers_by.result c.numbers_by.ensures.answers in
     let both = printed_noted (Answers (IsNumbersAnswer (words_view c.args.numbers.now)) c.args.part c.args.locale.now)
@@ -27,7 +28,8 @@ returns-in-Err-clause-answers g c =
       d.1,
       none_noted (λ document note. IsNote document [] c.args.part c.args.locale.now note)
           (IsAnsweredText (Answers (IsNumbersAnswer (words_view c.args.numbers.now)) c.args.part c.args.locale.now) d.0
-          (g.W.Write.contents c.args.writer.now) (g.W.Write.contents c.args.writer.now)) d.0 (g.E.Write.contents c.args.notes.now) c.in-Err.error
+          (g.W.Write.contents c.args.writer.now) (g.W.Write.contents c.args.writer.now)) d.0 (g.E.Write.contents c.args.notes.now)
+          c.in-Err.error
           (unknown_answer (IsNumbersAnswer (words_view c.args.numbers.now)) c.args.part c.args.locale.now d.0
           (g.W.Write.contents c.args.writer.now) c.in-Err.error d.2),
     )
@@ -37,7 +39,8 @@ returns-in-Ok-clause-reads g c =
     let IsAnswer = Answers (IsNumbersAnswer (words_view c.args.numbers.now)) c.args.part c.args.locale.now in
     let d = c.in-Ok.ensures.document in
     let rules = d.2 in
-    let served = text_served c.args.part c.args.locale.now c.in-Ok.kept rules.0 rules.2 rules.3 (IsNumbersAnswer (words_view c.args.numbers.now))
+    let served =
+    text_served c.args.part c.args.locale.now c.in-Ok.kept rules.0 rules.2 rules.3 (IsNumbersAnswer (words_view c.args.numbers.now))
     (g.W.Write.contents c.args.writer.now) (g.W.Write.contents c.numbers_by.new.writer) (g.E.Write.contents c.args.notes.now)
     (g.E.Write.contents c.numbers_by.new.notes) c.numbers_by.result c.numbers_by.ensures.answers in
     let old = g.W.Write.contents c.args.writer.now in

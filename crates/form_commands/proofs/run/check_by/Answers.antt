@@ -8,5 +8,6 @@ returns-in-Ok-clause-answers g c = inl (c.in-Ok.provider, c.in-Ok.ensures.answer
 
 pub returns-in-Err-clause-answers : goal.returns-in-Err-clause-answers
 returns-in-Err-clause-answers g c =
-    no_rules (g.P.ReportPrinter.text_of c.args.printer.now) (view c.args.document.now) c.args.files.now (g.W.Write.contents c.args.writer.now) c.in-Err.error c.refused.result
+    no_rules (g.P.ReportPrinter.text_of c.args.printer.now) (view c.args.document.now) c.args.files.now
+    (g.W.Write.contents c.args.writer.now) c.in-Err.error c.refused.result
     c.in-Err.ensures.answers c.refused.ensures

@@ -25,5 +25,6 @@ returns-in-Ok-clause-reads g c =
 
 pub returns-in-Err-clause-reads : goal.returns-in-Err-clause-reads
 returns-in-Err-clause-reads g c =
-    read_on {B = Value} (g.R.Read.remaining c.args.reader.now) (g.R.Read.remaining c.read_input.new.reader) c.in-Err.error (Err c.from.result)
+    read_on {B = Value} (g.R.Read.remaining c.args.reader.now) (g.R.Read.remaining c.read_input.new.reader) c.in-Err.error
+    (Err c.from.result)
     (ap (λ (e : FormsError). Err e) c.from.ensures) c.in-Err.ensures.read

@@ -16,9 +16,15 @@ returns-in-Ok-clause-answers g c =
 
 pub returns-in-Err-clause-answers : goal.returns-in-Err-clause-answers
 returns-in-Err-clause-answers g c =
-    inr ((Err c.in-Err.field-0, tt, (refl, Keeps-refl (g.W.Write.contents c.args.writer.now))), refl, Keeps-refl (g.E.Write.contents c.args.notes.now))
+    inr (
+      (Err c.in-Err.field-0, tt, (refl, Keeps-refl (g.W.Write.contents c.args.writer.now))),
+      refl,
+      Keeps-refl
+          (g.E.Write.contents c.args.notes.now),
+    )
 
 pub returns-in-Ok-clause-writes_nothing : goal.returns-in-Ok-clause-writes_nothing
 returns-in-Ok-clause-writes_nothing g c =
     nothing_written _ _ c.as_str.result.now (g.E.Write.contents c.args.notes.now) (g.E.Write.contents c.write_notes.new.notes)
-    c.write_answer-answer.result c.write_notes.result c.write_answer-answer.ensures.writes_nothing c.write_notes.ensures.written c.write_notes.ensures.writes_nothing
+    c.write_answer-answer.result c.write_notes.result c.write_answer-answer.ensures.writes_nothing c.write_notes.ensures.written
+    c.write_notes.ensures.writes_nothing

@@ -12,7 +12,8 @@ returns-in-Ok-Ok-clause-answers g c =
       rw c.in-Ok-Ok.field-0-is at c.in-Ok-Ok.ensures,
       rw c.result_of.ensures
           (lines_streamed c.in-Ok-Ok.language.rules (g.N.Read.remaining c.args.numbers.now) (g.N.Read.remaining c.answer_input.new.numbers)
-          (g.W.Write.contents c.args.writer.now) (g.W.Write.contents c.answer_input.new.writer) c.answer_input.result c.answer_input.ensures),
+          (g.W.Write.contents c.args.writer.now) (g.W.Write.contents c.answer_input.new.writer) c.answer_input.result
+          c.answer_input.ensures),
     )
 
 pub returns-in-Ok-Err-clause-answers : goal.returns-in-Ok-Err-clause-answers
@@ -35,4 +36,5 @@ returns-in-Ok-Ok-clause-touches_nothing g c =
     (g.W.Write.contents c.args.writer.now) (g.W.Write.contents c.answer_input.new.writer) c.answer_input.result c.answer_input.ensures in
     rw c.result_of.ensures
     (lines_left rules (g.N.Read.remaining c.args.numbers.now) (g.N.Read.remaining c.answer_input.new.numbers)
-    (g.W.Write.contents c.args.writer.now) (g.W.Write.contents c.answer_input.new.writer) _ (result_of_lines c.answer_input.result) streamed)
+    (g.W.Write.contents c.args.writer.now) (g.W.Write.contents c.answer_input.new.writer) _ (result_of_lines c.answer_input.result)
+    streamed)

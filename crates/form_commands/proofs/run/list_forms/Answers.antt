@@ -8,7 +8,8 @@ pub returns-in-Ok-clause-answers : goal.returns-in-Ok-clause-answers
 returns-in-Ok-clause-answers g c =
     let d = c.in-Ok.ensures.document in
     let rules = d.2 in
-    let printed = printed_served c.args.part c.args.locale.now c.in-Ok.kept rules.0 rules.2 rules.3 (IsListAnswer c.args.part c.args.locale.now)
+    let printed =
+    printed_served c.args.part c.args.locale.now c.in-Ok.kept rules.0 rules.2 rules.3 (IsListAnswer c.args.part c.args.locale.now)
     c.list_of.result c.list_of.ensures in (
       d.0,
       d.1,
@@ -22,7 +23,8 @@ returns-in-Err-clause-answers g c =
     let d = c.in-Err.ensures.document in (
       d.0,
       d.1,
-      unknown_answer (IsListAnswer c.args.part c.args.locale.now) c.args.part c.args.locale.now d.0 (g.W.Write.contents c.args.writer.now) c.in-Err.error d.2,
+      unknown_answer (IsListAnswer c.args.part c.args.locale.now) c.args.part c.args.locale.now d.0 (g.W.Write.contents c.args.writer.now)
+          c.in-Err.error d.2,
     )
 
 pub returns-in-Ok-clause-reads : goal.returns-in-Ok-clause-reads
@@ -30,7 +32,8 @@ returns-in-Ok-clause-reads g c =
     let IsAnswer = Answers (IsListAnswer c.args.part c.args.locale.now) c.args.part c.args.locale.now in
     let d = c.in-Ok.ensures.document in
     let rules = d.2 in
-    let printed = printed_served c.args.part c.args.locale.now c.in-Ok.kept rules.0 rules.2 rules.3 (IsListAnswer c.args.part c.args.locale.now)
+    let printed =
+    printed_served c.args.part c.args.locale.now c.in-Ok.kept rules.0 rules.2 rules.3 (IsListAnswer c.args.part c.args.locale.now)
     c.list_of.result c.list_of.ensures in
     let old = g.W.Write.contents c.args.writer.now in
     let new = g.W.Write.contents c.write_answer.new.writer in

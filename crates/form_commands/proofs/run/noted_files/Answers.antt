@@ -26,4 +26,5 @@ returns-in-Err-clause-answers g c =
 pub returns-in-Ok-clause-writes_nothing : goal.returns-in-Ok-clause-writes_nothing
 returns-in-Ok-clause-writes_nothing g c =
     nothing_written _ _ c.as_str.result.now (g.E.Write.contents c.args.notes.now) (g.E.Write.contents c.write_notes.new.notes)
-    c.check_by-answer.result c.write_notes.result c.check_by-answer.ensures.writes_nothing c.write_notes.ensures.written c.write_notes.ensures.writes_nothing
+    c.check_by-answer.result c.write_notes.result c.check_by-answer.ensures.writes_nothing c.write_notes.ensures.written
+    c.write_notes.ensures.writes_nothing

@@ -26,7 +26,8 @@ returns-in-Err-clause-answers g c =
       d.1,
       none_noted (λ document note. IsNote document [] c.args.part c.args.locale.now note)
           (IsAnsweredText (Answers IsGettextAnswer c.args.part c.args.locale.now) d.0
-          (g.W.Write.contents c.args.writer.now) (g.W.Write.contents c.args.writer.now)) d.0 (g.E.Write.contents c.args.notes.now) c.in-Err.error
+          (g.W.Write.contents c.args.writer.now) (g.W.Write.contents c.args.writer.now)) d.0 (g.E.Write.contents c.args.notes.now)
+          c.in-Err.error
           (unknown_answer IsGettextAnswer c.args.part c.args.locale.now d.0
           (g.W.Write.contents c.args.writer.now) c.in-Err.error d.2),
     )

@@ -12,7 +12,8 @@ returns-then-is_like c =
     let language = c.args.language.now in
     let like = ap (is_like c.args.likeness language) (sym c.as_bytes.ensures.value) ∙ sym c.is_like.ensures ∙ c.if-is_like.true in
     IfOk-weaker c.with_key.result (λ (similar : SimilarKeys). similar ≡ first_three (names_of c.args.before ++ key ∷ []))
-    (λ (similar : SimilarKeys). (more : List (List ℕ)) → told_in c.args.likeness language c.args.before (key ∷ more) ≡ told_in c.args.likeness language similar more)
+    (λ (similar : SimilarKeys). (more : List (List ℕ))
+    → told_in c.args.likeness language c.args.before (key ∷ more) ≡ told_in c.args.likeness language similar more)
     (λ similar added more. like_told c.args.likeness language c.args.before similar key more like added) c.with_key.ensures
 
 pub returns-else-is_like : goal.returns-else-is_like

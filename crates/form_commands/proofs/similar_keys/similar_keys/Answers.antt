@@ -14,4 +14,5 @@ returns c =
     let near = filter (is_one_edit c.args.language.now) keys in
     let alike = filter (is_only_alike c.args.language.now) keys in
     subst (λ (all : SimilarKeys). IfOk c.add_like-2.result (λ (similar : SimilarKeys). similar ≡ all))
-    (ap (λ (similar : SimilarKeys). first_three (names_of similar ++ alike)) c.in_ok-near.ensures ∙ three_of near alike) c.add_like-2.ensures
+    (ap (λ (similar : SimilarKeys). first_three (names_of similar ++ alike)) c.in_ok-near.ensures ∙ three_of near alike)
+    c.add_like-2.ensures

@@ -8,7 +8,8 @@ use Rattle.form_commands.proofs.unknown_language.similar_in.Goals as goal
 
 pub returns-in-Some : goal.returns-in-Some
 returns-in-Some c =
-    subst (λ (keys : List (List ℕ)). IfOk c.similar_keys.result (λ (similar : SimilarKeys). similar ≡ similar_keys c.args.language.now keys))
+    subst (λ (keys : List (List ℕ)). IfOk c.similar_keys.result
+    (λ (similar : SimilarKeys). similar ≡ similar_keys c.args.language.now keys))
     (ap keys_in_object c.in-Some.ensures) c.similar_keys.ensures
 
 pub returns-in-None : goal.returns-in-None

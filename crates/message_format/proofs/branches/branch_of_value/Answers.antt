@@ -8,5 +8,7 @@ use Rattle.message_format.proofs.branches.branch_of_value.Goals as goal
 pub returns-clause-branch : goal.returns-clause-branch
 returns-clause-branch g c =
     subst
-    (λ (x : CompactNumber). IfOk c.first_chosen.result (λ seen. IsFirst (λ s. Equals x s) (branches_at (g.P.MessageParts.parts c.args.argument)) (option_map g.P.MessageParts.parts seen.branch)))
+    (λ (x : CompactNumber). IfOk c.first_chosen.result
+    (λ seen. IsFirst (λ s. Equals x s) (branches_at (g.P.MessageParts.parts c.args.argument))
+    (option_map g.P.MessageParts.parts seen.branch)))
     c.of.ensures.number c.first_chosen.ensures.first

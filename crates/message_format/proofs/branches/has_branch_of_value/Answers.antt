@@ -20,6 +20,8 @@ pub returns-in-None : goal.returns-in-None
 returns-in-None c =
     let x = c.args.number.now in
     let bs = branches_of c.args.depth (parts_view c.args.parts.now) in
-    let first = subst (λ (y : CompactNumber). IsFirst (λ s. Equals y s) bs None) c.of.ensures.number (rw c.in-None.is at c.in_ok-first_chosen.ensures.first) in
+    let first =
+    subst (λ (y : CompactNumber). IsFirst (λ s. Equals y s) bs None) c.of.ensures.number
+    (rw c.in-None.is at c.in_ok-first_chosen.ensures.first) in
     let none : IsBranchOfValue x bs None = of_value x bs None first in
     (λ t. let e : false ≡ true = t in cc, λ k. absurd (none_of_value x bs none k))

@@ -16,7 +16,8 @@ returns c =
     if_ok c.text_of_number.result _ _
     (λ text e. (
       number_of c.is_negative-negative.result c.max-fraction.result c.without_zeros-shortest.result.now,
-      is_difference_at x o c.in_ok-below.below c.is_negative-negative.result c.in_ok-below.digits.items c.without_zeros-shortest.result.now c.max-fraction.result f c.in_ok-below.ensures
+      is_difference_at x o c.in_ok-below.below c.is_negative-negative.result c.in_ok-below.digits.items c.without_zeros-shortest.result.now
+          c.max-fraction.result f c.in_ok-below.ensures
           (w.value ∙ ap value_of c.deref.ensures.value) w.digits w.least w.shortest c.is_negative-negative.ensures,
       e,
     ))

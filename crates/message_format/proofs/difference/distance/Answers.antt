@@ -29,15 +29,18 @@ columns c =
 pub returns-then-eq : goal.returns-then-eq
 returns-then-eq c =
     let negative : c.args.number.now.sign ≡ sign.Negative = search rules in
-    sum_distance c.args.number.now c.args.offset.now _ _ _ _ _ (columns (goal.at.returns-then-eq c).After-max) c.in_ok-digits_more.field-0.items negative c.in_ok-digits_more.ensures
+    sum_distance c.args.number.now c.args.offset.now _ _ _ _ _ (columns (goal.at.returns-then-eq c).After-max)
+    c.in_ok-digits_more.field-0.items negative c.in_ok-digits_more.ensures
 
 pub returns-then-borrow-eq0 : goal.returns-then-borrow-eq0
 returns-then-borrow-eq0 c =
     let positive : c.args.number.now.sign ≡ sign.Negative → ⊥ = search rules in
-    rest_distance c.args.number.now c.args.offset.now _ _ _ _ _ (columns (goal.at.returns-then-borrow-eq0 c).After-max) c.in_ok-digits.digits.items c.in_ok-digits.borrow positive c.if-borrow-eq0.true c.in_ok-digits.ensures
+    rest_distance c.args.number.now c.args.offset.now _ _ _ _ _ (columns (goal.at.returns-then-borrow-eq0 c).After-max)
+    c.in_ok-digits.digits.items c.in_ok-digits.borrow positive c.if-borrow-eq0.true c.in_ok-digits.ensures
 
 pub returns : goal.returns
 returns c =
     let positive : c.args.number.now.sign ≡ sign.Negative → ⊥ = search rules in
-    turned_distance c.args.number.now c.args.offset.now _ _ _ _ _ (columns (goal.at.returns c).After-max) c.in_ok-digits.digits.items c.in_ok-digits-2.digits.items c.in_ok-digits.borrow c.in_ok-digits-2.field-0-1 positive
+    turned_distance c.args.number.now c.args.offset.now _ _ _ _ _ (columns (goal.at.returns c).After-max) c.in_ok-digits.digits.items
+    c.in_ok-digits-2.digits.items c.in_ok-digits.borrow c.in_ok-digits-2.field-0-1 positive
     c.if-borrow-eq0.false c.in_ok-digits.ensures c.in_ok-digits-2.ensures

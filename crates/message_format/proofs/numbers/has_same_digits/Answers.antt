@@ -5,7 +5,8 @@ use Rattle.message_format.proofs.numbers.has_same_digits.Goals as goal
 
 pub loop-power-init : goal.loop-power-init
 loop-power-init c = record {
-  same = λ k h. none_below _ _ _ _ _ _ k c.requires.outside c.powers_of-other_low.ensures.outside (omega (arith, ints, clamps)) (omega (arith, ints, clamps));
+  same = λ k h. none_below _ _ _ _ _ _ k c.requires.outside c.powers_of-other_low.ensures.outside (omega (arith, ints, clamps))
+      (omega (arith, ints, clamps));
   low = omega (arith, ints, clamps);
 }
 
@@ -27,7 +28,8 @@ digit_of-requires-in-loop-power-clause-high c = omega (arith, ints, clamps)
 -- a digit of the number is above those of the other
 pub returns-then-other_high-span : goal.returns-then-other_high-span
 returns-then-other_high-span c =
-    not_same c.args.number.now c.args.other.now _ _ _ c.powers_of-other_low.ensures.outside (omega (arith, ints)) (c.requires.top (omega (arith, ints)))
+    not_same c.args.number.now c.args.other.now _ _ _ c.powers_of-other_low.ensures.outside (omega (arith, ints))
+    (c.requires.top (omega (arith, ints)))
 
 pub loop-power-preserved : goal.loop-power-preserved
 loop-power-preserved c = record {

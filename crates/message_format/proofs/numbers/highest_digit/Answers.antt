@@ -12,7 +12,8 @@ loop-power-preserved c =
     elim c.if-digit_of-ne0.branch [
       | then-digit_of-ne0 w ↦
           let same : to_z w32 c.loop-power.power-bits ≡ to_z w32 c.if-digit_of-ne0.top-bits = sym w.top-is in
-          let here : 0 < digit_of n (to_z w32 c.loop-power.power-bits) = subst (λ (d : ℕ). 0 < d) c.digit_of.ensures (grind (arith, w.if-digit_of-ne0.true)) in
+          let here : 0 < digit_of n (to_z w32 c.loop-power.power-bits) =
+          subst (λ (d : ℕ). 0 < d) c.digit_of.ensures (grind (arith, w.if-digit_of-ne0.true)) in
           record {
             zeros = λ k l h. none_between n _ _ k (omega (arith, ints, same)) l h;
             digit = subst (λ (i : ℤ). 0 < digit_of n i) same here;

@@ -7,7 +7,8 @@ pub returns-in-Err-clause-syntax : goal.returns-in-Err-clause-syntax
 returns-in-Err-clause-syntax c = λ e x w. c.in-Err.ensures.cases.0 (number_is_utf8 c.args.text.now x w)
 
 pub returns-in-Ok-clause-syntax : goal.returns-in-Ok-clause-syntax
-returns-in-Ok-clause-syntax c = λ e x w. c.from_str.ensures.syntax.0 e x (subst (λ (t : List ℕ). WritesCompact t x) (sym c.in-Ok.ensures.cases.0) w)
+returns-in-Ok-clause-syntax c =
+    λ e x w. c.from_str.ensures.syntax.0 e x (subst (λ (t : List ℕ). WritesCompact t x) (sym c.in-Ok.ensures.cases.0) w)
 
 pub returns-in-Ok-clause-limit : goal.returns-in-Ok-clause-limit
 returns-in-Ok-clause-limit c = λ e.

@@ -10,6 +10,8 @@ returns-clause-outside c =
     let fraction = ap (λ (d : Decimal). length d.absolute.fraction) c.significand.ensures in
     let whole = ap (λ (d : Decimal). length d.absolute.whole) c.significand.ensures in
     record {
-      below = λ k h. below x.significand.absolute (k -ℤ pos x.exponent) (omega (arith, ints, fraction, c.magnitude_range-low.ensures.within.fraction));
-      above = λ k h. above x.significand.absolute (k -ℤ pos x.exponent) (omega (arith, ints, whole, c.magnitude_range-low.ensures.written.nonempty, c.magnitude_range-low.ensures.within.whole));
+      below = λ k h. below x.significand.absolute (k -ℤ pos x.exponent)
+          (omega (arith, ints, fraction, c.magnitude_range-low.ensures.within.fraction));
+      above = λ k h. above x.significand.absolute (k -ℤ pos x.exponent)
+          (omega (arith, ints, whole, c.magnitude_range-low.ensures.written.nonempty, c.magnitude_range-low.ensures.within.whole));
     }

@@ -10,8 +10,12 @@ decreases-say g l = length (g.S.MessageSteps.parts l.parts)
 abbrev pub invariant-parts : goal.invariant-parts
 invariant-parts g l = record {
   says : (before : List ℕ) → g.W.Sink.IsSaid l.initial.said before
-      → (now : List ℕ) × g.W.Sink.IsSaid l.said now × ((outcome : PatternOutcome) → Says (g.A.Arguments.arguments l.arguments) (both (g.R.TextRules.rules l.cardinal) (g.R.TextRules.rules l.ordinal)) l.hash now (g.S.MessageSteps.parts l.left) outcome
-      → Says (g.A.Arguments.arguments l.arguments) (both (g.R.TextRules.rules l.cardinal) (g.R.TextRules.rules l.ordinal)) l.hash before (g.S.MessageSteps.parts l.fn.parts) outcome);
+      → (now : List ℕ) × g.W.Sink.IsSaid l.said now
+      × ((outcome : PatternOutcome)
+      → Says (g.A.Arguments.arguments l.arguments) (both (g.R.TextRules.rules l.cardinal) (g.R.TextRules.rules l.ordinal)) l.hash
+      now (g.S.MessageSteps.parts l.left) outcome
+      → Says (g.A.Arguments.arguments l.arguments) (both (g.R.TextRules.rules l.cardinal) (g.R.TextRules.rules l.ordinal)) l.hash before
+      (g.S.MessageSteps.parts l.fn.parts) outcome);
   shorter : length (g.S.MessageSteps.parts l.left) ≤ length (g.S.MessageSteps.parts l.fn.parts);
 }
 

@@ -10,8 +10,12 @@ use Rattle.message_format.proofs.Walk.{PartIs, does, begins, at_end, at_stop, at
 use Rattle.message_format.proofs.saying.step_of.Goals as goal
 
 pub returns-in_default-clause-said : goal.returns-in_default-clause-said
-returns-in_default-clause-said g c before h =
-    (h, at_end (g.A.Arguments.arguments c.args.arguments.now) (both (g.R.TextRules.rules c.args.cardinal.now) (g.R.TextRules.rules c.args.ordinal.now)) c.args.hash.now before (g.P.MessageParts.parts c.args.parts) c.in_default.ensures)
+returns-in_default-clause-said g c before h = (
+  h,
+  at_end (g.A.Arguments.arguments c.args.arguments.now)
+      (both (g.R.TextRules.rules c.args.cardinal.now) (g.R.TextRules.rules c.args.ordinal.now)) c.args.hash.now before
+      (g.P.MessageParts.parts c.args.parts) c.in_default.ensures,
+)
 
 pub returns-in_err-text-in-Argument-clause-said : goal.returns-in_err-text-in-Argument-clause-said
 returns-in_err-text-in-Argument-clause-said g c before h =
@@ -25,7 +29,8 @@ returns-in_err-text-in-Argument-clause-said g c before h =
     rw (p.1, p.2)
     (at_fault A R c.args.hash.now before (g.P.MessageParts.parts c.args.parts) part rest f c.in-Some.ensures
     (fault_gives f (λ (s : Step). s ≡ shown_value name (any_value c.value.result)) (PartIs A R c.args.hash.now part rest)
-    (λ s k. does A R c.args.hash.now part rest _ s c.in-Argument.is (k ∙ ap (λ (v : Option Value). shown_value name v) c.value.ensures)) c.in_err-text-in-Argument.ensures))
+    (λ s k. does A R c.args.hash.now part rest _ s c.in-Argument.is (k ∙ ap (λ (v : Option Value). shown_value name v) c.value.ensures))
+    c.in_err-text-in-Argument.ensures))
 
 pub returns-in_err-shown-in-Begin-clause-said : goal.returns-in_err-shown-in-Begin-clause-said
 returns-in_err-shown-in-Begin-clause-said g c before h =
@@ -51,7 +56,8 @@ returns-in_ok-add-in-Text-clause-said g c before h =
     let R = both (g.R.TextRules.rules c.args.cardinal.now) (g.R.TextRules.rules c.args.ordinal.now) in (
       before ++ c.in-Text.text.now,
       c.in_ok-add-in-Text.ensures before h,
-      at_text A R c.args.hash.now before c.in-Text.text.now (before ++ c.in-Text.text.now) (g.P.MessageParts.parts c.args.parts) c.in-Some.found.0 _ c.in-Some.ensures
+      at_text A R c.args.hash.now before c.in-Text.text.now (before ++ c.in-Text.text.now) (g.P.MessageParts.parts c.args.parts)
+          c.in-Some.found.0 _ c.in-Some.ensures
           (does A R c.args.hash.now c.in-Some.found.0 _ _ _ c.in-Text.is refl) refl,
     )
 
@@ -61,7 +67,8 @@ returns-in_ok-add-in-Hash-clause-said g c before h =
     let R = both (g.R.TextRules.rules c.args.cardinal.now) (g.R.TextRules.rules c.args.ordinal.now) in (
       before ++ c.args.hash.now,
       c.in_ok-add-in-Hash.ensures before h,
-      at_text A R c.args.hash.now before c.args.hash.now (before ++ c.args.hash.now) (g.P.MessageParts.parts c.args.parts) c.in-Some.found.0 _ c.in-Some.ensures
+      at_text A R c.args.hash.now before c.args.hash.now (before ++ c.args.hash.now) (g.P.MessageParts.parts c.args.parts) c.in-Some.found.0
+          _ c.in-Some.ensures
           (does A R c.args.hash.now c.in-Some.found.0 _ _ _ c.in-Hash.is refl) refl,
     )
 
@@ -89,8 +96,10 @@ returns-in_ok-shown-in-Begin-clause-said g c before h =
     let branch = g.P.MessageParts.parts chosen.taken.branch in (
       before,
       h,
-      at_branch A R c.args.hash.now (shown_view chosen.shown) before ps part rest branch (g.P.MessageParts.parts c.behind-rest.result) c.in-Some.ensures
-          (begins A R c.args.hash.now ps part rest b.kind b.name b.offset _ (Chooses (shown_view chosen.shown) branch) c.in-Some.ensures b.is c.value-value.ensures chosen.ensures.step)
+      at_branch A R c.args.hash.now (shown_view chosen.shown) before ps part rest branch (g.P.MessageParts.parts c.behind-rest.result)
+          c.in-Some.ensures
+          (begins A R c.args.hash.now ps part rest b.kind b.name b.offset _ (Chooses (shown_view chosen.shown) branch) c.in-Some.ensures
+          b.is c.value-value.ensures chosen.ensures.step)
           c.behind-rest.ensures.end,
     )
 
@@ -109,25 +118,31 @@ returns-in-Branch-clause-said g c before h =
     )
 
 pub returns-in_ok-add-in-Text-clause-fewer : goal.returns-in_ok-add-in-Text-clause-fewer
-returns-in_ok-add-in-Text-clause-fewer g c = (rest_fewer (g.P.MessageParts.parts c.args.parts) c.in-Some.found.0 (g.P.MessageParts.parts c.in-Some.found.1) c.in-Some.ensures, tt)
+returns-in_ok-add-in-Text-clause-fewer g c =
+    (rest_fewer (g.P.MessageParts.parts c.args.parts) c.in-Some.found.0 (g.P.MessageParts.parts c.in-Some.found.1) c.in-Some.ensures, tt)
 
 pub returns-in_ok-add-in-Hash-clause-fewer : goal.returns-in_ok-add-in-Hash-clause-fewer
-returns-in_ok-add-in-Hash-clause-fewer g c = (rest_fewer (g.P.MessageParts.parts c.args.parts) c.in-Some.found.0 (g.P.MessageParts.parts c.in-Some.found.1) c.in-Some.ensures, tt)
+returns-in_ok-add-in-Hash-clause-fewer g c =
+    (rest_fewer (g.P.MessageParts.parts c.args.parts) c.in-Some.found.0 (g.P.MessageParts.parts c.in-Some.found.1) c.in-Some.ensures, tt)
 
 pub returns-in_ok-add-in-Argument-clause-fewer : goal.returns-in_ok-add-in-Argument-clause-fewer
-returns-in_ok-add-in-Argument-clause-fewer g c = (rest_fewer (g.P.MessageParts.parts c.args.parts) c.in-Some.found.0 (g.P.MessageParts.parts c.in-Some.found.1) c.in-Some.ensures, tt)
+returns-in_ok-add-in-Argument-clause-fewer g c =
+    (rest_fewer (g.P.MessageParts.parts c.args.parts) c.in-Some.found.0 (g.P.MessageParts.parts c.in-Some.found.1) c.in-Some.ensures, tt)
 
 pub returns-in_ok-shown-in-Begin-clause-fewer : goal.returns-in_ok-shown-in-Begin-clause-fewer
 returns-in_ok-shown-in-Begin-clause-fewer g c =
     let taken = c.in_ok-shown-in-Begin.taken in
-    branch_fewer (g.P.MessageParts.parts c.args.parts) c.in-Some.found.0 (g.P.MessageParts.parts c.in-Some.found.1) (g.P.MessageParts.parts taken.branch)
-    (g.P.MessageParts.parts c.behind-rest.result) c.in-Some.ensures c.in_ok-shown-in-Begin.ensures.within.shorter c.behind-rest.ensures.fewer
+    branch_fewer (g.P.MessageParts.parts c.args.parts) c.in-Some.found.0 (g.P.MessageParts.parts c.in-Some.found.1)
+    (g.P.MessageParts.parts taken.branch)
+    (g.P.MessageParts.parts c.behind-rest.result) c.in-Some.ensures c.in_ok-shown-in-Begin.ensures.within.shorter
+    c.behind-rest.ensures.fewer
 
 pub behind-rest-requires : goal.behind-rest-requires
 behind-rest-requires g c = λ k. (
   (refl, tt),
   (
-    begun (g.P.MessageParts.parts c.args.parts) c.in-Some.found.0 (g.P.MessageParts.parts c.in-Some.found.1) c.in-Begin.kind c.in-Begin.name c.in-Begin.offset c.in-Some.ensures c.in-Begin.is,
+    begun (g.P.MessageParts.parts c.args.parts) c.in-Some.found.0 (g.P.MessageParts.parts c.in-Some.found.1) c.in-Begin.kind c.in-Begin.name
+        c.in-Begin.offset c.in-Some.ensures c.in-Begin.is,
     c.in_ok-shown-in-Begin.ensures.within.left,
   ),
 )

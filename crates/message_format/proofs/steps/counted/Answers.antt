@@ -11,7 +11,8 @@ rewritten : (bytes text : List ℕ) (x : CompactNumber) → bytes ≡ text → W
 rewritten bytes text x same w = subst (λ (t : List ℕ). WritesCompact t x) same w
 
 -- what holds of the number holds of each that the text writes
-of_each : OneCompact → (P : CompactNumber → Type 0) (text : List ℕ) (x y : CompactNumber) → WritesCompact text x → P x → WritesCompact text y → P y
+of_each : OneCompact → (P : CompactNumber → Type 0) (text : List ℕ) (x y : CompactNumber) → WritesCompact text x → P x
+    → WritesCompact text y → P y
 of_each one P text x y w h v = subst P (one text x y w v) h
 
 pub first_chosen-requires : goal.first_chosen-requires
@@ -24,8 +25,11 @@ counted_by_category-requires g c = λ k. (
     (λ x w.
         let bs = branches_at (g.P.MessageParts.parts c.args.argument) in
         let none = rw c.in-None.is at c.in-Ok.ensures.first in
-        let written = rewritten c.as_bytes-written.result.now c.args.text.now c.in-Some.plain.0 c.as_bytes-written.ensures.value c.in-Some.ensures.0 in
-        of_each c.texts_write_one_number.ensures.compact (λ (y : CompactNumber). IsFirst (λ s. Equals y s) bs None) c.args.text.now c.in-Some.plain.0 x written none w),
+        let written =
+        rewritten c.as_bytes-written.result.now c.args.text.now c.in-Some.plain.0 c.as_bytes-written.ensures.value
+        c.in-Some.ensures.0 in
+        of_each c.texts_write_one_number.ensures.compact (λ (y : CompactNumber). IsFirst (λ s. Equals y s) bs None) c.args.text.now
+        c.in-Some.plain.0 x written none w),
     c.in-Ok.ensures.left,
   ),
 )
@@ -35,6 +39,9 @@ returns-in-Some-branch-clause-step g c =
     let bs = branches_at (g.P.MessageParts.parts c.args.argument) in
     let parts = g.P.MessageParts.parts c.in-Some-branch.branch in
     let first = rw c.in-Some-branch.is at c.in-Ok.ensures.first in
-    let written = rewritten c.as_bytes-written.result.now c.args.text.now c.in-Some.plain.0 c.as_bytes-written.ensures.value c.in-Some.ensures.0 in
-    counted_by (g.R.TextRules.rules c.args.rules.now) c.args.name.now bs c.args.text.now c.as_bytes-written.result.now c.in-Some.plain.0 parts
-    written c.in-Some.ensures.1 c.in-Some.ensures.2 (inl (of_value c.in-Some.plain.0 bs (Some parts) first)) c.as_bytes-written.ensures.value
+    let written =
+    rewritten c.as_bytes-written.result.now c.args.text.now c.in-Some.plain.0 c.as_bytes-written.ensures.value c.in-Some.ensures.0 in
+    counted_by (g.R.TextRules.rules c.args.rules.now) c.args.name.now bs c.args.text.now c.as_bytes-written.result.now c.in-Some.plain.0
+    parts
+    written c.in-Some.ensures.1 c.in-Some.ensures.2 (inl (of_value c.in-Some.plain.0 bs (Some parts) first))
+    c.as_bytes-written.ensures.value

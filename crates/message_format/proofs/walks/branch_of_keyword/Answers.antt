@@ -5,4 +5,5 @@ use Rattle.message_format.proofs.walks.branch_of_keyword.Goals as goal
 
 pub returns-clause-branch : goal.returns-clause-branch
 returns-clause-branch c =
-    of_keyword c.args.word.now (branches_of c.args.depth (parts_view c.args.parts.now)) (any_parts c.in-Ok.seen.branch) c.in-Ok.ensures.first
+    of_keyword c.args.word.now (branches_of c.args.depth (parts_view c.args.parts.now)) (any_parts c.in-Ok.seen.branch)
+    c.in-Ok.ensures.first

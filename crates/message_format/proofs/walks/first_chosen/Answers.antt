@@ -10,7 +10,8 @@ pub returns-then-chosen-clause-first : goal.returns-then-chosen-clause-first
 returns-then-chosen-clause-first g c =
     let ps = c.loop-left.left.now in
     c.loop-left.invariant.passed _
-    (taken (g.C.Chooser.IsChosen c.args.chooser.now) c.args.depth ps (get_or ps 0 no_part) (take (length ps - 1) (drop 1 ps)) c.in-Branch.selector
+    (taken (g.C.Chooser.IsChosen c.args.chooser.now) c.args.depth ps (get_or ps 0 no_part) (take (length ps - 1) (drop 1 ps))
+    c.in-Branch.selector
     (headed ps no_part (length ps) c.in-len1-up.len_at_least refl) c.if-part-depth.true c.in-Branch.is (c.in-Ok.ensures.0 c.if-chosen.true))
 
 pub loop-left-preserved-else-chosen : goal.loop-left-preserved-else-chosen
@@ -28,6 +29,12 @@ loop-left-preserved-else-chosen g c =
           c.loop-left.invariant.passed found
           (passed P c.args.depth ps (get_or ps 0 no_part) (take (length ps - 1) (drop 1 ps)) c.in-Branch.selector found
           head c.if-part-depth.true c.in-Branch.is no k);
-      behind = behind_branch c.args.depth ps (get_or ps 0 no_part) (take (length ps - 1) (drop 1 ps)) c.in-Branch.selector head c.if-part-depth.true c.in-Branch.is ∙ c.loop-left.invariant.behind;
-      shorter = first_of (grind (arith, common_steps, c.loop-left.invariant.shorter), omega (arith, length-take {A = parts.Part}, length-drop {A = parts.Part}, c.loop-left.invariant.shorter));
+      behind = behind_branch c.args.depth ps (get_or ps 0 no_part) (take (length ps - 1) (drop 1 ps)) c.in-Branch.selector head
+          c.if-part-depth.true c.in-Branch.is ∙ c.loop-left.invariant.behind;
+      shorter =
+          first_of (
+            grind (arith, common_steps, c.loop-left.invariant.shorter),
+            omega
+                (arith, length-take {A = parts.Part}, length-drop {A = parts.Part}, c.loop-left.invariant.shorter),
+          );
     }

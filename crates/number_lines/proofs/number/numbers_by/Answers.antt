@@ -16,7 +16,8 @@ pub loop-rest-preserved : goal.loop-rest-preserved
 loop-rest-preserved c = λ left is more h.
     let word = c.as_bytes.result.now in
     let e = c.in_ok-push_answer.ensures in
-    let whole : words_view c.loop-rest.rest.now ≡ word ∷ left = first_of (search rules, grind (arith, common_steps, is, c.as_bytes.ensures.value)) in
+    let whole : words_view c.loop-rest.rest.now ≡ word ∷ left =
+    first_of (search rules, grind (arith, common_steps, is, c.as_bytes.ensures.value)) in
     answers_grown Number c.args.rules.now c.loop-rest.place word left (words_view c.args.numbers.now) c.loop-rest.printed
     c.push_answer.new.printed e.0 (c.loop-rest.invariant (word ∷ left) whole) e.1 e.2 more
     (subst (λ (n : ℕ). AreAnswersFrom Number c.args.rules.now n left more) c.next_place-place.ensures h)

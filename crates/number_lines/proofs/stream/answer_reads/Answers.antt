@@ -49,7 +49,8 @@ loop-preserved g c =
       | in-Ok+in_default w ↦
           let more = take w.in-Ok.count c.read.new.buf in
           let t = took c.args.asked.now more c.loop.lines w.answer_bytes.new.lines (g.W.Write.contents c.loop.writer)
-          (g.W.Write.contents w.answer_bytes.new.writer) w.answer_bytes.result (rw (w.prepare.ensures ∙ i.5) at w.answer_bytes.ensures) w.in_default.not-Err i.0 i.1 i.4 in
+          (g.W.Write.contents w.answer_bytes.new.writer) w.answer_bytes.result (rw (w.prepare.ensures ∙ i.5) at w.answer_bytes.ensures)
+          w.in_default.not-Err i.0 i.1 i.4 in
           rw (w.lines-is, w.writer-is, w.asked-is) (
             i.0 ++ more,
             i.1 ++ t.0,

@@ -6,7 +6,8 @@ use Rattle.plural_documents.proofs.OutlinedLemmas.{array_outlined, object_outlin
 use Rattle.plural_documents.proofs.outline.+build.Goals as goal
 use Rattle.serde_json.specs.View.{members_view, view}
 use Rattle.serde_json.proofs.Views.{view-Array, view-Object}
-use Rattle.plural_documents.proofs.WalkLemmas.{MembersGoOn, item_added, items_ended, member_added, members_ended, members_not_cut, no_end, no_key, no_opening}
+use Rattle.plural_documents.proofs.WalkLemmas.{MembersGoOn, item_added, items_ended, member_added, members_ended, members_not_cut}
+use Rattle.plural_documents.proofs.WalkLemmas.{no_end, no_key, no_opening}
 use Rattle.plural_documents.proofs.ItemLemmas.{items_after, with_no_more}
 use Rattle.plural_documents.proofs.outline.+build.Goals.{outlined_members-in-Some+in_default-first, outlined_members-in_default, whole_items-in-Some+in-EndArray, whole_items-in_default}
 
@@ -48,7 +49,12 @@ push_item-returns-in_ok-outlined-in-BeginArray-clause-adds g n c =
 pub push_item-returns-in_ok-one_token-in_default-clause-adds : goal.push_item-returns-in_ok-one_token-in_default-clause-adds
 push_item-returns-in_ok-one_token-in_default-clause-adds g n c =
     on_success c.push_value-in_default.result
-    (λ added. (_, added, c.in_ok-one_token-in_default.ensures (no_opening c.args.first c.in_default.not-BeginArray c.in_default.not-BeginObject) None c.args.left.now))
+    (λ added. (
+      _,
+      added,
+      c.in_ok-one_token-in_default.ensures (no_opening c.args.first c.in_default.not-BeginArray c.in_default.not-BeginObject)
+          None c.args.left.now,
+    ))
     c.push_value-in_default.ensures
 
 pub outlined_members-loop-first-preserved : goal.outlined_members-loop-first-preserved
@@ -89,7 +95,8 @@ whole_items-loop-first-preserved g n c = (
       let now = c.loop-first.invariant.0 items rest whole is read in
       let added = c.in_ok-push_item-in_default-first.ensures.adds in
       rw (added.1)
-      (item_added g.S.Sieve.keeps c.loop-first.items.items added.0 now.0 (held_token c.in-Some.first) c.next.new.self rest c.push_item.new.left now.1
+      (item_added g.S.Sieve.keeps c.loop-first.items.items added.0 now.0 (held_token c.in-Some.first) c.next.new.self rest
+      c.push_item.new.left now.1
       whole (sym c.in-Some.ensures ∙ now.2) (no_end c.in-Some.first c.in_default-first.not-EndArray) now.3 now.4 added.2)),
   one_shorter (length c.push_item.new.left) (length c.next.new.self) (length c.loop-first.left) (length c.args.left.now)
       c.in_ok-push_item-in_default-first.ensures.shorter (ap length c.in-Some.ensures) c.loop-first.invariant.1,

@@ -1,4 +1,5 @@
-use Rattle.plural_documents.proofs.OutlinedLemmas.{boolean_outlined, number_outlined, string_outlined, view_bool, view_null, view_number, view_string}
+use Rattle.plural_documents.proofs.OutlinedLemmas.{boolean_outlined, number_outlined, string_outlined, view_bool, view_null}
+use Rattle.plural_documents.proofs.OutlinedLemmas.{view_number, view_string}
 use Rattle.plural_documents.proofs.WalkLemmas.{null_kept}
 use Rattle.plural_documents.proofs.outline.one_token.Goals as goal
 

@@ -4,7 +4,8 @@ use Rattle.std.proofs.lemmas.Bool.{OnTrue_at, OnTrue_from, or_left}
 use Rattle.document_tokens.specs.HeldTokens.{Held, held_token}
 use Rattle.plural_documents.specs.Inner.RulesPlaces.{AreRightParts, allows_object, below}
 use Rattle.plural_documents.specs.declared.rules_place.RulesPlace.{RulesPlace}
-use Rattle.plural_documents.proofs.RightTokens.{RightGoOn, null_right, object_right, on_right, right_added, right_ended, right_not_cut, text_right}
+use Rattle.plural_documents.proofs.RightTokens.{RightGoOn, null_right, object_right, on_right, right_added, right_ended}
+use Rattle.plural_documents.proofs.RightTokens.{right_not_cut, text_right}
 use Rattle.plural_documents.proofs.WalkLemmas.{no_key}
 use Rattle.plural_documents.proofs.rules_check.+check.Goals.{are_right-in-Some+in_default-first, are_right-in_default}
 use Rattle.plural_documents.proofs.rules_check.+check.Goals as goal
@@ -14,18 +15,21 @@ one_shorter n m k most less more within = omega arith
 
 pub are_right-loop-first-preserved-then-is_any_read : goal.are_right-loop-first-preserved-then-is_any_read
 are_right-loop-first-preserved-then-is_any_read t c = (
-  (λ members rest whole is read. right_added c.args.place c.in-Key.key.now c.next.new.self c.is_right_below.new.left rest whole c.loop-first.is_any_read _
+  (λ members rest whole is read. right_added c.args.place c.in-Key.key.now c.next.new.self c.is_right_below.new.left rest whole
+      c.loop-first.is_any_read _
       (subst (λ (ts : List Held). RightGoOn c.args.place ts rest whole c.loop-first.is_any_read)
       (c.in-Some.ensures ∙ ap (λ u. held_token u ∷ c.next.new.self) c.in-Key.is) (c.loop-first.invariant.0 members rest whole is read))
       (rw (← c.below-below.ensures) (OnTrue_at c.if-not-branch.false c.in_ok-is_right_below.ensures.right))
-      (or_left c.loop-first.is_any_read (is_some {T = RulesPlace} (below c.args.place c.in-Key.key.now)) c.if-is_any_read.true ∙ sym c.if-is_any_read.true)),
+      (or_left c.loop-first.is_any_read (is_some {T = RulesPlace} (below c.args.place c.in-Key.key.now)) c.if-is_any_read.true
+      ∙ sym c.if-is_any_read.true)),
   one_shorter (length c.is_right_below.new.left) (length c.next.new.self) (length c.loop-first.left) (length c.args.left.now)
       c.in_ok-is_right_below.ensures.shorter (ap length c.in-Some.ensures) c.loop-first.invariant.1,
 )
 
 pub are_right-loop-first-preserved : goal.are_right-loop-first-preserved
 are_right-loop-first-preserved t c = (
-  (λ members rest whole is read. right_added c.args.place c.in-Key.key.now c.next.new.self c.is_right_below.new.left rest whole c.loop-first.is_any_read _
+  (λ members rest whole is read. right_added c.args.place c.in-Key.key.now c.next.new.self c.is_right_below.new.left rest whole
+      c.loop-first.is_any_read _
       (subst (λ (ts : List Held). RightGoOn c.args.place ts rest whole c.loop-first.is_any_read)
       (c.in-Some.ensures ∙ ap (λ u. held_token u ∷ c.next.new.self) c.in-Key.is) (c.loop-first.invariant.0 members rest whole is read))
       (rw (← c.below-below.ensures) (OnTrue_at c.if-not-branch.false c.in_ok-is_right_below.ensures.right))
@@ -57,7 +61,8 @@ is_right-returns-in-BeginObject-clause-right t c =
 
 pub is_right-returns-in-String-clause-right : goal.is_right-returns-in-String-clause-right
 is_right-returns-in-String-clause-right t c =
-    rw (c.in-String.is) (on_right c.is_right_text.result (text_right c.args.place c.args.left.now c.in-String.text.now) c.is_right_text.ensures)
+    rw (c.in-String.is)
+    (on_right c.is_right_text.result (text_right c.args.place c.args.left.now c.in-String.text.now) c.is_right_text.ensures)
 
 pub is_right-returns-in-Null-clause-right : goal.is_right-returns-in-Null-clause-right
 is_right-returns-in-Null-clause-right t c =

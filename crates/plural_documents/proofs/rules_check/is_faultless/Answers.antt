@@ -15,5 +15,6 @@ returns c =
     (faultless c.args.text.now c.of-left.result _
     (subst (λ (us : List Held). Holds c.args.text.now us) all
     (subst (λ (text : HeldText). Holds text (map held_token c.text.inside.tokens.items)) c.text.view_is c.text.invariant))
-    (ap (list_any is_float) (sym all ∙ ap (map held_token) (sym c.as_slice.ensures.value)) ∙ sym c.has_float.ensures ∙ c.if-has_float.false))
+    (ap (list_any is_float) (sym all ∙ ap (map held_token) (sym c.as_slice.ensures.value)) ∙ sym c.has_float.ensures
+    ∙ c.if-has_float.false))
     c.is_right_below.ensures.right

@@ -35,4 +35,5 @@ returns-in-Err c =
 
 pub returns : goal.returns
 returns c =
-    ends c.args.given.now (arguments_view c.loop-left.arguments.items) c.loop-left.left.now (omega (arith, c.in_default.len_below)) c.loop-left.invariant
+    ends c.args.given.now (arguments_view c.loop-left.arguments.items) c.loop-left.left.now (omega (arith, c.in_default.len_below))
+    c.loop-left.invariant

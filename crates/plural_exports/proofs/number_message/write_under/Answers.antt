@@ -1,4 +1,5 @@
-use Rattle.std.proofs.Common.{w64, ◌≡◌, ℕ, ◌<◌, ◌++◌, List, Ok, Err, length, drop, min, if◌then◌else◌, pos, refl, subst, sym, ap, ◌∙◌, arith, ⊎_elim}
+use Rattle.std.proofs.Common.{w64, ◌≡◌, ℕ, ◌<◌, ◌++◌, List, Ok, Err, length, drop, min, if◌then◌else◌, pos, refl, subst, sym, ap}
+use Rattle.std.proofs.Common.{◌∙◌, arith, ⊎_elim}
 use Rattle.std.proofs.lemmas.Bool.{cases_lt, le-leb, lt-leb}
 use Rattle.std.proofs.lemmas.Int.{to_z_pos}
 use Rattle.std.proofs.lemmas.Result.{err_from_is_err_and}
@@ -15,8 +16,10 @@ use Rattle.plural_exports.proofs.number_message.write_under.Goals as goal
 filled_is : (old new message : List ℕ) (told : ℕ) → IsWrittenTo old new told message → new ≡ filled message old
 filled_is old new message told is =
     ⊎_elim
-    (λ short. is.too_long short ∙ ap (λ t. if t then (message ++ drop (length message) old) else old) (sym (lt-leb (length message) (length old) short)))
-    (λ room. is.fits room ∙ ap (λ t. if t then (message ++ drop (length message) old) else old) (sym (le-leb (length message) (length old) room)))
+    (λ short. is.too_long short
+    ∙ ap (λ t. if t then (message ++ drop (length message) old) else old) (sym (lt-leb (length message) (length old) short)))
+    (λ room. is.fits room
+    ∙ ap (λ t. if t then (message ++ drop (length message) old) else old) (sym (le-leb (length message) (length old) room)))
     (cases_lt (length old) (length message))
 
 -- a length that is told, and below the greatest, is the length
@@ -55,8 +58,11 @@ returns-then-length-le-MOST_BYTES c =
     let number = c.args.number.now in
     let wrote = c.format_number_into-length.ensures in
     let message = wrote.0 in
-    let kept = subst (λ (text : List ℕ). IsMessageWith (IsKeptElement c.new-message.result rules) x text message) c.in_ok-text.ensures.1 wrote.2 in
-    let exact = subst (λ (text : List ℕ). IsMessageWith (IsExactElement c.new-message.result rules) x text message) c.in_ok-text.ensures.1 wrote.3 in
+    let kept =
+    subst (λ (text : List ℕ). IsMessageWith (IsKeptElement c.new-message.result rules) x text message) c.in_ok-text.ensures.1 wrote.2 in
+    let exact =
+    subst (λ (text : List ℕ). IsMessageWith (IsExactElement c.new-message.result rules) x text message) c.in_ok-text.ensures.1
+    wrote.3 in
     let told = told_is c.format_number_into-length.result 18446744073709551615 message wrote.1.told_is
     (omega (arith, c.if-length-le-MOST_BYTES.true)) in (
       message,
@@ -72,7 +78,11 @@ returns-then-length-le-MOST_BYTES c =
           ),
         ),
       ),
-      (to_z_pos w64 _ (omega (arith, c.if-length-le-MOST_BYTES.true)) ∙ ap pos told, filled_is c.args.out.now c.format_number_into-length.new.out message c.format_number_into-length.result wrote.1),
+      (
+        to_z_pos w64 _ (omega (arith, c.if-length-le-MOST_BYTES.true))
+            ∙ ap pos told,
+        filled_is c.args.out.now c.format_number_into-length.new.out message c.format_number_into-length.result wrote.1,
+      ),
     )
 
 pub returns : goal.returns
@@ -82,7 +92,8 @@ returns c =
     let x = c.in_ok-number.number in
     let wrote = c.format_number_into-length.ensures in
     let message = wrote.0 in
-    let kept = subst (λ (text : List ℕ). IsMessageWith (IsKeptElement c.new-message.result rules) x text message) c.in_ok-text.ensures.1 wrote.2 in
+    let kept =
+    subst (λ (text : List ℕ). IsMessageWith (IsKeptElement c.new-message.result rules) x text message) c.in_ok-text.ensures.1 wrote.2 in
     let short : length c.args.out.now < 9223372036854775808 = grind arith in (
       (
         Ok (lent_elements c.in_ok-elements_in.field-0),

@@ -18,7 +18,8 @@ returns-in_err-pack c =
     let parts = c.in_ok-pattern.pattern in
     let refused = c.in_err-pack.ensures in
     of_second (λ block. block.items) (ReadsPatternText c.args.pattern.now) PacksParts parts r c.in_ok-pattern.ensures
-    (parts_refused parts c.in_err-pack.field-0.0 r (handed_on pattern_pack_fault _ _ (err_from_is_err_and r c.from_residual-in_err-pack.ensures.1))
+    (parts_refused parts c.in_err-pack.field-0.0 r
+    (handed_on pattern_pack_fault _ _ (err_from_is_err_and r c.from_residual-in_err-pack.ensures.1))
     refused.count_limit refused.part refused.order refused.start_limit)
 
 pub returns : goal.returns

@@ -28,7 +28,12 @@ returns-in_err-format_packed c =
     rw (handed_on format_fault residual.result e (err_from_is_err_and residual.result residual.ensures.1)) (
       Ok c.in_ok-pattern.pattern,
       c.in_ok-pattern.ensures,
-      (Ok arguments, c.in_ok-arguments.ensures, said_refused _ _ arguments e (rw c.as_slice.ensures.value at c.in_err-format_packed.ensures)),
+      (
+        Ok arguments,
+        c.in_ok-arguments.ensures,
+        said_refused _ _ arguments e
+            (rw c.as_slice.ensures.value at c.in_err-format_packed.ensures),
+      ),
     )
 
 pub returns : goal.returns

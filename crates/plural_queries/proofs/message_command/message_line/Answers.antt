@@ -18,5 +18,6 @@ returns-in_err-given c =
 
 pub returns : goal.returns
 returns c =
-    subst (λ (given : Result RuledElements RunError). GivesText (AnswersFrom (IsMessageLine c.args.number.now c.args.word.now) given) c.line_of-line.result)
+    subst (λ (given : Result RuledElements RunError). GivesText (AnswersFrom (IsMessageLine c.args.number.now c.args.word.now) given)
+    c.line_of-line.result)
     (sym c.in_ok-given.ensures) c.line_of-line.ensures

@@ -12,19 +12,23 @@ returns-in-Test-clause-query c =
 
 pub returns-in-Category-clause-query : goal.returns-in-Category-clause-query
 returns-in-Category-clause-query c =
-    subst (λ (command : CodeCommand). GivesQuery (Some (command_view command)) c.category_query.result) (sym c.in-Category.is) c.category_query.ensures.query
+    subst (λ (command : CodeCommand). GivesQuery (Some (command_view command)) c.category_query.result) (sym c.in-Category.is)
+    c.category_query.ensures.query
 
 pub returns-in-Range-clause-query : goal.returns-in-Range-clause-query
 returns-in-Range-clause-query c =
-    subst (λ (command : CodeCommand). GivesQuery (Some (command_view command)) c.range_query.result) (sym c.in-Range.is) c.range_query.ensures.query
+    subst (λ (command : CodeCommand). GivesQuery (Some (command_view command)) c.range_query.result) (sym c.in-Range.is)
+    c.range_query.ensures.query
 
 pub returns-in-Select-clause-query : goal.returns-in-Select-clause-query
 returns-in-Select-clause-query c =
-    subst (λ (command : CodeCommand). GivesQuery (Some (command_view command)) c.select_query.result) (sym c.in-Select.is) c.select_query.ensures.query
+    subst (λ (command : CodeCommand). GivesQuery (Some (command_view command)) c.select_query.result) (sym c.in-Select.is)
+    c.select_query.ensures.query
 
 pub returns-in-Message-clause-query : goal.returns-in-Message-clause-query
 returns-in-Message-clause-query c =
-    subst (λ (command : CodeCommand). GivesQuery (Some (command_view command)) c.message_query.result) (sym c.in-Message.is) c.message_query.ensures.query
+    subst (λ (command : CodeCommand). GivesQuery (Some (command_view command)) c.message_query.result) (sym c.in-Message.is)
+    c.message_query.ensures.query
 
 pub returns-in-Print-clause-query : goal.returns-in-Print-clause-query
 returns-in-Print-clause-query c =
@@ -35,7 +39,8 @@ returns-in-Print-clause-query c =
 
 pub returns-in-Category-clause-memory : goal.returns-in-Category-clause-memory
 returns-in-Category-clause-memory c = λ h.
-    subst (λ (command : CodeCommand). ReadingTakesMemory (Some (command_view command))) (sym c.in-Category.is) (c.category_query.ensures.memory h)
+    subst (λ (command : CodeCommand). ReadingTakesMemory (Some (command_view command))) (sym c.in-Category.is)
+    (c.category_query.ensures.memory h)
 
 pub returns-in-Range-clause-memory : goal.returns-in-Range-clause-memory
 returns-in-Range-clause-memory c = λ h.
@@ -43,8 +48,10 @@ returns-in-Range-clause-memory c = λ h.
 
 pub returns-in-Select-clause-memory : goal.returns-in-Select-clause-memory
 returns-in-Select-clause-memory c = λ h.
-    subst (λ (command : CodeCommand). ReadingTakesMemory (Some (command_view command))) (sym c.in-Select.is) (c.select_query.ensures.memory h)
+    subst (λ (command : CodeCommand). ReadingTakesMemory (Some (command_view command))) (sym c.in-Select.is)
+    (c.select_query.ensures.memory h)
 
 pub returns-in-Message-clause-memory : goal.returns-in-Message-clause-memory
 returns-in-Message-clause-memory c = λ h.
-    subst (λ (command : CodeCommand). ReadingTakesMemory (Some (command_view command))) (sym c.in-Message.is) (c.message_query.ensures.memory h)
+    subst (λ (command : CodeCommand). ReadingTakesMemory (Some (command_view command))) (sym c.in-Message.is)
+    (c.message_query.ensures.memory h)

@@ -27,5 +27,6 @@ returns c =
     let exact = c.kept_element_is_exact.ensures (values_of given.elements) given.rules digits exponent element
     c.from-operands.ensures.1 kept in
     line_given (IsElementLine c.args.number.now)
-    (elements_for c.args.rule_type c.args.locale.now (document_view c.args.document.now)) given (line c.get-text.result.now) c.line-answer.result
+    (elements_for c.args.rule_type c.args.locale.now (document_view c.args.document.now)) given (line c.get-text.result.now)
+    c.line-answer.result
     c.in_ok-given.ensures (element, ap line c.get-text.ensures, (kept, exact)) c.line-answer.ensures

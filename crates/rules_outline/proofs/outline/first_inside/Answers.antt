@@ -27,6 +27,7 @@ pub loop-steps-preserved : goal.loop-steps-preserved
 loop-steps-preserved c =
     let l = c.loop-steps in
     let inside : is_inside c.args.locales l.current.now ≡ true = search rules in
-    goes_on c.args.locales (view c.args.document.now) c.args.part c.args.locale.now l.steps l.current.now l.invariant c.in-Some-next_locale.next.now
+    goes_on c.args.locales (view c.args.document.now) c.args.part c.args.locale.now l.steps l.current.now l.invariant
+    c.in-Some-next_locale.next.now
     inside (sym c.find_key.ensures ∙ ap (option_copied {T = List ℕ}) c.in_default.is)
     (sym c.next_locale.ensures ∙ ap (option_copied {T = List ℕ}) c.in-Some-next_locale.is)

@@ -5,7 +5,8 @@ use Rattle.rules_outline.proofs.outline.kept_rules.Goals as goal
 
 pub returns-in-Ok : goal.returns-in-Ok
 returns-in-Ok c =
-    subst (λ (bytes : List ℕ). IsServedBy c.args.part c.args.locale.now bytes c.in-Ok.kept) (ap (λ text. text.bytes) (c.in_ok-text.ensures).0)
+    subst (λ (bytes : List ℕ). IsServedBy c.args.part c.args.locale.now bytes c.in-Ok.kept)
+    (ap (λ text. text.bytes) (c.in_ok-text.ensures).0)
     c.in-Ok.ensures
 
 pub returns : goal.returns

@@ -7,6 +7,7 @@ pub returns : goal.returns
 returns c =
     part_serves c.args.part c.args.locale.now c.args.text.now All _ _ c.requires c.in_ok-document.ensures c.in_ok-key.ensures (
       all_stay (view c.in_ok-document.document) c.args.part c.args.locale.now,
-      first_found (λ key. key.now) (view c.in_ok-document.document) c.args.part c.args.locale.now c.find_first.result c.find_first.ensures.ok
+      first_found (λ key. key.now) (view c.in_ok-document.document) c.args.part c.args.locale.now c.find_first.result
+          c.find_first.ensures.ok
           c.find_first.ensures.err,
     )

@@ -16,7 +16,9 @@ returns-then-is_of_number c =
     let new : Group = record old { atoms = c.push_relation.new.atoms } in
     let number : is_of_number r.meaning.operand ≡ true =
     ap is_of_number (sym c.operand.ensures) ∙ sym c.is_of_number.ensures ∙ c.if-is_of_number.true in
-    at_ok {P = Joins (codes " && ") (map atom_text (atoms_under r.meaning.operator r.meaning.modulus r.meaning.ranges)) old.atoms c.push_relation.new.atoms}
+    at_ok {P =
+    Joins (codes " && ") (map atom_text (atoms_under r.meaning.operator r.meaning.modulus r.meaning.ranges)) old.atoms
+    c.push_relation.new.atoms}
     {Q = (group : List PackedRelation) → IsGroup group old → IsGroup (group ++ r ∷ []) new} c.push_relation.result
     (λ joins group is. of_number r group old new number joins refl is) c.push_relation.ensures
 

@@ -10,7 +10,8 @@ use Rattle.plural_documents.proofs.repeated_key.StandingKeys.push_again.Goals as
 pub loop-key-preserved : goal.loop-key-preserved
 loop-key-preserved c =
     let path = path_view c.args.path in
-    subst (λ (items : List RepeatedKey). HasAdded c.args.found.now.items items (map (shown_at path) (c.loop-key.yielded ++ c.in-Some.key ∷ [])))
+    subst (λ (items : List RepeatedKey). HasAdded c.args.found.now.items items
+    (map (shown_at path) (c.loop-key.yielded ++ c.in-Some.key ∷ [])))
     (sym c.in_ok-push.ensures.items)
     (one_added path c.args.found.now.items c.loop-key.found.items _ c.loop-key.yielded c.in-Some.key c.loop-key.invariant refl)
 
