@@ -10,7 +10,7 @@ ghost use Rattle.serde_json.specs.Find.{get_member};
 ghost use Rattle.serde_json.specs.View.{members_view, view};
 
 use crate::form::{Form, OwnForms};
-use icu_plurals::{Five, PluralCategory};
+use icu_plurals::Five;
 use plural_base::at_category;
 use serde_json::{Map, Value};
 
