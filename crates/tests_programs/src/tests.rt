@@ -7,7 +7,6 @@ mod commands;
 mod forms;
 mod input;
 mod line;
-mod outlines;
 mod pieces;
 mod report;
 mod taking;

@@ -15,6 +15,8 @@ mod json_files;
 mod located_findings;
 mod message_reports;
 mod noted_documents;
+mod outlines;
+mod plurals;
 mod repeated_keys;
 mod sarif_members;
 mod translations;
@@ -36,6 +38,8 @@ impl Kinds for Calls {
             || message_reports::make(kind, call)
             || findings::make(kind, call)
             || located_findings::make(kind, call)
+            || plurals::make(kind, call)
+            || outlines::make(kind, call)
             || forms::make(kind, call)
             || callers::make(kind, call)
             || catalog_words::make(kind, call)

@@ -1,7 +1,7 @@
-//! What no contract says: worked documents, texts and statuses, failing readers and writers.
+//! What no contract and no row says of reports: failing readers and writers, refused growths.
 
 mod answers;
-mod documents;
+mod chains;
 mod growth;
 mod inputs;
 mod sizes;

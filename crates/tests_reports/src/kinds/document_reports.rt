@@ -1,6 +1,7 @@
 //! Reports of documents of plural rules and ranges.
 
 use crate::kinds::message_reports::print_lines;
+use document_report::run::run;
 use document_report::{Counts, Finding, FindingPlace, Report, report_of};
 use row_calls::call::Call;
 
@@ -9,6 +10,7 @@ pub fn make(kind: &str, call: &mut Call) -> bool {
     match kind {
         "document_findings" => of_document(call, Printed::Findings),
         "document_report" => of_document(call, Printed::Report),
+        "checked_document" => checked_document(call),
         _ => return false,
     }
     true
@@ -27,6 +29,25 @@ fn of_document(call: &mut Call, printed: Printed) {
     match report_of(call.alloc, &document) {
         Ok(report) => print_report(call, &report, printed),
         Err(_) => call.out_of_memory(),
+    }
+}
+
+// The lines of the report of a text and the status of its verdict, or the status and the text of the
+// fault.
+fn checked_document(call: &mut Call) {
+    let text = call.text();
+    let mut report = Vec::new(call.alloc);
+    match run(call.alloc, false, &mut text.as_bytes(), &mut report) {
+        Ok(verdict) => {
+            print_lines(call, report.as_slice());
+            call.print(" | status ");
+            call.print_value(&verdict.status());
+        }
+        Err(fault) => {
+            call.print_value(&fault.status());
+            call.print(": ");
+            call.print_value(&fault);
+        }
     }
 }
 

@@ -1,8 +1,8 @@
 //! Refused growths: these run under `rt try --test --fail-alloc N` for each N, and with memory too.
 
 use crate::tests::assertion::holds;
+use crate::tests::commands::answers::{gives, row_gives};
 use crate::tests::commands::documents::DOCUMENT;
-use crate::tests::commands::tables::{gives, row_gives};
 use std::alloc::Global;
 use std::process::Abort;
 

@@ -1,10 +1,9 @@
-//! Long inputs, deep ones, and readers that fail.
+//! Long inputs, and readers that fail.
 
 use crate::tests::assertion::holds;
+use crate::tests::commands::answers::gives;
 use crate::tests::commands::documents::DOCUMENT;
-use crate::tests::commands::tables::{gives, table_holds};
 use crate::tests::input::{Input, MOST};
-use std::test::Fail;
 
 // The document with spaces up to a length.
 fn document_up_to(length: usize, fails: bool) -> Input<'static> {
@@ -50,55 +49,4 @@ fn a_failing_reader_is_a_fault(rt: HostRuntime) {
     }
     let mut reader = Input::up_to(b"{", 0, true);
     holds!(rt; gives(rt.alloc(), &words, &mut reader, cannot) == Some(true));
-}
-
-#[test]
-fn a_bad_number_reads_nothing(rt: HostRuntime) {
-    let numbers = "$ a|cardinal|x
-1: bad number
-$ a|cardinal|1c300
-1: number out of limits
-$ a|cardinal|1c256
-1: number out of limits
-$ a|cardinal|1
-1: cannot read input
-";
-    table_holds(
-        &rt,
-        rt.alloc(),
-        &["category", "select", "message"],
-        numbers,
-        None,
-    );
-    // The start is checked before the end.
-    let ranges = "$ a|cardinal|x|1
-1: bad number
-$ a|cardinal|1|x
-1: bad number
-$ a|cardinal|1|1c256
-1: number out of limits
-$ a|cardinal|1c256|x
-1: number out of limits
-$ a|cardinal|x|1c256
-1: bad number
-$ a|cardinal|0|1
-1: cannot read input
-";
-    table_holds(&rt, rt.alloc(), &["range"], ranges, None);
-}
-
-#[test]
-fn nesting_has_a_limit(rt: HostRuntime) -> Result<(), Fail> {
-    let rows = [
-        (127usize, "1: bad document: shape\n"),
-        (128, "1: input is not JSON\n"),
-    ];
-    for (depth, answer) in rows {
-        let mut input = vec![in rt.alloc(); b'['; depth]?;
-        input.resize(depth * 2, b']')?;
-        let mut reader = input.as_slice();
-        let words = ["print", "a", "cardinal"];
-        holds!(rt; gives(rt.alloc(), &words, &mut reader, answer) == Some(true), at depth);
-    }
-    Ok(())
 }

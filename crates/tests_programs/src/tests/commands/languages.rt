@@ -1,7 +1,7 @@
 //! Conditions from CLDR, against the categories that its samples show.
 
 use crate::tests::assertion::holds;
-use crate::tests::commands::tables::gives;
+use crate::tests::commands::answers::gives;
 use crate::tests::input::Input;
 use std::alloc::{AllocError, Global};
 use std::test::Fail;

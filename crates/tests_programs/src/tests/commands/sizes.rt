@@ -1,10 +1,26 @@
 //! A long document and a long line, read and written in pieces.
 
 use crate::tests::assertion::holds;
-use crate::tests::commands::lengths::repeated;
 use crate::tests::pieces::Pieces;
 use plural_commands::run::run;
+use std::alloc::{AllocError, Global};
 use std::test::Fail;
+
+// Returns a start, the text this many times, and an end.
+fn repeated(
+    alloc: Global,
+    start: &str,
+    text: &str,
+    count: usize,
+    end: &str,
+) -> Result<String, AllocError> {
+    let mut all = String::from_str(alloc, start)?;
+    for _ in 0..count {
+        all.push_str(text)?;
+    }
+    all.push_str(end)?;
+    Ok(all)
+}
 
 #[test]
 fn a_line_of_129000_bytes_is_written_whole(rt: HostRuntime) -> Result<(), Fail> {

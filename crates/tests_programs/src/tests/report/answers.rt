@@ -1,13 +1,10 @@
 //! The answer to a document.
 
-use crate::tests::assertion::holds;
 use crate::tests::awaits::{awaiting, awaits_fault};
-use crate::tests::input::Input;
 use document_report::CheckError;
 use document_report::run::run;
 use std::alloc::Global;
 use std::io::Read;
-use std::process::Abort;
 
 // Returns whether the line has the fault's status and text.
 pub(crate) fn is_told(fault: &CheckError, line: &str) -> bool {
@@ -32,14 +29,5 @@ pub(crate) fn gives<R: Read>(
         }
         Err(CheckError::Memory) if writer.is_untouched(answer.len()) => None,
         Err(fault) => Some(awaits_fault(writer, fault.status(), &fault)),
-    }
-}
-
-// Checks that each document of the table gives the lines that follow it. `< ` precedes a document.
-pub(crate) fn table_holds(rt: &impl Abort, alloc: Global, table: &str) {
-    for row in table.split("< ").skip(1) {
-        let (document, answer) = row.split_once('\n').unwrap_or((row, ""));
-        let mut reader = Input::of(Some(document.as_bytes()));
-        holds!(rt; gives(alloc, false, &mut reader, answer) == Some(true), row);
     }
 }

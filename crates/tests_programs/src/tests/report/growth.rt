@@ -2,9 +2,11 @@
 
 use crate::tests::assertion::holds;
 use crate::tests::report::answers::gives;
-use crate::tests::report::documents::UNFORMED;
 use std::alloc::Global;
 use std::process::Abort;
+
+// A locale that is no object.
+const UNFORMED: &str = r#"{"cardinal":{"a":{},"b":[]}}"#;
 
 // Checks that the document gives the answer, also if one growth is refused: then one call runs out
 // of memory and writes nothing, and the other gives the answer.

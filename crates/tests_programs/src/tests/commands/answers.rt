@@ -1,13 +1,10 @@
-//! Tables of commands and what they print.
+//! The answer to a command.
 
-use crate::tests::assertion::holds;
 use crate::tests::awaits::{awaiting, awaits_fault};
-use crate::tests::input::Input;
 use plural_commands::RunError;
 use plural_commands::run::run;
 use std::alloc::Global;
 use std::io::Read;
-use std::process::Abort;
 
 // Returns whether the line has the fault's status and text.
 pub(crate) fn is_told(fault: &RunError, line: &str) -> bool {
@@ -49,34 +46,4 @@ pub(crate) fn row_gives<'w, R: Read>(
     ];
     let count = row.split('|').count().saturating_add(1);
     gives(alloc, words.get(..count)?, reader, answer)
-}
-
-// Checks that each row of the table gives, with each of the commands, the lines that follow it. `$
-// ` precedes a row. Without an input, reading fails.
-pub(crate) fn table_holds(
-    rt: &impl Abort,
-    alloc: Global,
-    commands: &[&str],
-    table: &str,
-    input: Option<&[u8]>,
-) {
-    for row in table.split("$ ").skip(1) {
-        let (words, answer) = row.split_once('\n').unwrap_or((row, ""));
-        for command in commands {
-            let mut reader = Input::of(input);
-            holds!(rt; row_gives(alloc, command, words, &mut reader, answer) == Some(true), row);
-        }
-    }
-}
-
-// Checks that, over each document of the table, the commands and words give the lines that follow
-// the document. `< ` precedes a document.
-pub(crate) fn documents_hold(rt: &impl Abort, alloc: Global, lines: &[(&str, &str)], table: &str) {
-    for row in table.split("< ").skip(1) {
-        let (document, answer) = row.split_once('\n').unwrap_or((row, ""));
-        for (command, words) in lines {
-            let mut reader = Input::of(Some(document.as_bytes()));
-            holds!(rt; row_gives(alloc, command, words, &mut reader, answer) == Some(true), row);
-        }
-    }
 }
