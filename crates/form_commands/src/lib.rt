@@ -3,6 +3,7 @@
 
 mod c_condition;
 mod error;
+mod excused;
 mod fault_byte;
 mod gettext;
 mod joined;

@@ -8,6 +8,7 @@ ghost use Rattle.form_commands.specs.Inner.TranslationSteps.{IsReport};
 ghost use Rattle.plural_documents.specs.Inputs.{IsRead};
 
 use crate::error::{FormsError, Verdict};
+use crate::excused::is_excused;
 use crate::misspelt::is_misspelt;
 use crate::note::{notes_of, write_notes};
 use crate::run::{document_of, refused};
@@ -252,8 +253,8 @@ fn push_notices<'a>(
     Ok(())
 }
 
-// Appends what is found in the messages of a file. Of a misspelt keyword it is told that it is no
-// category, and not that the category is missing.
+// Appends what is found in the messages of a file, unless the message excuses it. Of a misspelt
+// keyword it is told that it is no category, and not that the category is missing.
 fn push_findings<'a>(
     alloc: Global,
     located: &mut Vec<Located<'a>>,
@@ -264,7 +265,7 @@ fn push_findings<'a>(
     let all = found.findings();
     for (index, it) in all.iter().enumerate() {
         let behind = all.get(index.saturating_add(1)..).unwrap_or(&[]);
-        if is_misspelt(alloc, it, behind)? {
+        if is_misspelt(alloc, it, behind)? || is_excused(alloc, &read.document, it)? {
             continue;
         }
         let line = read.line_at(&it.place);

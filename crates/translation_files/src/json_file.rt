@@ -34,7 +34,7 @@ use crate::po::gather_po;
 use arb_locale::locale_of_name;
 use document_places::add_places;
 use fault::tell_fault;
-use found_messages::{FoundMessages, add_found, tell_repeated};
+use found_messages::{FoundMessages, Spoken, add_found, tell_repeated};
 use icu_plurals::{PluralCategory, PluralRuleType};
 use json::Scratch;
 use key_tree::KeyTree;
@@ -88,8 +88,9 @@ fn no_json(alloc: Global, bytes: &[u8], fault: &Error) -> Result<FileMessages, A
 
 /// Returns whether a JSON value is a document of messages, as [`message_report::found_in_files`]
 /// takes it: no file of texts. It is if it isn't an object, or is empty, or a member is an object
-/// that has a part `cardinal` or `ordinal` with members. Without such a part it is if a member has
-/// no members but parts, misspelt ones too, and none of the document's is a text.
+/// that has a part `cardinal` or `ordinal`, and is named as a locale or has messages there. Without
+/// such a part it is if a member that is named as a locale has no members but parts, misspelt ones
+/// too, and none of the document's is a text.
 pub fn is_document(value: &Value) -> bool {
     let Value::Object(members) = value else {
         return true;
@@ -99,10 +100,11 @@ pub fn is_document(value: &Value) -> bool {
     }
     let mut has_text = false;
     let mut may_be = members.is_empty();
-    for (_, locale) in members.iter() {
+    for (key, locale) in members.iter() {
+        let is_named = is_named_as_locale(key.as_str()) || is_name_of_part(key.as_str());
         match locale {
-            Value::Object(parts) if has_part(parts) => return true,
-            Value::Object(parts) => may_be = may_be || are_parts(parts),
+            Value::Object(parts) if has_part(parts, is_named) => return true,
+            Value::Object(parts) => may_be = may_be || is_named && are_parts(parts),
             Value::String(_) => has_text = true,
             _ => (),
         }
@@ -110,10 +112,35 @@ pub fn is_document(value: &Value) -> bool {
     may_be && !has_text
 }
 
-// Whether one of a locale's members is a part that has members.
-fn has_part(parts: &Map<String, Value>) -> bool {
+// Whether a key is written as a locale: `root`, or a language of two or three letters, alone or before
+// further subtags.
+fn is_named_as_locale(key: &str) -> bool {
+    let language = match key.split_once(['-', '_']) {
+        Some((language, _)) => language,
+        None => key,
+    };
+    key == "root"
+        || matches!(language.len(), 2 | 3) && language.bytes().all(|it| it.is_ascii_alphabetic())
+}
+
+// Whether one of a locale's members is a part that has members; where the key isn't that of a locale,
+// no texts.
+fn has_part(parts: &Map<String, Value>, is_named: bool) -> bool {
     for (key, part) in parts.iter() {
-        if matches!(key.as_str(), "cardinal" | "ordinal") && matches!(part, Value::Object(_)) {
+        if let Value::Object(messages) = part
+            && matches!(key.as_str(), "cardinal" | "ordinal")
+            && (is_named || !has_text(messages))
+        {
+            return true;
+        }
+    }
+    false
+}
+
+// Whether one of the members is a text.
+fn has_text(members: &Map<String, Value>) -> bool {
+    for (_, member) in members.iter() {
+        if let Value::String(_) = member {
             return true;
         }
     }
@@ -196,15 +223,20 @@ fn keep_locale<S: RulesOfLocales>(
     false
 }
 
-// Whether a language has a form zero of its own, or isn't known.
-fn has_zero<S: RulesOfLocales>(rules: &S, locale: &str) -> bool {
+// What a language has; one that isn't known may have all.
+fn spoken<S: RulesOfLocales>(rules: &S, locale: &str) -> Spoken {
     match rules.rules_of(PluralRuleType::Cardinal, locale) {
         Some(rules) => {
             let has_zero = rules.zero.is_some();
+            let has_more = has_zero || rules.one.is_some() || rules.two.is_some();
+            let has_more = has_more || rules.few.is_some() || rules.many.is_some();
             drop(rules);
-            has_zero
+            Spoken { has_zero, has_more }
         }
-        None => true,
+        None => Spoken {
+            has_zero: true,
+            has_more: true,
+        },
     }
 }
 
@@ -295,7 +327,7 @@ fn gather_found<S: RulesOfLocales>(
     locale: Option<&str>,
 ) {
     tell_repeated(gathered, &texts.keys, &texts.repeated);
-    let mut found = FoundMessages::new(gathered.alloc);
+    let mut found = FoundMessages::new(gathered.alloc, name.ends_with(".arb"));
     let filled = found.fill(texts);
     gathered.keep(filled);
     let named = locale.or(texts.locale).or(locale_of_name(name, rules));
@@ -317,7 +349,7 @@ fn add_messages<'a, S: RulesOfLocales>(
         return gathered.note_no_messages();
     }
     if keep_locale(gathered, rules, named, name, count) {
-        let has_zero = has_zero(rules, gathered.locale.as_str());
-        add_found(gathered, keys, found, has_zero);
+        let spoken = spoken(rules, gathered.locale.as_str());
+        add_found(gathered, keys, found, spoken);
     }
 }

@@ -110,7 +110,10 @@ fn read_catalog<S: RulesOfLocales>(
     let standings = standings_of(catalog);
     tell_faults(gathered, catalog);
     if standings.count() == 0 {
-        return gathered.note_no_messages();
+        if catalog.faults.is_empty() {
+            gathered.note_no_messages();
+        }
+        return;
     }
     tell_left_out(gathered, &standings);
     if standings.whole == 0 {

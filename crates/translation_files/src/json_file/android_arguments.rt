@@ -14,6 +14,7 @@ pub(crate) enum AndroidKind {
     Fraction,
     Character,
     Text,
+    Date,
 }
 
 // An argument.
@@ -120,10 +121,13 @@ fn directive_front(text: &[u8]) -> Option<Directive<'_>>
         Some(precision) => behind_run(Class::Digit, precision),
         None => rest,
     };
-    let [conversion, rest @ ..] = behind_run(Class::Size, rest) else {
-        return None;
+    let (kind, rest) = match rest {
+        [b't' | b'T', part, behind @ ..] if is_in(Class::Letter, *part) => {
+            (AndroidKind::Date, behind)
+        }
+        [conversion, behind @ ..] => (kind_of(*conversion)?, behind),
+        [] => return None,
     };
-    let kind = kind_of(*conversion)?;
     Some(Directive { place, kind, rest })
 }
 

@@ -19,28 +19,37 @@ use std::alloc::{AllocError, Global};
 // The most keys that stand twice that are told one by one.
 const MOST_TOLD: usize = 10;
 
+// What a language has: a zero of its own, and other categories than other.
+#[derive(Clone, Copy)]
+pub(crate) struct Spoken {
+    pub(crate) has_zero: bool,
+    pub(crate) has_more: bool,
+}
+
 // The texts of a file that are messages.
 #[derive(Drop)]
 pub(crate) struct FoundMessages<'a> {
+    is_arb: bool,
     patterns: Vec<JsonText<'a>>,
     groups: Groups<'a>,
 }
 
 impl<'a> FoundMessages<'a> {
-    // None yet.
-    pub(crate) fn new(alloc: Global) -> FoundMessages<'a> {
+    // None yet, of a file of ARB or another one.
+    pub(crate) fn new(alloc: Global, is_arb: bool) -> FoundMessages<'a> {
         FoundMessages {
+            is_arb,
             patterns: Vec::new(alloc),
             groups: Groups::new(alloc),
         }
     }
 
-    // Takes those of a file's texts.
+    // Takes those of a file's texts; keys of ARB have no suffixes.
     pub(crate) fn fill(&mut self, texts: &JsonTexts<'a>) -> Result<(), AllocError> {
         for text in &texts.texts {
             if has_plural(text.text) {
                 push(&mut self.patterns, *text)?;
-            } else {
+            } else if !self.is_arb {
                 self.groups.take(&texts.keys, *text)?;
             }
         }
@@ -85,19 +94,21 @@ fn tell_again(gathered: &mut Gathered, keys: &KeyTree<'_>, again: Repeated) {
     }
 }
 
-// Adds the messages of a file. A `_zero` is for exactly 0 where the language has no zero of its own.
+// Adds the messages of a file. A `_zero` is for exactly 0 where the language has no zero of its own,
+// and so is the zero of a pattern of ARB, as Flutter takes it.
 pub(crate) fn add_found<'a>(
     gathered: &mut Gathered,
     keys: &KeyTree<'a>,
     found: &FoundMessages<'a>,
-    has_zero: bool,
+    spoken: Spoken,
 ) {
     let mut message_keys = MessageKeys::new(keys);
+    let zero_is_exact = found.is_arb && !spoken.has_zero;
     for text in &found.patterns {
-        add_pattern(gathered, keys, &mut message_keys, *text);
+        add_pattern(gathered, keys, &mut message_keys, *text, zero_is_exact);
     }
     for group in &found.groups.groups {
-        add_group(gathered, &mut message_keys, group, has_zero);
+        add_group(gathered, &mut message_keys, group, spoken);
     }
     tell_left_out(gathered, &message_keys);
 }
@@ -108,12 +119,13 @@ fn add_pattern<'a>(
     keys: &KeyTree<'a>,
     message_keys: &mut MessageKeys<'_, 'a>,
     text: JsonText<'a>,
+    zero_is_exact: bool,
 ) {
     let Some(piece) = keys.piece(text.place) else {
         return;
     };
     match message_keys.key_of(piece, text.line) {
-        Ok(Some(key)) => add_pattern_message(gathered, key.as_str(), text.text, text.line),
+        Ok(Some(key)) => add_pattern_message(gathered, key.as_str(), text, zero_is_exact),
         Ok(None) => (),
         Err(_) => gathered.fail(),
     }
@@ -124,19 +136,22 @@ fn add_group<'a>(
     gathered: &mut Gathered,
     message_keys: &mut MessageKeys<'_, 'a>,
     group: &Group<'a>,
-    has_zero: bool,
+    spoken: Spoken,
 ) {
     match message_keys.key_of(group.name.base, group.line) {
-        Ok(Some(key)) => add_group_under(gathered, key.as_str(), group, has_zero),
+        Ok(Some(key)) => add_group_under(gathered, key.as_str(), group, spoken),
         Ok(None) => (),
         Err(_) => gathered.fail(),
     }
 }
 
 // Adds the message of texts with suffixes under a key, unless it may be none.
-fn add_group_under(gathered: &mut Gathered, key: &str, group: &Group<'_>, has_zero: bool) {
-    if group.is_doubtful() {
+fn add_group_under(gathered: &mut Gathered, key: &str, group: &Group<'_>, spoken: Spoken) {
+    if group.is_doubtful(spoken.has_more) {
         return note_doubtful(gathered, key, group);
+    }
+    if !group.has_text() {
+        return note_empty(gathered, key, group);
     }
     let kind = if group.name.is_ordinal {
         MessageKind::Ordinal
@@ -144,7 +159,23 @@ fn add_group_under(gathered: &mut Gathered, key: &str, group: &Group<'_>, has_ze
         MessageKind::Cardinal
     };
     let line = group.line;
-    add_suffix_message(gathered, MessageHead { kind, key, line }, group, has_zero);
+    add_suffix_message(
+        gathered,
+        MessageHead { kind, key, line },
+        group,
+        spoken.has_zero,
+    );
+}
+
+// Tells that the texts of a message are empty.
+fn note_empty(gathered: &mut Gathered, key: &str, group: &Group<'_>) {
+    let shown = printed_name(key);
+    gathered.note(
+        Some(group.line),
+        NoticeCode::LeftOut,
+        format_args!("'{shown}' has no text: left out"),
+    );
+    gathered.count(Fate::LeftOut, 1);
 }
 
 // Tells that texts may be no message.
@@ -159,12 +190,15 @@ fn note_doubtful(gathered: &mut Gathered, key: &str, group: &Group<'_>) {
         Some(form) => Form::Category(form.category).as_str(),
         None => "no form",
     };
+    let beside = if form == "other" {
+        "alone"
+    } else {
+        "without other"
+    };
     gathered.note(
         Some(group.line),
         NoticeCode::LeftOut,
-        format_args!(
-            "'{shown}{ordinal}' has {form} without other, so it may be no plural: left out"
-        ),
+        format_args!("'{shown}{ordinal}' has {form} {beside}, so it may be no plural: left out"),
     );
     gathered.count(Fate::LeftOut, 1);
 }

@@ -1,5 +1,6 @@
 //! The texts of i18next that are forms of one message: their keys differ in the suffix alone.
 
+use crate::json_file::count_text::first_count;
 use crate::json_file::key_suffix::{SuffixedKey, suffixed_key};
 use crate::json_file::key_tree::{KeyTree, Piece, ROOT};
 use crate::json_file::texts::JsonText;
@@ -104,11 +105,41 @@ impl<'a> Groups<'a> {
 }
 
 impl<'a> Group<'a> {
-    // Whether it is one form, which isn't other: then its suffix may be none.
-    pub(crate) fn is_doubtful(&self) -> bool {
+    // Whether its suffixes may be none: no text has the number, and they are one or two without other,
+    // as in `step_one` and `step_two`, or other alone in a language that has more.
+    pub(crate) fn is_doubtful(&self, has_more: bool) -> bool {
+        if self.has_number() {
+            return false;
+        }
         match self.forms.as_slice() {
-            [form] => form.category != PluralCategory::Other,
+            [form] if form.category == PluralCategory::Other => {
+                has_more && !self.name.is_ordinal
+            }
+            [_] => true,
+            [first, second] => {
+                first.category != PluralCategory::Other && second.category != PluralCategory::Other
+            }
             _ => false,
         }
+    }
+
+    // Whether a text isn't empty.
+    pub(crate) fn has_text(&self) -> bool {
+        for form in &self.forms {
+            if !form.text.is_empty() {
+                return true;
+            }
+        }
+        false
+    }
+
+    // Whether a text has the number.
+    fn has_number(&self) -> bool {
+        for form in &self.forms {
+            if first_count(form.text).is_some() {
+                return true;
+            }
+        }
+        false
     }
 }

@@ -20,8 +20,6 @@ pub(crate) enum Class {
     OfTag,
     // The flags of a directive of Java's formats.
     Flag,
-    // The sizes of a directive of C's formats.
-    Size,
 }
 
 fn is_white(byte: u8) -> bool {
@@ -47,13 +45,6 @@ fn is_flag(byte: u8) -> bool {
     }
 }
 
-fn is_size(byte: u8) -> bool {
-    match byte {
-        b'h' | b'l' | b'L' | b'q' | b'j' | b'z' | b'Z' | b't' => true,
-        _ => false,
-    }
-}
-
 // Whether a byte is of a class.
 pub(crate) fn is_in(class: Class, byte: u8) -> bool {
     match class {
@@ -66,7 +57,6 @@ pub(crate) fn is_in(class: Class, byte: u8) -> bool {
         Class::Plain => byte != b'%',
         Class::OfTag => byte != b'<' && byte != b'>',
         Class::Flag => is_flag(byte),
-        Class::Size => is_size(byte),
     }
 }
 

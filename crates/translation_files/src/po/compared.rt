@@ -190,6 +190,7 @@ fn compare_kept<'e>(
             singular: texts.singular,
             plural: texts.plural,
             number: if measure.has_rules() { number } else { None },
+            needs_places: texts.need_places(),
         };
         tell_mistakes(gathered, entry, measure, &compared, texts.forms);
     }
@@ -212,7 +213,7 @@ fn tell_mistakes(
     for (index, form) in forms.iter().enumerate() {
         if !form.text.is_empty() {
             let mut wrong = String::new(gathered.alloc);
-            let pushed = push_mistakes(&mut wrong, compared, form, measure.is_for_many(index));
+            let pushed = push_mistakes(&mut wrong, compared, form, measure.extent(index));
             gathered.keep(pushed);
             tell_wrong(gathered, entry, index, wrong.as_str());
         }

@@ -40,17 +40,22 @@ fn is_utf8(charset: &str) -> bool {
         || charset == "CHARSET"
 }
 
-// How many lines were told, and how many weren't.
+// How many lines were told, how many weren't, and the first of these.
 #[derive(Clone, Copy)]
 struct Told {
     count: u64,
     more: u64,
+    next: Option<Fault>,
 }
 
 // Tells which lines can't be read: of a message with plural forms the first one, and of all others
 // the first few. Such messages are left out.
 pub(crate) fn tell_faults(gathered: &mut Gathered, catalog: &Catalog) {
-    let mut told = Told { count: 0, more: 0 };
+    let mut told = Told {
+        count: 0,
+        more: 0,
+        next: None,
+    };
     let mut rest = catalog.faults.as_slice();
     for (index, entry) in catalog.entries.iter().enumerate() {
         let (before, behind) = cut_at_line(rest, entry.line);
@@ -60,7 +65,7 @@ pub(crate) fn tell_faults(gathered: &mut Gathered, catalog: &Catalog) {
         rest = after;
     }
     tell_strays(gathered, rest, &mut told);
-    tell_more(gathered, told.more);
+    tell_more(gathered, &told);
 }
 
 // The line of the entry behind one.
@@ -107,24 +112,32 @@ fn tell_strays(gathered: &mut Gathered, faults: &[Fault], told: &mut Told) {
             tell(gathered, fault);
         } else {
             told.more = told.more.saturating_add(1);
+            told.next = told.next.or(Some(*fault));
         }
     }
 }
 
 // Tells a fault.
 fn tell(gathered: &mut Gathered, fault: &Fault) {
-    let code = match fault.cause {
-        Cause::NotUtf8 => NoticeCode::Charset,
-        _ => NoticeCode::Syntax,
-    };
-    gathered.tell(Some(fault.line as u64), code, fault.cause);
+    gathered.tell(Some(fault.line as u64), code_of(fault), fault.cause);
 }
 
-// Tells how many lines aren't told.
-fn tell_more(gathered: &mut Gathered, count: u64) {
-    if count == 0 {
-        return;
+// The code of a fault.
+fn code_of(fault: &Fault) -> NoticeCode {
+    match fault.cause {
+        Cause::NotUtf8 => NoticeCode::Charset,
+        _ => NoticeCode::Syntax,
     }
-    let text = format_args!("and {count} more lines that can't be read");
-    gathered.tell(None, NoticeCode::Syntax, text);
+}
+
+// Tells how many lines aren't told, at the first of them.
+fn tell_more(gathered: &mut Gathered, told: &Told) {
+    let count = told.more;
+    if let Some(fault) = told.next {
+        gathered.tell(
+            Some(fault.line as u64),
+            code_of(&fault),
+            format_args!("from here on {count} more lines can't be read"),
+        );
+    }
 }

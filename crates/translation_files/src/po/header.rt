@@ -10,7 +10,7 @@ use crate::po::measure::{Forms, Measure};
 use crate::po::refusal::{
     line_of_header, refuse, refuse_clash, refuse_forms, refuse_index, refuse_language,
 };
-use gettext_plural::PluralForms;
+use gettext_plural::{PluralForms, PluralFormsError};
 use icu_plurals::{PluralRuleType, PluralRules};
 use message_report::RulesOfLocales;
 use po_catalog::Catalog;
@@ -45,7 +45,32 @@ pub(crate) fn read_messages<S: RulesOfLocales>(gathered: &mut Gathered, file: &P
     let text = file.catalog.header_field(b"Plural-Forms").unwrap_or(b"");
     match PluralForms::parse(gathered.alloc, text) {
         Ok(forms) => read_by_forms(gathered, file, &forms),
-        Err(error) => refuse_forms(gathered, file.catalog, error),
+        Err(error) => read_by_header(gathered, file, error),
+    }
+}
+
+// Reads the messages of a file whose field `Plural-Forms` has no rule, for this reason: gettext seeks
+// `nplurals=` and `plural=` in the whole header.
+fn read_by_header<S: RulesOfLocales>(
+    gathered: &mut Gathered,
+    file: &PoFile<'_, S>,
+    error: PluralFormsError,
+) {
+    match PluralForms::parse(gathered.alloc, header_text(file.catalog)) {
+        Ok(forms) => read_by_forms(gathered, file, &forms),
+        Err(PluralFormsError::Memory) => gathered.fail(),
+        Err(_) => refuse_forms(gathered, file.catalog, error),
+    }
+}
+
+// The text of the header, empty if there is none.
+fn header_text(catalog: &Catalog) -> &[u8] {
+    match catalog.header() {
+        Some(header) => match header.forms.first() {
+            Some(text) => text.bytes.as_slice(),
+            None => b"",
+        },
+        None => b"",
     }
 }
 

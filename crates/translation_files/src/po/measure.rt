@@ -13,6 +13,16 @@ pub(crate) struct Forms<'a> {
     pub(crate) laid: &'a Laid,
 }
 
+// How many numbers have a form.
+#[derive(Clone, Copy, PartialEq, Eq)]
+pub(crate) enum Extent {
+    // One at most.
+    One,
+    // Several, of which the rules say whether they need the number.
+    Few,
+    Many,
+}
+
 // By what messages are checked.
 #[derive(Clone, Copy)]
 pub(crate) enum Measure<'a> {
@@ -50,12 +60,19 @@ impl<'a> Measure<'a> {
         }
     }
 
-    // Whether an index is that of many numbers. If the indices aren't known, the first form is taken
-    // as that of 1.
-    pub(crate) fn is_for_many(self, index: usize) -> bool {
-        match self.indices() {
-            Some(indices) => indices.times_of(index as u64) > MANY,
-            None => index > 0,
+    // How many numbers have an index. If the indices aren't known, the first form is taken as that of
+    // 1.
+    pub(crate) fn extent(self, index: usize) -> Extent {
+        let Some(indices) = self.indices() else {
+            return if index > 0 { Extent::Many } else { Extent::One };
+        };
+        let times = indices.times_of(index as u64);
+        if times > MANY {
+            Extent::Many
+        } else if times > 1 {
+            Extent::Few
+        } else {
+            Extent::One
         }
     }
 }

@@ -35,8 +35,8 @@ pub(crate) fn take_texts(
     }
 }
 
-// Tells the first form that numbers have and that has no text. A text that is missing and is the
-// form of a category is told by the rules.
+// Tells the first form that isn't there, or that numbers have and that has no text. A text that is
+// missing and is the form of a category is told by the rules.
 fn tell_missing(
     gathered: &mut Gathered,
     entry: &Entry,
@@ -45,6 +45,9 @@ fn tell_missing(
     forms: &[FormIndex],
 ) {
     for (index, count) in times.iter().enumerate() {
+        if *count == 0 && index >= entry.forms.len() {
+            return tell_no_form(gathered, entry, index, times.len());
+        }
         if *count > 0 && is_missing(texts, index as u64, forms) {
             return gathered.tell(
                 line_of(entry, index),
@@ -53,6 +56,17 @@ fn tell_missing(
             );
         }
     }
+}
+
+// Tells that a message lacks a form, though no number has it: gettext wants each.
+fn tell_no_form(gathered: &mut Gathered, entry: &Entry, index: usize, count: usize) {
+    gathered.tell(
+        line_of(entry, index),
+        NoticeCode::Indices,
+        format_args!(
+            "it has no msgstr[{index}], and the file's nplurals is {count}: write the form, or correct Plural-Forms"
+        ),
+    );
 }
 
 // Whether the text at an index is missing, and is the form of no category.
@@ -128,7 +142,9 @@ fn add_under(
     gathered.count(if is_noted { Fate::Noted } else { Fate::Checked }, 1);
 }
 
-// The key of a message: its context and its id.
+// The key of a message: its context and its id, with a bar between them. A bar in a context is
+// doubled, and one in an id without a context has one before the id, so that messages of two
+// contexts have two keys.
 fn key_of(alloc: Global, entry: &Entry) -> Result<String, AllocError> {
     let mut key = String::new(alloc);
     match push_key(&mut key, entry) {
@@ -139,14 +155,28 @@ fn key_of(alloc: Global, entry: &Entry) -> Result<String, AllocError> {
 
 // Appends the key of a message.
 fn push_key(key: &mut String, entry: &Entry) -> Result<(), AllocError> {
+    let id = match &entry.id {
+        Some(id) => str_of(id),
+        None => "",
+    };
     if let Some(context) = &entry.context {
-        key.push_str(str_of(context))?;
+        push_context(key, str_of(context))?;
+        key.push('|')?;
+    } else if id.contains('|') {
         key.push('|')?;
     }
-    match &entry.id {
-        Some(id) => key.push_str(str_of(id)),
-        None => Ok(()),
+    key.push_str(id)
+}
+
+// Appends a context.
+fn push_context(key: &mut String, context: &str) -> Result<(), AllocError> {
+    for letter in context.chars() {
+        if letter == '|' {
+            key.push('|')?;
+        }
+        key.push(letter)?;
     }
+    Ok(())
 }
 
 // A text as it is, empty if it is none.

@@ -1,5 +1,6 @@
 //! What is wrong with the arguments of a form.
 
+use crate::po::measure::Extent;
 use crate::po::read_text::{Read, directive};
 use crate::po::source_number::{find_name, is_first, is_same_name};
 use format_arguments::{Argument, Name, stands_for};
@@ -15,6 +16,8 @@ pub(crate) struct Compared<'a, 't> {
     pub(crate) plural: &'a Read<'t>,
     // The number, if the rules tell whether a form needs it.
     pub(crate) number: Option<Name<'t>>,
+    // Whether each form has to have all arguments that have no name, as Python's.
+    pub(crate) needs_places: bool,
 }
 
 // The text of an argument, as it is written.
@@ -44,15 +47,27 @@ impl<'a, 't> Compared<'a, 't> {
             None => false,
         }
     }
+
+    // Whether a form of so many numbers has to have an argument. That of the number is the rules'
+    // matter, but for a form of one number.
+    fn is_needed(&self, argument: &Argument<'_>, extent: Extent) -> bool {
+        let is_number = self.is_number(argument);
+        if extent == Extent::Many {
+            return !is_number;
+        }
+        match argument.name {
+            Name::Place(_) => self.needs_places && (extent == Extent::One || !is_number),
+            Name::Word(_) => false,
+        }
+    }
 }
 
-// Appends what is wrong with the arguments of a form: it has to have those of the source, if it is
-// one of many numbers, but for the number, which is the rules' matter. Nothing if all is right.
+// Appends what is wrong with the arguments of a form of so many numbers. Nothing if all is right.
 pub(crate) fn push_mistakes(
     wrong: &mut String,
     compared: &Compared<'_, '_>,
     form: &Read<'_>,
-    is_for_many: bool,
+    extent: Extent,
 ) -> Result<(), AllocError> {
     if let Some(fault) = form.fault {
         wrong.push_str(fault_text(form.text.get(fault).copied()))?;
@@ -63,21 +78,19 @@ pub(crate) fn push_mistakes(
             push_foreign(wrong, compared, form, it)?;
         }
     }
-    if is_for_many {
-        push_all_lacking(wrong, compared, form)?;
-    }
-    Ok(())
+    push_all_lacking(wrong, compared, form, extent)
 }
 
-// Appends which arguments of the source the form lacks.
+// Appends which arguments of the source the form lacks, of those that it has to have.
 fn push_all_lacking(
     wrong: &mut String,
     compared: &Compared<'_, '_>,
     form: &Read<'_>,
+    extent: Extent,
 ) -> Result<(), AllocError> {
     let items = compared.plural.items.as_slice();
     for (index, it) in items.iter().enumerate() {
-        if is_first(items, index, it) {
+        if is_first(items, index, it) && compared.is_needed(it, extent) {
             push_lacking(wrong, compared, form, it)?;
         }
     }
@@ -94,7 +107,7 @@ fn fault_text(byte: Option<u8>) -> &'static str {
     match byte {
         Some(b'{') => "has a { that begins no argument",
         Some(b'}') => "has a } that ends no argument",
-        _ => "has a % that begins no argument",
+        _ => "has a % that begins no argument (the sign itself is %%)",
     }
 }
 
@@ -124,7 +137,7 @@ fn push_lacking(
     form: &Read<'_>,
     argument: &Argument<'_>,
 ) -> Result<(), AllocError> {
-    if compared.is_number(argument) || find_name(form.items.as_slice(), &argument.name).is_some() {
+    if find_name(form.items.as_slice(), &argument.name).is_some() {
         return Ok(());
     }
     let and = joint(wrong.as_str());

@@ -8,7 +8,7 @@ use crate::po::read_text::Read;
 use crate::po::source_number::{count_names, find_name, is_first, is_same_name};
 use crate::po::text_format::TextFormat;
 use crate::pushed::push;
-use format_arguments::{Argument, Name, stands_for};
+use format_arguments::{Argument, Format, Name, stands_for};
 use std::alloc::{AllocError, Global};
 use std::fmt::Write;
 
@@ -31,6 +31,13 @@ impl Texts<'_, '_> {
             }
             _ => false,
         }
+    }
+
+    // Whether each form has to have all arguments that have no name: Python fails where a text hasn't
+    // as many as it is given. If the singular has others, the program gives it others.
+    pub(crate) fn need_places(&self) -> bool {
+        let is_python = matches!(self.format, TextFormat::Flagged(Format::Python));
+        is_python && self.singular.items.len() == self.plural.items.len()
     }
 }
 
