@@ -147,13 +147,44 @@ fn has_word(option: &str) -> bool {
     matches!(option, "--rules" | "--locale" | "--ignore" | "--format")
 }
 
-// Whether a word is spelled as a code.
+// The codes of findings, and then of what is told of a file.
+const CODES: [&str; 31] = [
+    "no-object",
+    "not-a-part",
+    "no-text-list",
+    "no-rules",
+    "missing",
+    "unused",
+    "no-number",
+    "no-text",
+    "not-a-form",
+    "no-pattern",
+    "not-a-category",
+    "stands-twice",
+    "more",
+    "missing-rare",
+    "not-read",
+    "charset",
+    "syntax",
+    "header",
+    "language",
+    "taken-as",
+    "plural-forms",
+    "rules-differ",
+    "indices",
+    "not-translated",
+    "arguments",
+    "number-unclear",
+    "format-unknown",
+    "too-many",
+    "twice",
+    "left-out",
+    "no-messages",
+];
+
+// Whether a word is a code.
 fn is_code(word: &str) -> bool {
-    !word.is_empty()
-        && word
-            .as_bytes()
-            .iter()
-            .all(|it| it.is_ascii_lowercase() || *it == b'-')
+    CODES.iter().any(|it| *it == word)
 }
 
 // What words say.
