@@ -13,7 +13,7 @@ NAMED = re.compile(rb"(Content-Type:[^\"\n]{0,99}charset=)([^\s\\\"]{1,60})")
 # How many bytes plural_forms reads of a file.
 MOST = 4194304
 WIDE = (codecs.BOM_UTF16_LE, codecs.BOM_UTF16_BE)
-# A catalog that has a head alone.
+# A catalog that has a head alone: of it plural_forms notes that it has no messages.
 NO_MESSAGES = b'msgid ""\nmsgstr ""\n'
 
 
