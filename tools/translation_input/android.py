@@ -27,14 +27,10 @@ def android_text(text):
             found.append({"n": "\n", "t": "\t"}.get(part[1], part[1]))
         else:
             found.append(" " if part.isspace() and not is_quoted else part)
-    made = "".join(found)
-    if re.search("[\ud800-\udfff]", made):
-        # The two halves of a character are written as two escapes.
-        pairs = made.encode("utf-16-le", "surrogatepass")
-        made = pairs.decode("utf-16-le", "replace")
-        if made.encode("utf-16-le") != pairs:
-            fault = f"{shown(made)} has a surrogate without its pair, which no text has: correct it"
-    return made, fault
+    # Two escapes may be the halves of one character.
+    joined = "".join(found).encode("utf-16-le", "surrogatepass").decode("utf-16-le", "surrogatepass")
+    made = re.sub("[\ud800-\udfff]", "\ufffd", joined)
+    return made, fault if made == joined else f"{shown(joined)} has a surrogate without its pair, which no text has: correct it"
 
 
 class Item(NamedTuple):
@@ -106,6 +102,8 @@ class Resources:
 
 def is_near(name, known):
     """Tells whether a name is another one but for a letter too many, too few or changed, or two that are swapped."""
+    if abs(len(name) - len(known)) > 1:
+        return False
     front = len(os.path.commonprefix([name, known]))
     one, other = name[front:], known[front:]
     return other in (one, one[1:]) or one == other[1:] or one[1:] == other[1:] or (one[:2] == other[1::-1] and one[2:] == other[2:])
@@ -129,8 +127,8 @@ def items_of_plurals(plurals, key):
     """
     items, faults = {}, []
     for it in sorted(plurals.items, key=lambda it: it.quantity not in CATEGORIES):
-        near = [known for known in CATEGORIES if known not in items and is_near(it.quantity.lower(), known)]
-        meant = it.quantity if it.quantity in CATEGORIES else next(iter(near), None)
+        near = (known for known in CATEGORIES if known not in items and is_near(it.quantity.lower(), known))
+        meant = it.quantity if it.quantity in CATEGORIES else next(near, None)
         fault = fault_of_item(it, meant, items)
         if fault:
             faults.append(Fault(f"{key}: {fault}", it.line))
@@ -173,7 +171,7 @@ def key_of(plurals, more):
 # A folder of resources: the network's country and operator, the language, and the rest, as values-mcc310-mnc004-de-rAT-land. `car` is a
 # device.
 NETWORK, LANGUAGE = r"(?:-mcc[0-9]{3})?(?:-mnc[0-9]{1,3})?", r"b\+([A-Z0-9+]+)|(?!car\b)([A-Z]{2,3})(?:-r([A-Z]{2}|[0-9]{3}))?"
-FOLDER = re.compile(rf"values({NETWORK})(?:-(?:{LANGUAGE}))?((?:-.*)?)", re.IGNORECASE)
+FOLDER = re.compile(rf"values({NETWORK})(?:-(?:{LANGUAGE}))?((?:-.*)?)", re.IGNORECASE | re.ASCII)
 
 
 def locale_of(tag, language, region):
@@ -193,5 +191,5 @@ def tools_locale(attributes):
     """Returns the locale that `tools:locale` of `resources` names, as a qualifier of a folder, pt-rBR, or pt-BR; none if it isn't there."""
     prefix = next((name[6:] for name, value in attributes.items() if name.startswith("xmlns:") and value == TOOLS), None)
     named = attributes.get(f"{prefix}:locale", "")
-    qualifier = re.fullmatch(LANGUAGE, named, re.IGNORECASE)
+    qualifier = re.fullmatch(LANGUAGE, named, re.IGNORECASE | re.ASCII)
     return locale_of(*qualifier.groups()) if qualifier else named

@@ -13,6 +13,8 @@ NAMED = re.compile(rb"(Content-Type:[^\"\n]{0,99}charset=)([^\s\\\"]{1,60})")
 # How many bytes plural_forms reads of a file.
 MOST = 4194304
 WIDE = (codecs.BOM_UTF16_LE, codecs.BOM_UTF16_BE)
+# How many faults of the items of a `plurals` are told one by one.
+MOST_TOLD = 10
 # A catalog that has a head alone: of it plural_forms notes that it has no messages.
 NO_MESSAGES = b'msgid ""\nmsgstr ""\n'
 
@@ -47,7 +49,10 @@ def told_plurals(plurals, more):
         return None, [notice(plurals.line, "syntax", str(fault), left_out=1)]
     items, faults = items_of_plurals(plurals, shown(key))
     forms, wrong = texts_of_items(items, shown(key))
-    notices = [notice(it.line, "syntax", str(it)) for it in sorted(faults + wrong, key=lambda it: it.line)]
+    faults = sorted(faults + wrong, key=lambda it: it.line)
+    notices = [notice(it.line, "syntax", str(it)) for it in faults[:MOST_TOLD]]
+    if len(faults) > MOST_TOLD:
+        notices.append(notice(plurals.line, "syntax", f"{shown(key)}: further items that are wrong: {len(faults) - MOST_TOLD}"))
     if items and not forms:
         return None, [*notices, notice(plurals.line, "left-out", f"{shown(key)} refers to another resource: left out", "note", 1)]
     return {"key": key, "line": plurals.line, "type": "cardinal", "forms": forms}, notices
