@@ -9,8 +9,11 @@ needs_input() {
     for word; do
         [ -f "$word" ] || continue
         case $word in
-        *.xml) return 0 ;;
-        *.po | *.pot) LC_ALL=C grep -aqiE -m1 'charset=(utf-?8|charset|us-ascii|ascii)' "$word" || return 0 ;;
+        *.[xX][mM][lL]) return 0 ;;
+        *.[pP][oO] | *.[pP][oO][tT])
+            # The first line alone is the header's, others are of messages.
+            LC_ALL=C grep -ai -m1 '^"Content-Type:' -- "$word" | LC_ALL=C grep -aqiE 'charset=(utf-?8|charset|us-ascii|ascii)' || return 0
+            ;;
         esac
     done
     return 1

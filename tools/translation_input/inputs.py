@@ -3,7 +3,7 @@ import codecs
 import json
 import re
 
-from .android import Resources, is_reference, key_of, locale_of_folder, texts_of_plurals
+from .android import Resources, items_of_plurals, key_of, locale_of_folder, texts_of_items
 from .lines import Fault, shown
 
 # The charsets other than UTF-8 that a catalog can have: those in which ASCII's bytes are ASCII's characters, or nearly.
@@ -13,6 +13,10 @@ NAMED = re.compile(rb"(Content-Type:[^\"\n]{0,99}charset=)([^\s\\\"]{1,60})")
 # How many bytes plural_forms reads of a file.
 MOST = 4194304
 WIDE = (codecs.BOM_UTF16_LE, codecs.BOM_UTF16_BE)
+# How many faults of the items of a `plurals` are told one by one.
+MOST_TOLD = 10
+# A catalog that has a head alone: of it plural_forms notes that it has no messages.
+NO_MESSAGES = b'msgid ""\nmsgstr ""\n'
 
 
 def data_of_file(path):
@@ -38,35 +42,36 @@ def json_text(told):
 
 
 def told_plurals(plurals, more):
-    """Returns a message; raises a fault if it can't be read."""
-    key = key_of(plurals, more)
-    texts = texts_of_plurals(plurals, shown(key))
-    if is_reference(texts):
-        return None
-    lines = {it.quantity: it.line for it in plurals.items}
-    forms = {name: {"line": lines[name], "text": text} for name, text in texts.items()}
-    return {"key": key, "line": plurals.line, "type": "cardinal", "forms": forms}
+    """Returns a message, none if it can't be read or each text is that of another resource; and what is wrong with it."""
+    try:
+        key = key_of(plurals, more)
+    except Fault as fault:
+        return None, [notice(plurals.line, "syntax", str(fault), left_out=1)]
+    items, faults = items_of_plurals(plurals, shown(key))
+    forms, wrong = texts_of_items(items, shown(key))
+    faults = sorted(faults + wrong, key=lambda it: it.line)
+    notices = [notice(it.line, "syntax", str(it)) for it in faults[:MOST_TOLD]]
+    if len(faults) > MOST_TOLD:
+        notices.append(notice(plurals.line, "syntax", f"{shown(key)}: further items that are wrong: {len(faults) - MOST_TOLD}"))
+    if items and not forms:
+        return None, [*notices, notice(plurals.line, "left-out", f"{shown(key)} refers to another resource: left out", "note", 1)]
+    return {"key": key, "line": plurals.line, "type": "cardinal", "forms": forms}, notices
 
 
 def told_android(data, path):
     """Returns the JSON text that tells the messages of an Android file, with their lines, and what is wrong with it."""
     resources = Resources(data)
     locale, more = locale_of_folder(path)
-    messages, notices = [], []
-    if resources.fault:
-        notices.append(notice(resources.fault[0], "syntax", resources.fault[1]))
-    elif resources.root != "resources":
-        notices.append(notice(None, "not-read", "it is no file of messages: name a file of gettext, Android, i18next or ARB"))
-    for it in resources.found:
-        try:
-            message = told_plurals(it, more)
-        except Fault as fault:
-            notices.append(notice(fault.line or it.line, "syntax", str(fault), left_out=1))
-            continue
-        if message is None:
-            notices.append(notice(it.line, "left-out", f"{shown(key_of(it, more))} refers to another resource: left out", "note", 1))
-        else:
-            messages.append(message)
+    locale = locale or resources.locale
+    told = [told_plurals(it, more) for it in resources.found]
+    notices = [it for _, its in told for it in its]
+    if resources.root not in (None, "resources"):
+        told, notices = [], [notice(None, "not-read", "it is no file of messages: name a file of gettext, Android, i18next or ARB")]
+    elif resources.fault:
+        notices.insert(0, notice(resources.fault[0], "syntax", resources.fault[1]))
+    elif not told:
+        return told_catalog(NO_MESSAGES, path)
+    messages = [message for message, _ in told if message]
     return json_text({"@@file": path, **({"@@locale": locale} if locale else {}), "messages": messages, "notices": notices})
 
 
@@ -97,10 +102,15 @@ def told_catalog(text, path):
     return json_text({"@@file": path, "catalog": text.decode("utf-8", "replace")})
 
 
-def input_of(data, path):
-    """Returns what plural_forms reads of the bytes of a file: the same bytes, where it reads these."""
+def told_file(data, path):
+    """Returns the JSON text that tells a file which plural_forms doesn't read; none of a file that it reads, and of JSON."""
     text = in_utf8(data)
     first = (text if data.startswith(WIDE) else data.removeprefix(codecs.BOM_UTF8)).lstrip()[:1]
     if first == b"<":
         return told_android(data, path)
-    return text if text is data or first == b"{" else told_catalog(text, path)
+    return None if text is data or first == b"{" else told_catalog(text, path)
+
+
+def input_of(data, path):
+    """Returns what plural_forms reads of the bytes of a file: the same bytes, where it reads these."""
+    return told_file(data, path) or (in_utf8(data) if data.startswith(WIDE) else data)
