@@ -240,16 +240,15 @@ fn have_branch(
     number: &CompactDecimal,
 ) -> Result<bool, AllocError> {
     let mut has_all = false;
-    let mut left = parts;
-    while let [part, rest @ ..] = left {
-        left = rest;
+    for (index, part) in parts.iter().enumerate() {
         let Piece::Begin(kind, other, offset) = part.piece else {
             continue;
         };
         if kind == ArgumentKind::Select || other != name {
             continue;
         }
-        if offset.is_some() || !has_branch_of_value(alloc, number, part.depth, rest)? {
+        let behind = parts.get(index.saturating_add(1)..).unwrap_or(&[]);
+        if offset.is_some() || !has_branch_of_value(alloc, number, part.depth, behind)? {
             return Ok(false);
         }
         has_all = true;
