@@ -184,7 +184,12 @@ const CODES: [&str; 31] = [
 
 // Whether a word is a code.
 fn is_code(word: &str) -> bool {
-    CODES.iter().any(|it| *it == word)
+    for code in CODES {
+        if code == word {
+            return true;
+        }
+    }
+    false
 }
 
 // What words say.
