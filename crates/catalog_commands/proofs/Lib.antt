@@ -1,3 +1,4 @@
 mod LocaleParts
 mod PatternTexts
 mod WordArguments
+mod WordsGiven

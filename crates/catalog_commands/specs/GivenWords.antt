@@ -2,7 +2,7 @@
 -- takes the category of this argument, and a text elsewhere.
 --     AreGivenBy words given      the names and values that words NAME=VALUE give
 --     AreArgumentsOf parts words arguments
-use Rattle.std.specs.Prelude.{◌≡◌, ◌≢◌, ◌⊎◌, ◌==◌, ℕ, List, [], ◌∷◌, map, length, nat_lt, Option, Some, None, is_some, slice_get, if◌then◌else◌, ◌&&◌}
+use Rattle.std.specs.Prelude.{◌≡◌, ◌≢◌, ◌⊎◌, ◌==◌, ℕ, List, [], ◌∷◌, map, length, nat_lt, Option, Some, None, is_some, IsTrue, slice_get, if◌then◌else◌, ◌&&◌}
 use Rattle.std.specs.List.{after_first, before_first, position_or_len}
 use Rattle.message_format.specs.FormatArguments.{Argument, Number, Text}
 use Rattle.message_pattern.specs.PatternParts.{Part, PatternPiece, Begin}
@@ -31,6 +31,11 @@ AreGivenBy words given = map given_of words ≡ map Some given
 abbrev pub first_ungiven : List (List ℕ) → Option (List ℕ)
 first_ungiven [] = None
 first_ungiven (word ∷ words) = if is_some (given_of word) then first_ungiven words else Some word
+
+-- the first of the words gives one
+abbrev pub BeginWithGiven : List (List ℕ) → Type 0
+BeginWithGiven [] = ⊥
+BeginWithGiven (word ∷ words) = IsTrue (is_some (given_of word))
 
 -- the beginning of a plural or an ordinal of the argument with a name
 abbrev pub IsNumber : PatternPiece → List ℕ → Type 0

@@ -1,9 +1,10 @@
 //! Packs the patterns of a document.
 
-ghost use Rattle.std.specs.Prelude.{◌≡◌, IfErr, IfOk, map};
+ghost use Rattle.std.specs.Prelude.{◌≡◌, ◌↔◌, Err, IfErr, IfOk, None, map};
 ghost use Rattle.message_catalog.specs.MessagePacking.{PacksTo, TellsFault, texts_view};
 ghost use Rattle.catalog_commands.specs.DocumentPatterns.{IsPacked, TellsPatternsFault};
 ghost use Rattle.catalog_commands.specs.Inner.KeyedViews.{TellsPacking, keyed_view};
+ghost use Rattle.serde_json.specs.Find.{as_object};
 ghost use Rattle.serde_json.specs.View.{view};
 
 use crate::fault::PatternsFault;
@@ -17,10 +18,11 @@ use std::alloc::{AllocError, Global};
 /// The errors, in the order in which they are looked for: it is no object
 /// ([`PatternsFault::NoObject`]); the first value that isn't a text ([`PatternsFault::NoText`]);
 /// the first text that isn't a pattern, or can't be packed ([`PatternsFault::Message`]); a catalogue
-/// that is too long ([`PatternsFault::Catalog`]). Each may be out of memory instead.
+/// that is too long ([`PatternsFault::Catalog`]). Each but the first may be out of memory instead.
 pub fn pack_patterns<'a>(alloc: Global, patterns: &'a Value) -> Result<Vec<u8>, PatternsFault<'a>>
     ensures packed { IfOk result (λ bytes. IsPacked (view patterns.now) bytes.items) }
     ensures refused { IfErr result (TellsPatternsFault (view patterns.now)) }
+    ensures no_object { (result ≡ Err PatternsFault.NoObject) ↔ (as_object (view patterns.now) ≡ None) }
 {
     let Some(members) = patterns.as_object() else {
         return Err(PatternsFault::NoObject);

@@ -1,6 +1,7 @@
 -- The answer to bytes, or the reason why there is none.
 use Rattle.std.proofs.Common.{◌≡◌, ℕ, Bool, List, Option, Some, None, Result, Ok, Err, refl, sym, ◌∙◌, ap, subst}
 use Rattle.std.specs.Io.KnownBytes.{Keeps}
+use Rattle.std.specs.Prelude.{◌≢◌}
 use Rattle.document_report.specs.CheckAnswer.{Answer, IsCheckAnswered, check_origin}
 use Rattle.document_report.specs.declared.error.CheckError.{CheckError}
 use Rattle.document_report.specs.declared.error.CheckError.TheVariants.{Usage, Read, TooLong, Json, Float, NoObject, Write, Memory}
@@ -46,3 +47,11 @@ of_fault IsAnswer known (NoObject at) h = (h, kept known)
 pub nothing_written : (IsAnswer : Result Answer CheckError → Type 0) (known : Option (List ℕ)) (e : CheckError) (r : Result Verdict CheckError)
     → r ≡ Err e → IsFaultOf (check_origin e) (IsAnswer (Err e)) → IsCheckAnswered IsAnswer known known r
 nothing_written IsAnswer known e r is h = rw is (of_fault IsAnswer known e h)
+
+-- a fault that no reader gave isn't that one failed
+pub not_read : (IsAnswer : Result Answer CheckError → Type 0) (e : CheckError) (r : Result Verdict CheckError) → r ≡ Err e
+    → IsFaultOf (check_origin e) (IsAnswer (Err e)) → r ≢ Err Read
+not_read IsAnswer e r is h failed =
+    let same : e ≡ Read = cc in
+    let P : CheckError → Type 0 = λ x. IsFaultOf (check_origin x) (IsAnswer (Err x)) in
+    subst P same h

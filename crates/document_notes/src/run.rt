@@ -1,6 +1,6 @@
 //! Writes the report of a document with its notes.
 
-ghost use Rattle.std.specs.Prelude.{◌≡◌, IfOk};
+ghost use Rattle.std.specs.Prelude.{◌≡◌, ◌≢◌, Err, IfErr, IfOk};
 ghost use Rattle.document_notes.specs.DocumentNotes.{AreNotesOfBytes};
 ghost use Rattle.document_notes.specs.NotedAnswer.{AnswersNoted, IsNotedAnswer, noted_verdict, noted_view};
 ghost use Rattle.document_report.specs.CheckAnswer.{IsCheckAnswered, check_origin};
@@ -37,8 +37,10 @@ pub fn write_noted<P: NotedPrinter, W: Write>(
     bytes: &[u8],
     writer: &mut W,
 ) -> Result<Verdict, CheckError>
-    ensures { IsCheckAnswered (AnswersNoted (P.text_of printer.now) is_strict bytes.now (document_of_bytes bytes.now))
+    ensures answers { IsCheckAnswered (AnswersNoted (P.text_of printer.now) is_strict bytes.now (document_of_bytes bytes.now))
         (W.contents writer.old) (W.contents writer.new) result }
+    ensures reads_nothing { result ≢ Err CheckError.Read }
+    ensures writes_nothing { IfErr result (λ e. e ≢ CheckError.Write → writer.new ≡ writer.old) }
 {
     let noted = noted_of_bytes(alloc, printer, is_strict, bytes)?;
     match write_output(writer, noted.text.as_str().as_bytes()) {

@@ -1,7 +1,7 @@
 -- The code of each cause of a finding, a word that stays the same, and what formats call a severity.
 --     code_of cause      the code of a cause
 --     code_name code      its word
-use Rattle.std.specs.Prelude.{ℕ, suc, List, [], ◌∷◌, bytes_eq, codes, if◌then◌else◌, map}
+use Rattle.std.specs.Prelude.{◌≡◌, ℕ, suc, List, [], ◌∷◌, Some, bytes_eq, codes, if◌then◌else◌, map, slice_get}
 use Rattle.message_report.specs.declared.branch_fault.BranchFault.{BranchFault}
 use Rattle.message_report.specs.declared.branch_fault.BranchFault.TheVariants as branch
 use Rattle.message_report.specs.declared.cause.Cause.{Cause}
@@ -89,6 +89,10 @@ place_among name (first ∷ names) = if bytes_eq first name then 0 else suc (pla
 -- its place in that list
 abbrev pub code_place : Code → ℕ
 code_place code = place_among (code_name code) (map code_name all_codes)
+
+-- the place of a code in the list is that of its rule
+abbrev pub PlacesPickRules : Type 0
+PlacesPickRules = (code : Code) → slice_get all_codes (code_place code) ≡ Some code
 
 -- what JSON calls a severity
 abbrev pub severity_word : Severity → List ℕ

@@ -67,7 +67,7 @@ BranchFits (branch.NoHash category first second) = Fits64 first × Fits64 second
 BranchFits (branch.Missing category first second) = Fits64 first × Fits64If second
 BranchFits (branch.MissingRare category first second) = IsKeptIf first × IsKeptIf second
 
--- its numbers and samples, as the code's types hold them
+-- its numbers fit 64 bits, and its samples are as they are kept
 abbrev pub CauseFits : Cause → Type 0
 CauseFits cause.NoObject = Unit {0}
 CauseFits cause.NotAPart = Unit {0}

@@ -16,7 +16,7 @@ pub record IsReadAgain (l : Located) : Type 0 where
   pub line : Fits64If l.line
   pub told : ToldHasTexts l.told
 
--- as the code's type holds them
+-- they fit 64 bits
 pub record TotalsFit (t : Totals) : Type 0 where
   pub messages : Fits64 t.messages
   pub forms : Fits64 t.forms

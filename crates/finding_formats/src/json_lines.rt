@@ -1,6 +1,6 @@
 //! Lines of JSON.
 
-ghost use Rattle.std.specs.Prelude.{◌≡◌, ◌++◌, false, IfOk, OnOk, string_bytes};
+ghost use Rattle.std.specs.Prelude.{◌≡◌, ◌++◌, false, IfOk, OnErr, OnOk, string_bytes};
 ghost use Rattle.finding_formats.specs.FindingObjects.{finding_data};
 ghost use Rattle.finding_formats.specs.JsonLines.{json_line, json_lines};
 ghost use Rattle.message_report.specs.MessageFindings.{finding_view};
@@ -47,11 +47,14 @@ impl<'a> LinePrinter<Finding<'a>> for FindingObjects {
     }
 }
 
-/// Appends a value without floats, and a newline. It allocates; the only error is out of memory.
+/// Appends a value without floats, and a newline. It allocates; the only error is out of memory,
+/// and then nothing is appended.
 pub fn push_value(alloc: Global, text: &mut String, value: &Value) -> Result<(), AllocError>
     requires { has_float (view value.now) ≡ false }
-    ensures { OnOk result (string_bytes text.new ≡ string_bytes text.old ++ json_line (view value.now)) }
+    ensures ok { OnOk result (string_bytes text.new ≡ string_bytes text.old ++ json_line (view value.now)) }
+    ensures err { OnErr result (string_bytes text.new ≡ string_bytes text.old) }
 {
-    text.push_str(value.to_string(alloc)?.as_str())?;
-    text.push_str("\n")
+    let mut line = value.to_string(alloc)?;
+    line.push_str("\n")?;
+    text.push_str(line.as_str())
 }

@@ -1,5 +1,6 @@
-//! Laws of lines of JSON: each is the contract of a function.
+//! Laws of lines of JSON, and of the rules of a log: each is the contract of a function.
 
+ghost use Rattle.finding_formats.specs.FindingCodes.{PlacesPickRules};
 ghost use Rattle.finding_formats.specs.JsonLineLaws.{LinesTellFindings};
 ghost use Rattle.finding_formats.specs.LocatedLineLaws.{LinesTellLocated};
 
@@ -15,4 +16,10 @@ pub fn lines_tell_findings()
 /// texts, as above.
 pub fn lines_tell_located()
     ensures { LinesTellLocated }
+{}
+
+/// The place of a code in the list of rules is that of its rule: `ruleIndex` picks the rule that
+/// `ruleId` names.
+pub fn places_pick_rules()
+    ensures { PlacesPickRules }
 {}

@@ -1,5 +1,6 @@
 -- The loop over the bytes of an expression.
 use Rattle.std.proofs.Common.{◌≡◌, ℕ, List, [], ◌∷◌, ◌++◌, length, true, false, Result, Ok, Err, refl, sym, ap, ◌∙◌, subst, append_assoc}
+use Rattle.std.proofs.lemmas.List.{append-nil}
 use Rattle.gettext_plural.specs.declared.error.FaultKind.{FaultKind}
 use Rattle.gettext_plural.specs.declared.error.ReadError.{ReadError}
 use Rattle.gettext_plural.specs.declared.error.ReadError.TheVariants as read
@@ -7,42 +8,45 @@ use Rattle.gettext_plural.specs.declared.expression.Expression.{Expression}
 use Rattle.gettext_plural.specs.declared.token.Token.{Token}
 use Rattle.gettext_plural.specs.PluralExpressions.{Formula}
 use Rattle.gettext_plural.specs.PluralViews.{formula_view}
-use Rattle.gettext_plural.specs.PluralTokens.{AreTokensOf, at_end, at_blank, at_token, front, is_blank, is_end}
+use Rattle.gettext_plural.specs.PluralTokens.{at_end, at_token, Passes, up_to_end, up_to_token, past_blank, past_token, front, is_blank, is_end}
 use Rattle.gettext_plural.specs.Inner.FormulaViews.{HasTaken, IsFaultOr, IsFinish, IsReading, IsStopped, Reads, Stops}
 use Rattle.gettext_plural.specs.Inner.PluralMachine.{Stage, expects, step, finish, ended, proceed, run}
-use Rattle.gettext_plural.proofs.TokenCuts.{front_ends, tokens_exist}
+use Rattle.gettext_plural.proofs.TokenCuts.{passed_cut, tokens_exist}
 
 pub none_taken : (text : List ℕ) → HasTaken text (expects []) text
-none_taken text = record { taken = []; parts = refl; goes_on = λ ts cut. record { all = ts; cut = cut; same = refl } }
+none_taken text = record { tokens = []; passes = λ more last passed. passed; leads = λ more. refl }
 
 pub blank_taken : (text : List ℕ) (s : Stage) (b : ℕ) (rest : List ℕ) → is_end (b ∷ rest) ≡ false → is_blank b ≡ true
     → HasTaken text s (b ∷ rest) → HasTaken text s rest
 blank_taken text s b rest not_last white h = record {
-  taken = h.taken ++ b ∷ [];
-  parts = h.parts ∙ sym (append_assoc h.taken (b ∷ []) rest);
-  goes_on = λ ts cut. h.goes_on ts (at_blank b rest ts not_last white cut);
+  tokens = h.tokens;
+  passes = λ more last passed. h.passes more last (past_blank b rest last more not_last white passed);
+  leads = h.leads;
 }
 
 pub token_taken : (text : List ℕ) (s next : Stage) (b : ℕ) (rest after : List ℕ) (t : Token) → is_end (b ∷ rest) ≡ false
     → is_blank b ≡ false → t ≡ (front b rest).0
     → after ≡ (front b rest).1 → step s t ≡ Ok next → HasTaken text s (b ∷ rest) → HasTaken text next after
 unfolding run
-token_taken text s next b rest after t not_last black first behind does h =
-    let f = front_ends b rest in
-    let whole : rest ≡ f.0 ++ after = f.1 ∙ ap (λ x. f.0 ++ x) (sym behind) in
-    record {
-      taken = h.taken ++ (b ∷ f.0);
-      parts = h.parts ∙ ap (λ x. h.taken ++ b ∷ x) whole ∙ sym (append_assoc h.taken (b ∷ f.0) after);
-      goes_on = λ ts cut.
-          let P : List ℕ → Type 0 = λ x. AreTokensOf x ts in
-          let Q : Token → Type 0 = λ x. step s x ≡ Ok next in
-          let k = h.goes_on ((front b rest).0 ∷ ts) (at_token b rest ts not_last black (subst P behind cut)) in
-          record {
-            all = k.all;
-            cut = k.cut;
-            same = k.same ∙ ap (λ r. proceed ((front b rest).0 ∷ ts) r (λ n. run n ts)) (subst Q first does);
-          };
-    }
+token_taken text s next b rest after t not_last black first behind does h = record {
+  tokens = h.tokens ++ (front b rest).0 ∷ [];
+  passes = λ more last passed.
+      let P : List ℕ → Type 0 = λ x. Passes x more last in
+      let R : List Token → Type 0 = λ ts. Passes text ts last in
+      subst R (sym (append_assoc h.tokens ((front b rest).0 ∷ []) more))
+      (h.passes ((front b rest).0 ∷ more) last (past_token b rest last more not_last black (subst P behind passed)));
+  leads = λ more.
+      let Q : Token → Type 0 = λ x. step s x ≡ Ok next in
+      ap (run (expects [])) (append_assoc h.tokens ((front b rest).0 ∷ []) more)
+      ∙ h.leads ((front b rest).0 ∷ more)
+      ∙ ap (λ r. proceed ((front b rest).0 ∷ more) r (λ n. run n more)) (subst Q first does);
+}
+
+-- the tokens are passed up to the rest, if no blank is there
+passed_up : (text : List ℕ) (s : Stage) (rest : List ℕ) (h : HasTaken text s rest) → Passes rest [] rest → Passes text h.tokens rest
+passed_up text s rest h here =
+    let P : List Token → Type 0 = λ ts. Passes text ts rest in
+    subst P (append-nil h.tokens) (h.passes [] rest here)
 
 -- a token at which the reader stops
 pub token_stops : (text : List ℕ) (s : Stage) (b : ℕ) (rest : List ℕ) (t : Token) (kind : FaultKind) → is_end (b ∷ rest) ≡ false
@@ -51,44 +55,36 @@ pub token_stops : (text : List ℕ) (s : Stage) (b : ℕ) (rest : List ℕ) (t :
 unfolding run
 token_stops text s b rest t kind not_last black first does h =
     let ts = tokens_exist (front b rest).1 in
-    let there = at_token b rest ts.0 not_last black ts.1 in
-    let k = h.goes_on ((front b rest).0 ∷ ts.0) there in
     let Q : Token → Type 0 = λ x. step s x ≡ Err kind in
     record {
-      all = k.all;
+      before = h.tokens;
       more = (front b rest).0 ∷ ts.0;
-      taken = h.taken;
       rest = b ∷ rest;
-      cut = k.cut;
-      parts = h.parts;
+      passed = passed_up text s (b ∷ rest) h (up_to_token b rest not_last black);
       remains = refl;
-      there = there;
-      stops = k.same ∙ ap (λ r. proceed ((front b rest).0 ∷ ts.0) r (λ n. run n ts.0)) (subst Q first does);
+      there = at_token b rest ts.0 not_last black ts.1;
+      stops = h.leads ((front b rest).0 ∷ ts.0) ∙ ap (λ r. proceed ((front b rest).0 ∷ ts.0) r (λ n. run n ts.0)) (subst Q first does);
     }
 
 pub end_stops : (text : List ℕ) (s : Stage) (rest : List ℕ) (kind : FaultKind) → is_end rest ≡ true → finish s ≡ Err kind
     → HasTaken text s rest → Stops text kind (length rest)
 unfolding run
-end_stops text s rest kind is_last does h =
-    let k = h.goes_on [] (at_end rest is_last) in
-    record {
-      all = k.all;
-      more = [];
-      taken = h.taken;
-      rest = rest;
-      cut = k.cut;
-      parts = h.parts;
-      remains = refl;
-      there = at_end rest is_last;
-      stops = k.same ∙ ap ended does;
-    }
+end_stops text s rest kind is_last does h = record {
+  before = h.tokens;
+  more = [];
+  rest = rest;
+  passed = passed_up text s rest h (up_to_end rest is_last);
+  remains = refl;
+  there = at_end rest is_last;
+  stops = h.leads [] ∙ ap ended does;
+}
 
 pub end_reads : (text : List ℕ) (s : Stage) (rest : List ℕ) (e : Formula) → is_end rest ≡ true → finish s ≡ Ok e → HasTaken text s rest
     → Reads text e
 unfolding run
 end_reads text s rest e is_last does h =
-    let k = h.goes_on [] (at_end rest is_last) in
-    (k.all, k.cut, k.same ∙ ap ended does)
+    let passed = passed_up text s rest h (up_to_end rest is_last) in
+    (h.tokens ++ [], passed_cut text h.tokens rest [] passed (at_end rest is_last), h.leads [] ∙ ap ended does)
 
 -- an error of a token is a fault where the text stops, or out of memory
 pub error_stops : (text : List ℕ) (s : Stage) (b : ℕ) (rest : List ℕ) (t : Token) (n : ℕ) (e : ReadError) → is_end (b ∷ rest) ≡ false

@@ -1,7 +1,7 @@
 -- Each text has its tokens, and only these.
-use Rattle.std.proofs.Common.{◌≡◌, ◌⊎◌, ℕ, zero, suc, ◌-◌, ◌≤◌, List, [], ◌∷◌, ◌++◌, length, Bool, true, false, cond, nat_eq, refl, sym, ap, ◌∙◌, subst, inl, inr, ⊎_elim, arith, append_assoc, length-append}
+use Rattle.std.proofs.Common.{◌≡◌, ◌⊎◌, ℕ, zero, suc, ◌-◌, ◌≤◌, List, [], ◌∷◌, ◌++◌, length, Bool, true, false, cond, nat_eq, refl, sym, ap, ◌∙◌, subst, inl, inr, ⊎_elim, arith, length-append}
 use Rattle.gettext_plural.specs.declared.token.Token.{Token}
-use Rattle.gettext_plural.specs.PluralTokens.{AreTokensOf, at_end, at_blank, at_token, Mark, alone, paired, behind_digits, front, is_blank, is_digit, is_end, mark_front, mark_of, marks, number_token, number_with}
+use Rattle.gettext_plural.specs.PluralTokens.{AreTokensOf, at_end, at_blank, at_token, Passes, up_to_end, up_to_token, past_blank, past_token, Mark, alone, paired, behind_digits, front, is_blank, is_digit, is_end, mark_front, mark_of, marks, number_token, number_with}
 
 told : (b : Bool) → (b ≡ true) ⊎ (b ≡ false)
 told true = inl refl
@@ -31,7 +31,7 @@ mark_ends (alone t) s = ([], refl)
 mark_ends (paired c long short) [] = ([], refl)
 mark_ends (paired c long short) (b ∷ s) = either_front (nat_eq b c) (b ∷ s) (long, s) (short, b ∷ s) (b ∷ [], refl) ([], refl)
 
-pub front_ends : (b : ℕ) (s : List ℕ) → IsBehind s (front b s).1
+front_ends : (b : ℕ) (s : List ℕ) → IsBehind s (front b s).1
 front_ends b s =
     either_front (is_digit b) s (number_token (number_with (b - 48) s), behind_digits s) (mark_front (mark_of b marks) s)
     (digits_end s) (mark_ends (mark_of b marks) s)
@@ -101,29 +101,95 @@ one_cut s ts us (at_token b r vs not_last black more) k =
     let f = first_token b r (b ∷ r) us refl not_last black k in
     ap (λ x. (front b r).0 ∷ x) (one_cut (front b r).1 vs f.rest more f.there) ∙ sym f.is
 
--- ---- The bytes from a token on
+-- ---- The first tokens, and what follows them
 
-pub record TokensFrom (s : List ℕ) (more : List Token) : Type 0 where
-  pub taken : List ℕ
+-- the tokens of what follows come behind them
+pub passed_cut : (s : List ℕ) (ts : List Token) (rest : List ℕ) (more : List Token) → Passes s ts rest → AreTokensOf rest more
+    → AreTokensOf s (ts ++ more)
+passed_cut s ts rest more (up_to_end r is_last) k = k
+passed_cut s ts rest more (up_to_token b r not_last black) k = k
+passed_cut s ts rest more (past_blank b r x us not_last white p) k = at_blank b r (us ++ more) not_last white (passed_cut r us x more p k)
+passed_cut s ts rest more (past_token b r x us not_last black p) k =
+    at_token b r (us ++ more) not_last black (passed_cut (front b r).1 us x more p k)
+
+-- the first of all tokens are passed
+pub record PassedTo (s : List ℕ) (before more : List Token) : Type 0 where
   pub rest : List ℕ
-  pub parts : s ≡ taken ++ rest
+  pub passed : Passes s before rest
   pub there : AreTokensOf rest more
 
-pub tokens_from : (s : List ℕ) (all before more : List Token) → AreTokensOf s all → all ≡ before ++ more → TokensFrom s more
-tokens_from s all [] more k is =
+blanks_passed : (s : List ℕ) (more : List Token) → AreTokensOf s more → PassedTo s [] more
+blanks_passed s more (at_end r is_last) = record { rest = r; passed = up_to_end r is_last; there = at_end r is_last }
+blanks_passed s more (at_blank b r us not_last white k) =
+    let h = blanks_passed r us k in
+    record { rest = h.rest; passed = past_blank b r h.rest [] not_last white h.passed; there = h.there }
+blanks_passed s more (at_token b r us not_last black k) =
+    record { rest = b ∷ r; passed = up_to_token b r not_last black; there = at_token b r us not_last black k }
+
+pub passed_to : (s : List ℕ) (all before more : List Token) → AreTokensOf s all → all ≡ before ++ more → PassedTo s before more
+passed_to s all [] more k is =
     let P : List Token → Type 0 = λ ts. AreTokensOf s ts in
-    record { taken = []; rest = s; parts = refl; there = subst P is k }
-tokens_from s all (t ∷ before) more (at_end r is_last) is = absurd cc
-tokens_from s all (t ∷ before) more (at_blank b r us not_last white k) is =
-    let h = tokens_from r us (t ∷ before) more k is in
-    record { taken = b ∷ h.taken; rest = h.rest; parts = ap (λ x. b ∷ x) h.parts; there = h.there }
-tokens_from s all (t ∷ before) more (at_token b r us not_last black k) is =
+    blanks_passed s more (subst P is k)
+passed_to s all (t ∷ before) more (at_end r is_last) is = absurd cc
+passed_to s all (t ∷ before) more (at_blank b r us not_last white k) is =
+    let h = passed_to r us (t ∷ before) more k is in
+    record { rest = h.rest; passed = past_blank b r h.rest (t ∷ before) not_last white h.passed; there = h.there }
+passed_to s all (t ∷ before) more (at_token b r us not_last black k) is =
+    let first : (front b r).0 ≡ t = cc in
     let tail : us ≡ before ++ more = cc in
-    let h = tokens_from (front b r).1 us before more k tail in
-    let f = front_ends b r in
-    record {
-      taken = b ∷ (f.0 ++ h.taken);
-      rest = h.rest;
-      parts = ap (λ x. b ∷ x) (f.1 ∙ ap (λ x. f.0 ++ x) h.parts ∙ sym (append_assoc f.0 h.taken h.rest));
-      there = h.there;
-    }
+    let h = passed_to (front b r).1 us before more k tail in
+    let P : Token → Type 0 = λ x. Passes (b ∷ r) (x ∷ before) h.rest in
+    record { rest = h.rest; passed = subst P first (past_token b r h.rest before not_last black h.passed); there = h.there }
+
+-- ---- One text follows them
+
+-- no tokens are passed where no blank is
+none_passed : (s : List ℕ) (ts : List Token) (rest : List ℕ) → ts ≡ []
+    → ((b : ℕ) (r : List ℕ) → s ≡ b ∷ r → is_end (b ∷ r) ≡ false → is_blank b ≡ true → ⊥) → Passes s ts rest → rest ≡ s
+none_passed s ts rest none stays (up_to_end r is_last) = refl
+none_passed s ts rest none stays (up_to_token b r not_last black) = refl
+none_passed s ts rest none stays (past_blank b r x us not_last white p) = absurd (stays b r refl not_last white)
+none_passed s ts rest none stays (past_token b r x us not_last black p) = absurd cc
+
+behind_one_blank : (b : ℕ) (s x : List ℕ) (ts : List Token) (rest : List ℕ) → x ≡ b ∷ s → is_end (b ∷ s) ≡ false → is_blank b ≡ true
+    → Passes x ts rest → Passes s ts rest
+behind_one_blank b s x ts rest is not_last white (up_to_end r e) = let same = ap is_end is in absurd cc
+behind_one_blank b s x ts rest is not_last white (up_to_token a r e black) =
+    let same : a ≡ b = cc in
+    let clash = ap is_blank same in
+    absurd cc
+behind_one_blank b s x ts rest is not_last white (past_blank a r y us e w p) =
+    let same : r ≡ s = cc in
+    let P : List ℕ → Type 0 = λ z. Passes z us y in
+    subst P same p
+behind_one_blank b s x ts rest is not_last white (past_token a r y us e black p) =
+    let same : a ≡ b = cc in
+    let clash = ap is_blank same in
+    absurd cc
+
+behind_one_token : (b : ℕ) (s x : List ℕ) (ts us : List Token) (rest : List ℕ) → x ≡ b ∷ s → ts ≡ (front b s).0 ∷ us
+    → is_end (b ∷ s) ≡ false → is_blank b ≡ false → Passes x ts rest → Passes (front b s).1 us rest
+behind_one_token b s x ts us rest is first not_last black (up_to_end r e) = absurd cc
+behind_one_token b s x ts us rest is first not_last black (up_to_token a r e w) = absurd cc
+behind_one_token b s x ts us rest is first not_last black (past_blank a r y vs e white p) =
+    let same : a ≡ b = cc in
+    let clash = ap is_blank same in
+    absurd cc
+behind_one_token b s x ts us rest is first not_last black (past_token a r y vs e w p) =
+    let one : a ≡ b = cc in
+    let two : r ≡ s = cc in
+    let tail : vs ≡ us = cc in
+    let both : front a r ≡ front b s = ap (λ z. front z r) one ∙ ap (front b) two in
+    let P : List ℕ → Type 0 = λ z. Passes z us y in
+    let Q : List Token → Type 0 = λ z. Passes (front a r).1 z y in
+    subst P (ap (λ it. it.1) both) (subst Q tail p)
+
+pub one_rest : (s : List ℕ) (ts : List Token) (x y : List ℕ) → Passes s ts x → Passes s ts y → x ≡ y
+one_rest s ts x y (up_to_end r is_last) q =
+    sym (none_passed r [] y refl (λ b t is not_last white. (let same = ap is_end is in cc)) q)
+one_rest s ts x y (up_to_token b r not_last black) q =
+    sym (none_passed (b ∷ r) [] y refl (λ a t is e white. (let same : b ≡ a = cc in let clash = ap is_blank same in cc)) q)
+one_rest s ts x y (past_blank b r z us not_last white p) q =
+    one_rest r us z y p (behind_one_blank b r (b ∷ r) us y refl not_last white q)
+one_rest s ts x y (past_token b r z us not_last black p) q =
+    one_rest (front b r).1 us z y p (behind_one_token b r (b ∷ r) ((front b r).0 ∷ us) us y refl refl not_last black q)

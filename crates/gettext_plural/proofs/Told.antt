@@ -1,6 +1,6 @@
 -- What the reader of whole texts returns is the only answer.
 use Rattle.std.proofs.Common.{◌≡◌, ◌⊎◌, ℕ, ◌-◌, ◌<◌, ◌≤◌, List, [], ◌∷◌, ◌++◌, length, Result, Ok, Err, refl, sym, ap, ◌∙◌, subst, inl, inr, ⊎_elim, arith}
-use Rattle.std.proofs.lemmas.List.{append-nil}
+use Rattle.std.proofs.lemmas.List.{append_assoc, append_cancel_right, append-nil}
 use Rattle.std.proofs.lemmas.Bool.{cases_lt}
 use Rattle.gettext_plural.specs.declared.error.Fault.{Fault}
 use Rattle.gettext_plural.specs.declared.error.FaultKind.{FaultKind}
@@ -11,16 +11,16 @@ use Rattle.gettext_plural.specs.declared.error.ReadError.{ReadError}
 use Rattle.gettext_plural.specs.declared.error.ReadError.TheVariants as read
 use Rattle.gettext_plural.specs.declared.forms.TheConstants.{SIZE_LIMIT}
 use Rattle.gettext_plural.specs.declared.token.Token.{Token}
-use Rattle.gettext_plural.specs.PluralTokens.{AreTokensOf}
+use Rattle.gettext_plural.specs.PluralTokens.{AreTokensOf, Passes}
 use Rattle.gettext_plural.specs.PluralExpressions.{Formula, Forms, IsExpression, Spells}
 use Rattle.gettext_plural.specs.PluralHeaders.{header}
-use Rattle.gettext_plural.specs.PluralAnswers.{NoneGoesOn, HasExpressionFault, HasFault, HasFaultBefore, HasFaultWithin, IsPluralForms, IsWhatIsSaid, ParsesExactly, SaysOrFails}
+use Rattle.gettext_plural.specs.PluralAnswers.{Begins, NoneGoesOn, missing, HasExpressionFault, HasFault, HasFaultBefore, HasFaultWithin, IsPluralForms, IsWhatIsSaid, ParsesExactly, SaysOrFails}
 use Rattle.gettext_plural.specs.Inner.PluralMachine.{Outcome, expects, run}
 use Rattle.gettext_plural.specs.Inner.FormulaViews.{HasRead, IsParsedError, Reads, Stops, error_at}
 use Rattle.gettext_plural.proofs.MachineComplete.{read_whole}
 use Rattle.gettext_plural.proofs.MachineSound.{run_sound}
 use Rattle.gettext_plural.proofs.MachineStops.{IsFirst, is_first}
-use Rattle.gettext_plural.proofs.TokenCuts.{TokensFrom, one_cut, tokens_exist, tokens_from}
+use Rattle.gettext_plural.proofs.TokenCuts.{PassedTo, one_cut, one_rest, passed_cut, passed_to, tokens_exist}
 
 -- ---- Expressions
 
@@ -39,30 +39,32 @@ one_expression text a b h k =
     let equal : Ok a ≡ Ok b = alike ∙ second in
     cc
 
-first_fault : (text : List ℕ) (all more : List Token) (kind : FaultKind) (taken rest : List ℕ) → AreTokensOf text all
-    → text ≡ taken ++ rest → AreTokensOf rest more
-    → IsFirst all kind more → HasExpressionFault text kind (length rest)
-first_fault text all more kind taken rest cut parts there f =
-    let P : List Token → Type 0 = λ ts. AreTokensOf text ts in
-    record {
-      before = f.before;
-      more = more;
-      taken = taken;
-      rest = rest;
-      cut = subst P f.parts cut;
-      parts = parts;
-      remains = refl;
-      there = there;
-      begins = f.begins;
-      stops = f.stops;
-      kind_is = f.kind_is;
-    }
+first_fault : (text : List ℕ) (all more : List Token) (kind : FaultKind) (rest : List ℕ) (f : IsFirst all kind more)
+    → Passes text f.before rest → AreTokensOf rest more → HasExpressionFault text kind (length rest)
+first_fault text all more kind rest f passed there = record {
+  before = f.before;
+  more = more;
+  rest = rest;
+  passed = passed;
+  remains = refl;
+  there = there;
+  begins = f.begins;
+  stops = f.stops;
+  kind_is = f.kind_is;
+}
 
 -- where the reader stops is the first fault
 is_fault : (text : List ℕ) (kind : FaultKind) (left : ℕ) → Stops text kind left → HasExpressionFault text kind left
 is_fault text kind left s =
-    let P : ℕ → Type 0 = λ n. HasExpressionFault text kind n in
-    subst P (sym s.remains) (first_fault text s.all s.more kind s.taken s.rest s.cut s.parts s.there (is_first s.all kind s.more s.stops))
+    let f = is_first (s.before ++ s.more) kind s.more s.stops in
+    let P : List Token → Type 0 = λ ts. Passes text ts s.rest in
+    let passed = subst P (append_cancel_right s.before f.before s.more f.parts) s.passed in
+    let Q : ℕ → Type 0 = λ n. HasExpressionFault text kind n in
+    subst Q (sym s.remains) (first_fault text (s.before ++ s.more) s.more kind s.rest f passed s.there)
+
+-- all tokens of a text with a fault
+cut_at : (text : List ℕ) (kind : FaultKind) (left : ℕ) (f : HasExpressionFault text kind left) → AreTokensOf text (f.before ++ f.more)
+cut_at text kind left f = passed_cut text f.before f.rest f.more f.passed f.there
 
 none_there : (before more : List Token) (e : Formula) → NoneGoesOn before more → Spells 0 (before ++ more) e → ⊥
 none_there before [] e none s =
@@ -74,9 +76,63 @@ none_there before (t ∷ more) e none s = none more e s
 no_expression_fault : (text : List ℕ) (e : Formula) (kind : FaultKind) (left : ℕ) → IsExpression text e
     → HasExpressionFault text kind left → ⊥
 no_expression_fault text e kind left h f =
-    let same : h.0 ≡ f.before ++ f.more = one_cut text h.0 (f.before ++ f.more) h.1 f.cut in
+    let same : h.0 ≡ f.before ++ f.more = one_cut text h.0 (f.before ++ f.more) h.1 (cut_at text kind left f) in
     let P : List Token → Type 0 = λ ts. Spells 0 ts e in
     none_there f.before f.more e f.stops (subst P same h.2)
+
+-- ---- One fault of an expression
+
+-- two lists are cut from one, and the second reaches so much further
+abbrev GoesFurther : List Token → List Token → List Token → List Token → Type 0
+GoesFurther a b c d = (e : List Token) × (c ≡ a ++ e) × (b ≡ e ++ d)
+
+two_cuts : (a b c d : List Token) → a ++ b ≡ c ++ d → GoesFurther a b c d ⊎ GoesFurther c d a b
+two_cuts [] b c d is = inl (c, refl, is)
+two_cuts (t ∷ a) b [] d is = inr (t ∷ a, refl, sym is)
+two_cuts (t ∷ a) b (u ∷ c) d is =
+    let first : t ≡ u = cc in
+    let rest : a ++ b ≡ c ++ d = cc in
+    ⊎_elim
+    (λ h. inl (h.0, ap (λ x. u ∷ x) h.1 ∙ ap (λ x. x ∷ (a ++ h.0)) (sym first), h.2))
+    (λ h. inr (h.0, ap (λ x. t ∷ x) h.1 ∙ ap (λ x. x ∷ (c ++ h.0)) first, h.2))
+    (two_cuts a b c d rest)
+
+-- two parts of tokens are the same
+abbrev AreBoth : List Token → List Token → List Token → List Token → Type 0
+AreBoth a b c d = (a ≡ c) × (b ≡ d)
+
+-- no expression goes on with the next token, so none that begins with more tokens
+no_further : (a b c d e : List Token) → NoneGoesOn a b → Begins c → c ≡ a ++ e → b ≡ e ++ d → AreBoth a b c d
+no_further a b c d [] none begun is more = (sym (is ∙ append-nil a), more)
+no_further a b c d (t ∷ e) none begun is more =
+    let P : List Token → Type 0 = λ ts. NoneGoesOn a ts in
+    let Q : List Token → Type 0 = λ ts. Spells 0 ts begun.formula in
+    let never : NoneGoesOn a (t ∷ (e ++ d)) = subst P more none in
+    let spelled = subst Q (ap (λ x. x ++ begun.behind) is ∙ append_assoc a (t ∷ e) begun.behind) begun.spelled in
+    absurd (never (e ++ begun.behind) begun.formula spelled)
+
+one_stop : (a b c d : List Token) → a ++ b ≡ c ++ d → Begins a → NoneGoesOn a b → Begins c → NoneGoesOn c d → AreBoth a b c d
+one_stop a b c d is first stops second ends =
+    ⊎_elim (λ h. no_further a b c d h.0 stops second h.1 h.2)
+    (λ h. (let same : AreBoth c d a b = no_further c d a b h.0 ends first h.1 h.2 in (sym same.0, sym same.1)))
+    (two_cuts a b c d is)
+
+-- the same kind, and the same number
+abbrev AreSame : FaultKind → FaultKind → ℕ → ℕ → Type 0
+AreSame k l m n = (k ≡ l) × (m ≡ n)
+
+one_expression_fault : (text : List ℕ) (k l : FaultKind) (m n : ℕ) → HasExpressionFault text k m → HasExpressionFault text l n
+    → AreSame k l m n
+one_expression_fault text k l m n f g =
+    let is = one_cut text (f.before ++ f.more) (g.before ++ g.more) (cut_at text k m f) (cut_at text l n g) in
+    let same : AreBoth f.before f.more g.before g.more =
+    one_stop f.before f.more g.before g.more is f.begins f.stops g.begins g.stops in
+    let P : List Token → Type 0 = λ ts. Passes text ts f.rest in
+    let rests = one_rest text g.before f.rest g.rest (subst P same.0 f.passed) g.passed in
+    let kinds = ap (λ ts. missing ts f.more) same.0 ∙ ap (missing g.before) same.1 in
+    (f.kind_is ∙ kinds ∙ sym g.kind_is, f.remains ∙ ap length rests ∙ sym g.remains)
+
+-- ---- Each expression
 
 -- each text is an expression, or has a fault
 abbrev ReadsOrFails : List ℕ → Type 0
@@ -86,8 +142,8 @@ told_by : (text : List ℕ) (ts : List Token) → AreTokensOf text ts → (r : O
 told_by text ts cut (Ok e) is = inl (e, is_expression text e (ts, cut, is))
 told_by text ts cut (Err (kind, more)) is =
     let f : IsFirst ts kind more = is_first ts kind more is in
-    let b : TokensFrom text more = tokens_from text ts f.before more cut f.parts in
-    inr (kind, length b.rest, first_fault text ts more kind b.taken b.rest cut b.parts b.there f)
+    let b : PassedTo text f.before more = passed_to text ts f.before more cut f.parts in
+    inr (kind, length b.rest, first_fault text ts more kind b.rest f b.passed b.there)
 
 told : (text : List ℕ) → ReadsOrFails text
 told text = let ts = tokens_exist text in told_by text ts.0 ts.1 (run (expects []) ts.0) refl
@@ -138,6 +194,32 @@ fault_apart text forms kind left h (inr b) =
 pub no_fault : (text : List ℕ) (forms : Forms) (kind : FaultKind) (place : ℕ) → IsPluralForms text forms → HasFault text kind place → ⊥
 no_fault text forms kind place h (inl long) = let short = h.short in omega (arith, long.0, short)
 no_fault text forms kind place h (inr within) = fault_apart text forms kind within.left h within.stops
+
+one_fault_before : (text : List ℕ) (k l : FaultKind) (m n : ℕ) → HasFaultBefore text k m → HasFaultBefore text l n → AreSame k l m n
+one_fault_before text k l m n (inl f) (inl g) =
+    let first : Fault = record { kind = k; left = m } in
+    let second : Fault = record { kind = l; left = n } in
+    let R : Type 0 = Result (ℕ × List ℕ) Fault in
+    let one : R = Err first in
+    let other : R = Err second in
+    let both : one ≡ other = sym f ∙ g in
+    let same : first ≡ second = cc in
+    (ap (λ (x : Fault). x.kind) same, ap (λ (x : Fault). x.left) same)
+one_fault_before text k l m n (inl f) (inr g) = let begins = g.begins in absurd cc
+one_fault_before text k l m n (inr f) (inl g) = let begins = f.begins in absurd cc
+one_fault_before text k l m n (inr f) (inr g) =
+    let same : IsBoth f.count g.count f.rest g.rest = both_are text f.count g.count f.rest g.rest f.begins g.begins in
+    let P : List ℕ → Type 0 = λ s. HasExpressionFault s k m in
+    one_expression_fault g.rest k l m n (subst P same.1 f.fault) g.fault
+
+-- a text has one fault at most
+pub one_fault : (text : List ℕ) (k l : FaultKind) (p q : ℕ) → HasFault text k p → HasFault text l q → AreSame k l p q
+one_fault text k l p q (inl f) (inl g) = (f.1 ∙ sym g.1, f.2 ∙ sym g.2)
+one_fault text k l p q (inl f) (inr g) = let short = g.short in absurd (omega (arith, f.0, short))
+one_fault text k l p q (inr f) (inl g) = let short = f.short in absurd (omega (arith, g.0, short))
+one_fault text k l p q (inr f) (inr g) =
+    let same : AreSame k l f.left g.left = one_fault_before text k l f.left g.left f.stops g.stops in
+    (same.0, f.place_is ∙ ap (λ n. length text - n) same.1 ∙ sym g.place_is)
 
 read_only : (text : List ℕ) (r : Result Forms error.PluralFormsError) → IsWhatIsSaid text r → (forms : Forms) → IsPluralForms text forms
     → (r ≡ Ok forms) ⊎ (r ≡ Err errors.Memory)

@@ -11,7 +11,7 @@ use Rattle.gettext_plural.specs.declared.forms.TheConstants.{SIZE_LIMIT}
 use Rattle.gettext_plural.specs.declared.header.TheConstants.{FORMS_LIMIT}
 use Rattle.gettext_plural.specs.declared.token.Token.{Token}
 use Rattle.gettext_plural.specs.declared.token.Token.TheVariants.{Number, N, Close}
-use Rattle.gettext_plural.specs.PluralTokens.{AreTokensOf}
+use Rattle.gettext_plural.specs.PluralTokens.{AreTokensOf, Passes}
 use Rattle.gettext_plural.specs.PluralExpressions.{Formula, Forms, IsExpression, Spells}
 use Rattle.gettext_plural.specs.PluralHeaders.{header}
 
@@ -61,10 +61,8 @@ pub record Begins (before : List Token) : Type 0 where
 pub record HasExpressionFault (text : List ℕ) (kind : FaultKind) (left : ℕ) : Type 0 where
   pub before : List Token
   pub more : List Token
-  pub taken : List ℕ
   pub rest : List ℕ
-  pub cut : AreTokensOf text (before ++ more)
-  pub parts : text ≡ taken ++ rest
+  pub passed : Passes text before rest
   pub remains : left ≡ length rest
   pub there : AreTokensOf rest more
   pub begins : Begins before
@@ -130,6 +128,12 @@ SaysOrFails text =
 
 abbrev pub EveryTextIsTold : Type 0
 EveryTextIsTold = (text : List ℕ) → SaysOrFails text
+
+-- a text has one fault at most: one kind, at one byte
+abbrev pub TextsHaveOneFault : Type 0
+TextsHaveOneFault =
+    (text : List ℕ) (kind other : FaultKind) (place next : ℕ) → HasFault text kind place → HasFault text other next
+    → (kind ≡ other) × (place ≡ next)
 
 -- there are from 1 to FORMS_LIMIT forms
 abbrev pub CountsAreWithin : Type 0

@@ -1,6 +1,7 @@
 -- How the expression of a `Plural-Forms` is cut into tokens, as C does: from the left, each as long
 -- as it can be. It ends with the text, at `;` or at a line feed.
 --     AreTokensOf text tokens
+--     Passes text tokens rest
 use Rattle.std.specs.Prelude.{◌≡◌, ℕ, ◌+◌, ◌*◌, ◌-◌, List, [], ◌∷◌, Bool, true, false, ◌&&◌, ◌||◌, cond, nat_eq, nat_le}
 use Rattle.std.specs.Str.{byte}
 use Rattle.gettext_plural.specs.declared.token.Operator.TheVariants.{Or, And, Equal, Unequal, Below, Above, AtMost, AtLeast, Plus, Minus, Times, Over, Remainder}
@@ -81,3 +82,12 @@ pub data AreTokensOf : List ℕ → List Token → Type 0 where
   at_blank : (b : ℕ) (s : List ℕ) (ts : List Token) → is_end (b ∷ s) ≡ false → is_blank b ≡ true → AreTokensOf s ts → AreTokensOf (b ∷ s) ts
   at_token : (b : ℕ) (s : List ℕ) (ts : List Token) → is_end (b ∷ s) ≡ false → is_blank b ≡ false → AreTokensOf (front b s).1 ts
       → AreTokensOf (b ∷ s) ((front b s).0 ∷ ts)
+
+-- these are the first tokens of the text, and this follows, from the next token or the end on
+pub data Passes : List ℕ → List Token → List ℕ → Type 0 where
+  up_to_end : (s : List ℕ) → is_end s ≡ true → Passes s [] s
+  up_to_token : (b : ℕ) (s : List ℕ) → is_end (b ∷ s) ≡ false → is_blank b ≡ false → Passes (b ∷ s) [] (b ∷ s)
+  past_blank : (b : ℕ) (s rest : List ℕ) (ts : List Token) → is_end (b ∷ s) ≡ false → is_blank b ≡ true → Passes s ts rest
+      → Passes (b ∷ s) ts rest
+  past_token : (b : ℕ) (s rest : List ℕ) (ts : List Token) → is_end (b ∷ s) ≡ false → is_blank b ≡ false
+      → Passes (front b s).1 ts rest → Passes (b ∷ s) ((front b s).0 ∷ ts) rest

@@ -1,6 +1,6 @@
 //! Laws of the definitions that the contracts name.
 
-ghost use Rattle.gettext_plural.specs.PluralAnswers.{CountsAreWithin, EveryTextIsTold, NoFaultInForms, TextsSayOneThing};
+ghost use Rattle.gettext_plural.specs.PluralAnswers.{CountsAreWithin, EveryTextIsTold, NoFaultInForms, TextsHaveOneFault, TextsSayOneThing};
 
 /// A text says one thing at most: its tokens are spelled by one expression.
 pub fn texts_say_one_thing()
@@ -10,6 +10,11 @@ pub fn texts_say_one_thing()
 /// A text that says something has no fault.
 pub fn no_fault_in_forms()
     ensures { NoFaultInForms }
+{}
+
+/// A text has one fault at most: one kind, at one byte.
+pub fn one_fault()
+    ensures { TextsHaveOneFault }
 {}
 
 /// Every text says something, or has a fault.

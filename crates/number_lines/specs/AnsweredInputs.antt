@@ -1,7 +1,7 @@
 -- What is read of an input, and what is written of the answers to its lines.
 --     AnswersInput rules before left old new result      the answers to all lines, or a beginning
 --     WritesPrinted printed old new result      a text, or a beginning of it
-use Rattle.std.specs.Prelude.{◌≡◌, ℕ, List, ◌++◌, Bool, Option, Result, Ok, Err}
+use Rattle.std.specs.Prelude.{◌≡◌, ℕ, List, ◌++◌, Bool, Option, Result, Ok, Err, codes}
 use Rattle.std.specs.Io.KnownBytes.{Appends, Consumes, IsAtEnd}
 use Rattle.icu_plurals.specs.FiveRules.{FiveRules}
 use Rattle.plural_documents.specs.Inputs.{IsPartWritten}
@@ -37,3 +37,9 @@ AnswersInput rules before left old new (Err Memory) = IsAnsweredInPart rules bef
 abbrev pub WritesPrinted : PrintedText → Option (List ℕ) → Option (List ℕ) → Result Bool LinesError → Type 0
 WritesPrinted printed old new (Ok has_fault) = (has_fault ≡ printed.has_fault) × Appends old new printed.text
 WritesPrinted printed old new (Err error) = (error ≡ Write) × IsPartWritten old new printed.text
+
+-- what an error prints
+abbrev pub lines_error_text : LinesError → List ℕ
+lines_error_text Read = codes "cannot read numbers"
+lines_error_text Write = codes "cannot write output"
+lines_error_text Memory = codes "out of memory"

@@ -35,7 +35,7 @@ IsChosenFor rules word category =
 abbrev pub HasNumberFault : List ℕ → NumberFault → Type 0
 HasNumberFault word TooLong = ⊥
 HasNumberFault word NotText = ¬ (IsUtf8 word)
-HasNumberFault word Syntax = (x : CompactNumber) → ¬ (WritesCompact word x)
+HasNumberFault word Syntax = IsUtf8 word × ((x : CompactNumber) → ¬ (WritesCompact word x))
 HasNumberFault word Limit = (x : CompactNumber) × WritesCompact word x × IsCompactOverLimit x
 
 -- the category of such a word, or why there is none

@@ -4,6 +4,7 @@ mod BlockBytes
 mod OneBlock
 mod FirstFaults
 mod KeysFound
+mod StandingPieces
 mod EntriesOrder
 mod EntriesWritten
 mod SharedFronts

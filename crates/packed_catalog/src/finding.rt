@@ -1,9 +1,10 @@
 //! Looks keys up.
 
-ghost use Rattle.std.specs.Prelude.{◌≡◌, ◌≢◌, ◌+◌, ◌*◌, ◌<◌, ◌≤◌, ℕ, List, length, option_map};
+ghost use Rattle.std.specs.Prelude.{◌≡◌, ◌≢◌, ◌+◌, ◌*◌, ◌<◌, ◌≤◌, ℕ, List, IfSome, length, option_map};
 ghost use Rattle.std.specs.Cmp.Lexicographic.{slice_cmp};
 ghost use Rattle.std.specs.declared.cmp.Ordering.TheVariants.{Less};
 ghost use Rattle.std.specs.Ordering.{nat_cmp};
+ghost use Rattle.std.specs.Str.Iter.{HasSubslice};
 ghost use Rattle.packed_catalog.specs.CatalogBytes.{CatalogBytes, Entry, value_under};
 ghost use Rattle.packed_catalog.specs.CatalogFaults.{HasGoodEnds, count_in, data_in, key_in, piece_in};
 ghost use Rattle.packed_catalog.specs.Inner.CatalogReading.{IsBlock};
@@ -18,7 +19,8 @@ use crate::reading::compared;
 /// It compares the key with about as many others as the count of entries has binary digits, and
 /// reads where these begin and end.
 pub fn find_value<'a>(bytes: &'a [u8], key: &[u8]) -> Option<&'a [u8]>
-    ensures { (entries : List Entry) → CatalogBytes entries bytes.now → option_map (λ value. value.now) result ≡ value_under key.now entries }
+    ensures found { (entries : List Entry) → CatalogBytes entries bytes.now → option_map (λ value. value.now) result ≡ value_under key.now entries }
+    ensures stands { IfSome result (λ value. HasSubslice bytes.now value.now) }
 {
     let Some(count) = count_of(bytes) else {
         return None;
@@ -64,7 +66,8 @@ fn any_piece<'a>(bytes: &[u8], content: &'a [u8], k: usize) -> &'a [u8]
     requires header { 4 + 8 * count_in bytes.now ≤ length bytes.now }
     requires content { content.now ≡ data_in bytes.now }
     requires within { k < 2 * count_in bytes.now }
-    ensures { HasGoodEnds bytes.now → result.now ≡ piece_in bytes.now k }
+    ensures piece { HasGoodEnds bytes.now → result.now ≡ piece_in bytes.now k }
+    ensures stands { HasSubslice bytes.now result.now }
 {
     let (start, end) = (start_of(bytes, k), start_of(bytes, k + 1));
     if start > end || end > content.len() {

@@ -24,7 +24,7 @@ const SHORT: usize = 240;
 /// allocates the digits of long numbers and the texts of differences.
 ///
 /// The errors are those of [`format`](message_format::format), or `Memory` if the sink is full. What
-/// was said before an error stays in the sink.
+/// the sink holds after an error is left open.
 pub fn say_packed<'a, W: Sink>(
     alloc: Global,
     pattern: &PackedPattern<'a>,

@@ -6,3 +6,4 @@ pub mod PartsPacked
 pub mod BehindPlaces
 pub mod PartsAhead
 pub mod PartsWalked
+pub mod TextsInOrder

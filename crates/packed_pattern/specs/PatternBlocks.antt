@@ -3,6 +3,7 @@ use Rattle.std.specs.Prelude.{◌≡◌, ℕ, ◌+◌, List, [], ◌∷◌, ◌+
 use Rattle.std.specs.Fmt.{decimal}
 use Rattle.std.specs.List.{list_all}
 use Rattle.packed_list.specs.ListBytes.{ListBytes, HasFault, list_error_text}
+use Rattle.message_pattern.specs.PatternAnswers.{IsPattern}
 use Rattle.message_pattern.specs.PatternParts.{Part}
 use Rattle.packed_pattern.specs.declared.error.BlockError.{BlockError}
 use Rattle.packed_pattern.specs.declared.error.BlockError.TheVariants as errors
@@ -74,6 +75,12 @@ HasBlockFault bytes fault = (items : List (List ℕ)) × ListBytes items bytes �
 abbrev pub first_unpackable : ℕ → List Part → Option ℕ
 first_unpackable place [] = None
 first_unpackable place (p ∷ ps) = if is_packable p then first_unpackable (place + 1) ps else Some place
+
+-- ---- A law
+
+-- the parts of a text stand in order
+abbrev pub TextsAreInOrder : Type 0
+TextsAreInOrder = (text : List ℕ) (parts : List Part) → IsPattern text parts → first_misplaced 0 before_all parts ≡ None
 
 -- ---- The texts that the errors print
 

@@ -2,7 +2,7 @@
 --     IsCatalogPacked json locale answer      the catalogue of the patterns of a locale, or if none is
 --         named, of the only one. Faults are looked for in this order: those of the locale's text, of
 --         the JSON text, of the document, of its patterns
-use Rattle.std.specs.Prelude.{◌≡◌, ◌⊎◌, ℕ, List, Option, Result, Ok, Err}
+use Rattle.std.specs.Prelude.{◌≡◌, ◌≢◌, ◌⊎◌, ℕ, List, Option, None, Result, Ok, Err}
 use Rattle.std.specs.Borrow.{Bor}
 use Rattle.std.specs.Result.{result_map_both}
 use Rattle.catalog_commands.specs.DocumentPatterns.{HasPatternsFault, IsPacked}
@@ -16,6 +16,7 @@ use Rattle.plural_exports.specs.GivenTexts.{ReadsGiven}
 use Rattle.plural_exports.specs.declared.fault.Fault.{Fault}
 use Rattle.plural_exports.specs.declared.fault.Fault.TheVariants as fault
 use Rattle.serde_json.specs.Data.{Data}
+use Rattle.serde_json.specs.Find.{as_object}
 
 -- the messages of the locale that is named, or of the only one
 abbrev pub HasMessages : Option (List ℕ) → Data → Result Data Fault → Type 0
@@ -26,9 +27,9 @@ HasMessages named document answer =
 abbrev pub HasPatterns : Data → Result Data Fault → Type 0
 HasPatterns messages answer = answer ≡ result_map_both (λ found. found) fault.Messages (patterns_in messages)
 
--- why patterns have no catalogue, or memory ran out
+-- why patterns have no catalogue; or memory ran out, which needs an object
 abbrev pub IsPatternsFault : Data → Fault → Type 0
-IsPatternsFault patterns fault.Memory = Unit {0}
+IsPatternsFault patterns fault.Memory = as_object patterns ≢ None
 IsPatternsFault patterns (fault.Document Shape) =
     HasPatternsFault patterns NoObject ⊎ ((key : Bor (List ℕ)) × HasPatternsFault patterns (NoText key))
 IsPatternsFault patterns (fault.Pattern kind) =

@@ -3,7 +3,7 @@ use Rattle.std.specs.Prelude.{◌≡◌, ℕ, List, Some, map}
 use Rattle.std.specs.Borrow.{Bor}
 use Rattle.std.specs.Option.{option_copied}
 use Rattle.catalog_commands.specs.CatalogWords.{Packing, Saying}
-use Rattle.catalog_commands.specs.GivenWords.{first_ungiven}
+use Rattle.catalog_commands.specs.GivenWords.{BeginWithGiven, first_ungiven}
 use Rattle.catalog_commands.specs.declared.catalog_words.PackWords.{PackWords}
 use Rattle.catalog_commands.specs.declared.catalog_words.SayWords.{SayWords}
 use Rattle.catalog_commands.specs.declared.given.GivenFault.{GivenFault}
@@ -24,7 +24,7 @@ say_view words = record {
   given = words_view words.given.now;
 }
 
--- the first word that gives nothing, or memory ran out
+-- the first word that gives nothing; or memory ran out, which needs one that gives something before
 abbrev pub TellsUngiven : List (List ℕ) → GivenFault → Type 0
 TellsUngiven words (fault.NoValue word) = first_ungiven words ≡ Some word.now
-TellsUngiven _ fault.Memory = Unit {0}
+TellsUngiven words fault.Memory = BeginWithGiven words

@@ -11,7 +11,7 @@ use Rattle.gettext_plural.specs.declared.forms.PluralForms.{PluralForms}
 use Rattle.gettext_plural.specs.declared.pending.Pending.{Pending}
 use Rattle.gettext_plural.specs.declared.pending.Pending.TheVariants.{Bracket, Negation, Left, Question, Colon}
 use Rattle.gettext_plural.specs.declared.token.Token.{Token}
-use Rattle.gettext_plural.specs.PluralTokens.{AreTokensOf}
+use Rattle.gettext_plural.specs.PluralTokens.{AreTokensOf, Passes}
 use Rattle.gettext_plural.specs.PluralExpressions.{Formula, Forms}
 use Rattle.gettext_plural.specs.PluralHeaders.{header}
 use Rattle.gettext_plural.specs.PluralViews.{formula_view, forms_of}
@@ -61,31 +61,23 @@ IsFinish s left (Err e) = IsFaultOr (finish s) left e
 
 -- the reader stops with this fault where so many bytes are left
 pub record Stops (text : List ℕ) (kind : FaultKind) (left : ℕ) : Type 0 where
-  pub all : List Token
+  pub before : List Token
   pub more : List Token
-  pub taken : List ℕ
   pub rest : List ℕ
-  pub cut : AreTokensOf text all
-  pub parts : text ≡ taken ++ rest
+  pub passed : Passes text before rest
   pub remains : left ≡ length rest
   pub there : AreTokensOf rest more
-  pub stops : run (expects []) all ≡ Err (kind, more)
+  pub stops : run (expects []) (before ++ more) ≡ Err (kind, more)
 
 -- the reader reads this from the text
 abbrev pub Reads : List ℕ → Formula → Type 0
 Reads text e = (ts : List Token) × AreTokensOf text ts × (run (expects []) ts ≡ Ok e)
 
--- all tokens, if these are the tokens of the rest
-pub record Continued (text : List ℕ) (s : Stage) (ts : List Token) : Type 0 where
-  pub all : List Token
-  pub cut : AreTokensOf text all
-  pub same : run (expects []) all ≡ run s ts
-
--- the text is read up to the rest, which is behind these bytes, and leads to the stage
+-- the text is read up to the rest, which is behind these tokens, and they lead to the stage
 pub record HasTaken (text : List ℕ) (s : Stage) (rest : List ℕ) : Type 0 where
-  pub taken : List ℕ
-  pub parts : text ≡ taken ++ rest
-  pub goes_on : (ts : List Token) → AreTokensOf rest ts → Continued text s ts
+  pub tokens : List Token
+  pub passes : (more : List Token) (last : List ℕ) → Passes rest more last → Passes text (tokens ++ more) last
+  pub leads : (more : List Token) → run (expects []) (tokens ++ more) ≡ run s more
 
 abbrev pub IsStopped : List ℕ → ReadError → Type 0
 IsStopped text read.Memory = Unit {0}

@@ -12,4 +12,5 @@ returns c =
     rw c.findings.ensures at
     (objects_then (finding_data_in c.args.file.now) (map finding_view c.findings.result.now) (counts_data_in c.args.file.now (counts_in c.args.report.now))
     (string_bytes c.new-text.result) before (string_bytes c.push_value.new.text) c.new-text.ensures.bytes c.in_ok-push_lines.ensures
-    (c.in_ok-push_value.ensures ∙ ap (λ d. before ++ json_line d) (c.in_ok-last.ensures ∙ ap (counts_data_in c.args.file.now) c.counts.ensures)))
+    (c.in_ok-push_value.ensures.ok
+    ∙ ap (λ d. before ++ json_line d) (c.in_ok-last.ensures ∙ ap (counts_data_in c.args.file.now) c.counts.ensures)))

@@ -28,6 +28,6 @@ returns c =
     (string_bytes c.push_lines-2.new.text) (string_bytes c.push_value.new.text) last _ c.new-text.ensures.bytes c.findings-findings.ensures
     c.as_slice-noted.ensures c.in_ok-push_lines.ensures c.in_ok-push_lines-2.ensures
     (ap json_line (c.in_ok-last.ensures ∙ ap (λ (counts : Counts). last_data file counts (length counted)) c.counts.ensures
-    ∙ ap (last_data file (counts_in report)) many)) c.in_ok-push_value.ensures in
+    ∙ ap (last_data file (counts_in report)) many)) c.in_ok-push_value.ensures.ok in
     subst (λ (n : List ℕ). string_bytes c.push_value.new.text
     ≡ flat_map (line n) (findings_in report) ++ (flat_map (noted n) notes ++ last)) c.file_name-name.ensures written

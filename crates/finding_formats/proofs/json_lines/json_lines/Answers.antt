@@ -12,4 +12,4 @@ returns c =
     rw c.findings.ensures at
     (objects_and_last finding_data (map finding_view c.findings.result.now) (counts_data (counts_found c.args.found.now))
     (string_bytes c.new-text.result) before (string_bytes c.push_value.new.text) c.new-text.ensures.bytes c.in_ok-push_lines.ensures
-    (c.in_ok-push_value.ensures ∙ ap (λ d. before ++ json_line d) (c.in_ok-counts.ensures ∙ ap counts_data c.counts.ensures)))
+    (c.in_ok-push_value.ensures.ok ∙ ap (λ d. before ++ json_line d) (c.in_ok-counts.ensures ∙ ap counts_data c.counts.ensures)))

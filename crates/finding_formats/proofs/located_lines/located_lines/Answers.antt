@@ -10,4 +10,4 @@ returns c =
     let before = string_bytes c.push_lines.new.text in
     objects_then located_data (map located_view c.args.located.now) (totals_data c.args.totals) (string_bytes c.new-text.result) before
     (string_bytes c.push_value.new.text) c.new-text.ensures.bytes c.in_ok-push_lines.ensures
-    (c.in_ok-push_value.ensures ∙ ap (λ d. before ++ json_line d) c.in_ok-totals.ensures)
+    (c.in_ok-push_value.ensures.ok ∙ ap (λ d. before ++ json_line d) c.in_ok-totals.ensures)

@@ -1,12 +1,13 @@
-use Rattle.std.proofs.Common.{arith, ◌+◌, ◌≡◌, suc, ap, length}
-use Rattle.packed_catalog.specs.CatalogFaults.{start_of}
+use Rattle.std.proofs.Common.{arith, ◌+◌, ◌*◌, ◌≡◌, suc, ap, length}
+use Rattle.packed_catalog.specs.CatalogFaults.{count_in, start_of}
 use Rattle.packed_catalog.proofs.BlockBytes.{starts_within}
+use Rattle.packed_catalog.proofs.StandingPieces.{nothing_stands, range_stands}
 use Rattle.packed_catalog.proofs.finding.any_piece.Goals as goal
 use Rattle.packed_catalog.proofs.finding.any_piece.Goals.{then-start-end-via-then-start-end}
 use Rattle.packed_catalog.proofs.finding.any_piece.Goals.{then-start-end-via-else-start-end+then-end-content}
 
-pub returns-then-start-end : goal.returns-then-start-end
-returns-then-start-end c = λ ends.
+pub returns-then-start-end-clause-piece : goal.returns-then-start-end-clause-piece
+returns-then-start-end-clause-piece c = λ ends.
     let bytes = c.args.bytes.now in
     let k = c.args.k in
     let e : k + 1 ≡ suc k = omega arith in
@@ -19,3 +20,12 @@ returns-then-start-end c = λ ends.
       | then-start-end-via-else-start-end+then-end-content w ↦
           absurd (omega (arith, w.if-end-content.true, c.start_of-end.ensures, end, within, ap length c.requires.content))
     ]
+
+pub returns-then-start-end-clause-stands : goal.returns-then-start-end-clause-stands
+returns-then-start-end-clause-stands c = nothing_stands c.args.bytes.now
+
+pub returns-clause-stands : goal.returns-clause-stands
+returns-clause-stands c =
+    let bytes = c.args.bytes.now in
+    range_stands bytes c.args.content.now (4 + 8 * count_in bytes) c.start_of-start.result c.start_of-end.result c.requires.content
+    (omega arith)

@@ -21,7 +21,8 @@ loop-low-preserved-then-is_below c =
     (omega (arith, c.min.ensures, least.0)) (omega (arith, c.min.ensures, least.1)) (omega arith) (omega (arith, c.loop-low-test.true))
     (omega (arith, at.within, c.requires.count)) at.low_none (λ e. at.high_none (e ∙ sym c.requires.count))
     (at.low_front block) (at.high_front block) in
-    let same : (block : IsBlock bytes) → c.any_piece-other.result.now ≡ key_in bytes m = λ block. c.any_piece-other.ensures block.ends in
+    let same : (block : IsBlock bytes) → c.any_piece-other.result.now ≡ key_in bytes m = λ block.
+    c.any_piece-other.ensures.piece block.ends in
     let given : IsBlock bytes → SharesFront c.min.result c.any_piece-other.result.now key = λ block.
     subst (λ (other : List ℕ). SharesFront c.min.result other key) (sym (same block)) (shared block) in
     let less : IsBlock bytes → slice_cmp nat_cmp (key_in bytes m) key ≡ Less = λ block.
@@ -52,7 +53,8 @@ loop-low-preserved c =
     (omega (arith, c.min.ensures, least.0)) (omega (arith, c.min.ensures, least.1)) (omega arith) (omega (arith, c.loop-low-test.true))
     (omega (arith, at.within, c.requires.count)) at.low_none (λ e. at.high_none (e ∙ sym c.requires.count))
     (at.low_front block) (at.high_front block) in
-    let same : (block : IsBlock bytes) → c.any_piece-other.result.now ≡ key_in bytes m = λ block. c.any_piece-other.ensures block.ends in
+    let same : (block : IsBlock bytes) → c.any_piece-other.result.now ≡ key_in bytes m = λ block.
+    c.any_piece-other.ensures.piece block.ends in
     let given : IsBlock bytes → SharesFront c.min.result c.any_piece-other.result.now key = λ block.
     subst (λ (other : List ℕ). SharesFront c.min.result other key) (sym (same block)) (shared block) in
     let high = λ (block : IsBlock bytes) (less : slice_cmp nat_cmp (key_in bytes m) key ≡ Less).

@@ -25,7 +25,8 @@ returns-in_err-pack_patterns c =
     (ap (result_map_both (λ found. found) Messages) c.in_ok-patterns.ensures)
     (patterns_refused patterns c.in_err-pack_patterns.field-0.0 r
     (handed_on patterns_fault _ _ (err_from_is_err_and r c.from_residual-in_err-pack_patterns.ensures.1))
-    c.in_err-pack_patterns.ensures.refused)
+    c.in_err-pack_patterns.ensures.refused
+    (λ none. (let e = c.in_err-pack_patterns.ensures.no_object.1 none in cc)))
 
 pub returns : goal.returns
 returns c = (
