@@ -8,7 +8,7 @@ use Rattle.format_arguments.specs.declared.format.Format.{Format}
 use Rattle.format_arguments.specs.declared.format.Format.TheVariants.{C, ObjectiveC, Python, JavaScript, Boost, Qt, QtPlural, Kde, PythonBrace, PerlBrace, Java}
 use Rattle.format_arguments.specs.DirectiveTables.{is_one_of, family_of, has_stars, has_macros, silent_conversions, kind_of, c_kind}
 use Rattle.format_arguments.specs.DirectiveBytes.{run_front, behind_run, is_empty_text, begins_with, behind_first, after_word, place_of}
-use Rattle.format_arguments.specs.Directives.{Which, Next, At, Named, Front, End, Takes, Broken, front, at_place, place_front, closed_name, name_front, which_front, star_taken, width_front, precision_front, widths_front, converts, macro_end, macro_letter, conversion_front, size_of, flagged_front, printf_front, takes, takes_place, barred_end, boost_front, behind_letter, number_front, is_the_number, numbered_front, behind_closing, has_quotes, fits_field, begins_style, field_which, no_field, styled_field, field_end, field_front, brace_front, directive_front, opening_in, quoted_front}
+use Rattle.format_arguments.specs.Directives.{Which, Next, At, Named, Front, End, Takes, Broken, front, at_place, place_front, closed_name, name_front, which_front, star_taken, width_front, precision_front, widths_front, converts, macro_end, macro_letter, conversion_front, size_at, size_of, flagged_front, printf_front, takes, takes_place, barred_end, boost_front, behind_letter, number_front, is_the_number, numbered_front, behind_closing, has_quotes, fits_field, begins_style, field_which, no_field, styled_field, field_end, field_front, brace_front, directive_front, opening_in, quoted_front, closing_front}
 use Rattle.format_arguments.proofs.Runs.{run_front-whole}
 
 -- the text ends in this rest
@@ -174,13 +174,14 @@ conversion_end : (f : Format) (which : Which) (stars : ℕ) (size s : List ℕ) 
 conversion_end f which stars size [] = tt
 conversion_end f which stars size (b ∷ s) =
     let letter = macro_letter which stars (after_word (codes "PRI") s) in
-    let other = converts which stars size (kind_of f b) s in
+    let sized = size_at f b size in
+    let other = converts which stars sized (kind_of f b) s in
     let P = FrontEndsIn (b ∷ s) in
     either P (is_one_of (silent_conversions f) b) (Takes None s) (if b == 60 && has_macros f then letter else other)
     (longer b s s (whole s))
     (either P (b == 60 && has_macros f) letter other
     (later (b ∷ s) s letter (longer b s s (whole s)) (letter_end which stars s (after_word (codes "PRI") s) (word_end (codes "PRI") s)))
-    (later (b ∷ s) s other (longer b s s (whole s)) (converts_end which stars size (kind_of f b) s)))
+    (later (b ∷ s) s other (longer b s s (whole s)) (converts_end which stars sized (kind_of f b) s)))
 
 flagged_end : (f : Format) (s : List ℕ) (w : Option (Which × List ℕ)) → WhichEndsIn s w → FrontEndsIn s (flagged_front f w)
 flagged_end f s None h = tt
@@ -335,6 +336,19 @@ directive_end PythonBrace s = brace_end PythonBrace s
 directive_end PerlBrace s = brace_end PerlBrace s
 directive_end Java s = brace_end Java s
 
+closing_front_end : (f : Format) (s : List ℕ) → FrontEndsIn s (closing_front f s)
+closing_front_end PythonBrace s = either (FrontEndsIn s) (begins_with 125 s) (Takes None (behind_first s)) Broken (first_end s) tt
+closing_front_end Java s = tt
+closing_front_end C s = whole s
+closing_front_end ObjectiveC s = whole s
+closing_front_end Python s = whole s
+closing_front_end JavaScript s = whole s
+closing_front_end Boost s = whole s
+closing_front_end Qt s = whole s
+closing_front_end QtPlural s = whole s
+closing_front_end Kde s = whole s
+closing_front_end PerlBrace s = whole s
+
 -- what follows the front of a text is its end
 pub front_end : (f : Format) (s : List ℕ) → FrontEndsIn s (front f s)
 front_end f [] = tt
@@ -342,9 +356,10 @@ front_end f (b ∷ s) =
     let P = FrontEndsIn (b ∷ s) in
     let directive = directive_front f s in
     let behind : EndsIn (b ∷ s) s = longer b s s (whole s) in
-    let plain = if b == 125 && has_quotes f then Broken else Takes None s in
+    let closing = closing_front f s in
+    let plain = if b == 125 then closing else Takes None s in
     let other = if b == 39 && has_quotes f then quoted_front s else plain in
     either P (b == opening_in (family_of f)) directive other (later (b ∷ s) s directive behind (directive_end f s))
     (either P (b == 39 && has_quotes f) (quoted_front s) plain
     (longer b s (behind_first (behind_run Unquoted s)) (run_first_end Unquoted s))
-    (either P (b == 125 && has_quotes f) Broken (Takes None s) tt behind))
+    (either P (b == 125) closing (Takes None s) (later (b ∷ s) s closing behind (closing_front_end f s)) behind))

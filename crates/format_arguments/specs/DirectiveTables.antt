@@ -61,7 +61,6 @@ sizes_of _ = []
 abbrev pub tells_sizes : Format → Bool
 tells_sizes C = true
 tells_sizes ObjectiveC = true
-tells_sizes Boost = true
 tells_sizes _ = false
 
 -- an argument may be a width or a precision: `*`
@@ -111,9 +110,13 @@ javascript_kind b =
     else if b == 106 then Some (Other b)
     else None
 
+unfoldable pub boost_kind : ℕ → Option Kind
+boost_kind b = if is_one_of (codes "ouxX") b then Some Integer else c_kind b
+
 -- what a letter converts
 abbrev pub kind_of : Format → ℕ → Option Kind
 kind_of ObjectiveC b = objective_c_kind b
 kind_of Python b = python_kind b
 kind_of JavaScript b = javascript_kind b
+kind_of Boost b = boost_kind b
 kind_of _ b = c_kind b

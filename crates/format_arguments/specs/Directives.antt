@@ -102,13 +102,17 @@ macro_letter which stars (Some (b ∷ s)) =
     if is_one_of (codes "diouxX") b then macro_end which stars (c_kind b) (run_front Macro s) (behind_run Macro s) else Broken
 macro_letter which stars _ = Broken
 
+-- `%C` and `%S` are `%lc` and `%ls`
+abbrev pub size_at : Format → ℕ → List ℕ → List ℕ
+size_at f b size = if tells_sizes f && is_one_of (codes "CS") b then codes "l" else size
+
 -- the conversion at the end of a directive, which has this size
 abbrev pub conversion_front : Format → Which → ℕ → List ℕ → List ℕ → Front
 conversion_front f which stars size [] = Broken
 conversion_front f which stars size (b ∷ s) =
     if is_one_of (silent_conversions f) b then Takes None s
     else if b == 60 && has_macros f then macro_letter which stars (after_word (codes "PRI") s)
-    else converts which stars size (kind_of f b) s
+    else converts which stars (size_at f b size) (kind_of f b) s
 
 abbrev pub size_of : Format → List ℕ → List ℕ
 size_of f s = if tells_sizes f then run_front (Size f) s else []
@@ -262,11 +266,17 @@ opening_in _ = 37
 abbrev pub quoted_front : List ℕ → Front
 quoted_front s = Takes None (behind_first (behind_run Unquoted s))
 
--- the front of a text; a brace that closes nothing is a fault in Java
+-- behind a brace that closes nothing: two are one in Python, and one is a fault there and in Java
+abbrev pub closing_front : Format → List ℕ → Front
+closing_front PythonBrace s = if begins_with 125 s then Takes None (behind_first s) else Broken
+closing_front Java s = Broken
+closing_front _ s = Takes None s
+
+-- the front of a text
 abbrev pub front : Format → List ℕ → Front
 front f [] = End
 front f (b ∷ s) =
     if b == opening_in (family_of f) then directive_front f s
     else if b == 39 && has_quotes f then quoted_front s
-    else if b == 125 && has_quotes f then Broken
+    else if b == 125 then closing_front f s
     else Takes None s

@@ -3,7 +3,7 @@
 /// What a directive converts.
 #[derive(Clone, Copy, Debug, PartialEq, Eq)]
 pub enum Kind {
-    /// An integer, as `%d`. In Python and JavaScript all integers are one kind.
+    /// An integer, as `%d`. In Python, JavaScript and Boost all integers are one kind.
     Integer,
     /// An integer without a sign, as C's `%u` and `%x`.
     Unsigned,
@@ -34,7 +34,7 @@ pub struct Argument<'t> {
     pub end: usize,
     pub name: Name<'t>,
     pub kind: Kind,
-    /// How its size is written, as C's `ll`; empty where the format has no sizes.
+    /// How its size is written, as C's `ll`; `l` of `%C` and `%S`, empty where the format has no sizes.
     pub size: &'t [u8],
 }
 

@@ -2,11 +2,11 @@
 
 ghost use Rattle.std.specs.Prelude.{◌≡◌, ◌≤◌, ◌<◌, ◌+◌, length};
 ghost use Rattle.format_arguments.specs.DirectiveTables.{family_of};
-ghost use Rattle.format_arguments.specs.Directives.{directive_front, front, opening_in, quoted_front};
+ghost use Rattle.format_arguments.specs.Directives.{closing_front, directive_front, front, opening_in, quoted_front};
 ghost use Rattle.format_arguments.specs.Inner.DirectiveViews.{LeavesLess, Shortens, front_view};
 
 use crate::braced::{brace_front, has_quotes};
-use crate::bytes::{Class, behind_first, behind_run};
+use crate::bytes::{Class, after_byte, behind_first, behind_run};
 use crate::directive::Front;
 use crate::format::Format;
 use crate::numbered::numbered_front;
@@ -43,6 +43,21 @@ fn quoted_front(text: &[u8]) -> Front<'_>
     Front::Takes(None, behind_first(behind_run(Class::Unquoted, text)))
 }
 
+// A brace that closes nothing.
+fn closing_front(format: Format, text: &[u8]) -> Front<'_>
+    ensures front { front_view result ≡ closing_front format text.now }
+    ensures shorter { LeavesLess result (length text.now) }
+{
+    match format {
+        Format::PythonBrace => match after_byte(b'}', text) {
+            Some(rest) => Front::Takes(None, rest),
+            None => Front::Broken,
+        },
+        Format::Java => Front::Broken,
+        _ => Front::Takes(None, text),
+    }
+}
+
 // The front of a text.
 pub(crate) fn front_of(format: Format, text: &[u8]) -> Front<'_>
     ensures front { front_view result ≡ front format text.now }
@@ -55,8 +70,8 @@ pub(crate) fn front_of(format: Format, text: &[u8]) -> Front<'_>
         directive_front(format, rest)
     } else if *first == b'\'' && has_quotes(format) {
         quoted_front(rest)
-    } else if *first == b'}' && has_quotes(format) {
-        Front::Broken
+    } else if *first == b'}' {
+        closing_front(format, rest)
     } else {
         Front::Takes(None, rest)
     }

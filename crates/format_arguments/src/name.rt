@@ -28,7 +28,7 @@ fn is_long_number_word(word: &[u8]) -> bool
 
 // Whether a word is another one.
 #[inline]
-fn is(word: &[u8], other: &[u8]) -> bool
+pub(crate) fn is(word: &[u8], other: &[u8]) -> bool
     ensures { result ≡ bytes_eq word.now other.now }
 {
     word == other

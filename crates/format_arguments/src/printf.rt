@@ -2,7 +2,7 @@
 
 ghost use Rattle.std.specs.Prelude.{◌≡◌, ◌≤◌, ◌+◌, [], ◌∷◌, length, codes, Some};
 ghost use Rattle.format_arguments.specs.DirectiveBytes.{after_word, behind_run, run_front};
-ghost use Rattle.format_arguments.specs.Directives.{takes, barred_end, boost_front, closed_name, conversion_front, converts, macro_end, macro_letter, name_front, at_place, place_front, precision_front, printf_front, size_of, width_front, which_front, widths_front};
+ghost use Rattle.format_arguments.specs.Directives.{takes, barred_end, boost_front, closed_name, conversion_front, converts, macro_end, macro_letter, name_front, at_place, place_front, precision_front, printf_front, size_at, size_of, width_front, which_front, widths_front};
 ghost use Rattle.format_arguments.specs.Inner.DirectiveViews.{IsNotLonger, LeavesLess, front_view, which_rest_view, which_view, width_view};
 
 use crate::argument::Kind;
@@ -162,6 +162,17 @@ fn macro_front<'t>(which: Which<'t>, stars: usize, text: &'t [u8]) -> Front<'t>
     }
 }
 
+// The size of a directive with this conversion.
+fn size_at<'t>(format: Format, letter: u8, size: &'t [u8]) -> &'t [u8]
+    ensures { result.now ≡ size_at format letter size.now }
+{
+    if tells_sizes(format) && is_one_of(b"CS", letter) {
+        b"l"
+    } else {
+        size
+    }
+}
+
 // The conversion at the end of a directive of this size.
 fn conversion_front<'t>(
     format: Format,
@@ -181,6 +192,7 @@ fn conversion_front<'t>(
     } else if *letter == b'<' && has_macros(format) {
         macro_front(which, stars, rest)
     } else {
+        let size = size_at(format, *letter, size);
         converts(which, stars, size, kind_of(format, *letter), rest)
     }
 }

@@ -2,9 +2,11 @@
 
 ghost use Rattle.std.specs.Prelude.{◌≡◌};
 ghost use Rattle.std.specs.List.{list_any};
-ghost use Rattle.format_arguments.specs.SameArguments.{converts_alike, is_same_kind, is_same_name, is_unknown, stands_for};
+ghost use Rattle.format_arguments.specs.SameArguments.{converts_alike, integer_size, is_long_long, is_same_kind, is_same_name, is_same_size, is_unknown};
+ghost use Rattle.format_arguments.specs.SameArguments.{number_size, size_said, stands_for, text_size};
 
 use crate::argument::{Argument, Kind, Name};
+use crate::name::is;
 
 // Whether two names are one.
 pub(crate) fn is_same_name(one: &Name<'_>, other: &Name<'_>) -> bool
@@ -43,6 +45,62 @@ pub(crate) fn is_unknown(kind: Kind) -> bool
     }
 }
 
+// Whether a size is that of `long long`, or of `long double`.
+fn is_long_long(size: &[u8]) -> bool
+    ensures { result ≡ is_long_long size.now }
+{
+    is(size, b"ll") || is(size, b"L") || is(size, b"q")
+}
+
+// The size of an integer, by one of the ways to write it.
+fn integer_size(size: &[u8]) -> &[u8]
+    ensures { result.now ≡ integer_size size.now }
+{
+    if is_long_long(size) {
+        b"ll"
+    } else if is(size, b"Z") {
+        b"z"
+    } else {
+        size
+    }
+}
+
+// The size of another number.
+fn number_size(size: &[u8]) -> &'static [u8]
+    ensures { result.now ≡ number_size size.now }
+{
+    if is_long_long(size) { b"ll" } else { b"" }
+}
+
+// The size of a character or a text.
+fn text_size(size: &[u8]) -> &'static [u8]
+    ensures { result.now ≡ text_size size.now }
+{
+    if is_long_long(size) || is(size, b"l") {
+        b"l"
+    } else {
+        b""
+    }
+}
+
+// The size of an argument of a kind, by one of the ways to write it.
+fn size_said(kind: Kind, size: &[u8]) -> &[u8]
+    ensures { result.now ≡ size_said kind size.now }
+{
+    match kind {
+        Kind::Number => number_size(size),
+        Kind::Character | Kind::Text => text_size(size),
+        _ => integer_size(size),
+    }
+}
+
+// Whether the sizes of two arguments are one.
+fn is_same_size(one: &Argument<'_>, other: &Argument<'_>) -> bool
+    ensures { result ≡ is_same_size one.now other.now }
+{
+    size_said(one.kind, one.size) == size_said(other.kind, other.size)
+}
+
 // Whether two arguments convert alike, as far as they say so.
 #[tactic(auto, unfolding(crate::specs::SameArguments::converts_alike))]
 fn converts_alike(one: &Argument<'_>, other: &Argument<'_>) -> bool
@@ -50,7 +108,7 @@ fn converts_alike(one: &Argument<'_>, other: &Argument<'_>) -> bool
 {
     is_unknown(one.kind)
         || is_unknown(other.kind)
-        || is_same_kind(one.kind, other.kind) && one.size == other.size
+        || is_same_kind(one.kind, other.kind) && is_same_size(one, other)
 }
 
 /// Tells whether an argument of a translation stands for one of its source: it has the same place or

@@ -1,7 +1,7 @@
 //! The formats' table: their flags, sizes and conversions.
 
 ghost use Rattle.std.specs.Prelude.{◌≡◌};
-ghost use Rattle.format_arguments.specs.DirectiveTables.{c_kind, flags_of, has_macros, has_stars, javascript_kind, kind_of, objective_c_kind, python_kind, silent_conversions, sizes_of, tells_sizes};
+ghost use Rattle.format_arguments.specs.DirectiveTables.{boost_kind, c_kind, flags_of, has_macros, has_stars, javascript_kind, kind_of, objective_c_kind, python_kind, silent_conversions, sizes_of, tells_sizes};
 
 use crate::argument::Kind;
 use crate::bytes::is_one_of;
@@ -36,7 +36,7 @@ pub(crate) fn tells_sizes(format: Format) -> bool
     ensures { result ≡ tells_sizes format }
 {
     match format {
-        Format::C | Format::ObjectiveC | Format::Boost => true,
+        Format::C | Format::ObjectiveC => true,
         _ => false,
     }
 }
@@ -143,6 +143,18 @@ fn javascript_kind(letter: u8) -> Option<Kind>
     }
 }
 
+// In Boost.
+#[tactic(auto, unfolding(crate::specs::DirectiveTables::boost_kind))]
+fn boost_kind(letter: u8) -> Option<Kind>
+    ensures { result ≡ boost_kind letter }
+{
+    if is_one_of(b"ouxX", letter) {
+        Some(Kind::Integer)
+    } else {
+        c_kind(letter)
+    }
+}
+
 // What a letter converts in the format.
 pub(crate) fn kind_of(format: Format, letter: u8) -> Option<Kind>
     ensures { result ≡ kind_of format letter }
@@ -151,6 +163,7 @@ pub(crate) fn kind_of(format: Format, letter: u8) -> Option<Kind>
         Format::ObjectiveC => objective_c_kind(letter),
         Format::Python => python_kind(letter),
         Format::JavaScript => javascript_kind(letter),
+        Format::Boost => boost_kind(letter),
         _ => c_kind(letter),
     }
 }

@@ -11,7 +11,7 @@ use Rattle.po_catalog.specs.Fronts.{PoFront, Nothing, Word, Mark, Unknown, behin
 use Rattle.po_catalog.specs.LineKinds.{PoLine, Empty, Comment, Fields, line_of}
 use Rattle.po_catalog.specs.PoBytes.{behind_run, is_of_word, is_white, run_front}
 use Rattle.po_catalog.specs.Quoted as quoted
-use Rattle.po_catalog.specs.Quoted.{Breaks, Said, End, Byte, Says, byte_of_letter, code_front, digit_value, escape_front, hexadecimal, hexadecimal_code, letter_or_code, octal, of_ascii, said_code, said_front}
+use Rattle.po_catalog.specs.Quoted.{Breaks, Said, End, Byte, Says, byte_of_letter, code_front, digit_value, escape_front, hexadecimal, hexadecimal_code, letter_or_code, octal, of_byte, said_code, said_front}
 use Rattle.po_catalog.specs.ReadCatalogs.{EveryFileIsACatalog, ReadsFields, ReadsLine, ReadsLines, behind_mark, catalog_at, longer, next_line, no_line}
 use Rattle.po_catalog.specs.ReadCatalogs.{ends, unknown, fits, stray_keyword, goes_on, breaks, stray_text, empty, comment, fields}
 
@@ -55,28 +55,28 @@ octal_within (suc more) k (b ∷ s) =
       | false ↦ omega arith
     ]
 
-of_ascii_within : (c : ℕ × List ℕ) (n : ℕ) → length c.1 ≤ n → CodeWithin (of_ascii c) n
-of_ascii_within c n le =
-    elim (nat_lt c.0 128) as (λ (v : Bool). CodeWithin (if v then Some c else None) n) [ true ↦ le | false ↦ tt ]
+of_byte_within : (c : ℕ × List ℕ) (n : ℕ) → length c.1 ≤ n → CodeWithin (of_byte c) n
+of_byte_within c n le =
+    elim (nat_lt c.0 256) as (λ (v : Bool). CodeWithin (if v then Some c else None) n) [ true ↦ le | false ↦ tt ]
 
 hexadecimal_code_within : (s : List ℕ) → CodeWithin (hexadecimal_code s) (length s)
 hexadecimal_code_within [] = tt
 hexadecimal_code_within (b ∷ s) =
     let more : length (hexadecimal (digit_value b) s).1 ≤ length s = hexadecimal_within (digit_value b) s in
-    elim (nat_lt (digit_value b) 16) as (λ (v : Bool). CodeWithin (if v then of_ascii (hexadecimal (digit_value b) s) else None)
+    elim (nat_lt (digit_value b) 16) as (λ (v : Bool). CodeWithin (if v then of_byte (hexadecimal (digit_value b) s) else None)
     (length (b ∷ s))) [
-      | true ↦ of_ascii_within (hexadecimal (digit_value b) s) (length (b ∷ s)) (omega (arith, more))
+      | true ↦ of_byte_within (hexadecimal (digit_value b) s) (length (b ∷ s)) (omega (arith, more))
       | false ↦ tt
     ]
 
 code_front_within : (b : ℕ) (s : List ℕ) → CodeWithin (code_front b s) (length s)
 code_front_within b s =
     elim (b == 120) as (λ (v : Bool). CodeWithin
-    (if v then hexadecimal_code s else (if nat_lt (digit_value b) 8 then of_ascii (octal 2 (digit_value b) s) else None)) (length s)) [
+    (if v then hexadecimal_code s else (if nat_lt (digit_value b) 8 then of_byte (octal 2 (digit_value b) s) else None)) (length s)) [
       | true ↦ hexadecimal_code_within s
-      | false ↦ elim (nat_lt (digit_value b) 8) as (λ (v : Bool). CodeWithin (if v then of_ascii (octal 2 (digit_value b) s) else None)
+      | false ↦ elim (nat_lt (digit_value b) 8) as (λ (v : Bool). CodeWithin (if v then of_byte (octal 2 (digit_value b) s) else None)
           (length s)) [
-            | true ↦ of_ascii_within (octal 2 (digit_value b) s) (length s) (octal_within 2 (digit_value b) s)
+            | true ↦ of_byte_within (octal 2 (digit_value b) s) (length s) (octal_within 2 (digit_value b) s)
             | false ↦ tt
           ]
     ]

@@ -48,11 +48,8 @@ field_goes name whole after rest e h = sym (ap (λ (o : Option (Bor (List ℕ)))
 abbrev pub header_from : List Entry → ℕ → Option PoMessage
 header_from entries k = find is_header (map message_view (drop k entries))
 
-cut_off : (entries : List Entry) (k : ℕ) (entry : Entry) → k < length entries → entry ≡ get_or entries k entry
-    → drop k entries ≡ entry ∷ drop (k + 1) entries
-cut_off entries k entry lt is =
-    drop-cons entries k entry lt
-    ∙ (ap (λ (x : Entry). x ∷ drop (suc k) entries) (sym is) ∙ ap (λ (n : ℕ). entry ∷ drop n entries) (sym (add-one k)))
+pub cut_off : {X : Type 0} (xs : List X) (k : ℕ) (x : X) → k < length xs → x ≡ get_or xs k x → drop k xs ≡ x ∷ drop (k + 1) xs
+cut_off xs k x lt is = drop-cons xs k x lt ∙ (ap (λ y. y ∷ drop (suc k) xs) (sym is) ∙ ap (λ (n : ℕ). x ∷ drop n xs) (sym (add-one k)))
 
 pub header_here : (entries : List Entry) (k : ℕ) (entry : Entry) → k < length entries → entry ≡ get_or entries k entry
     → true ≡ is_header (message_view entry)

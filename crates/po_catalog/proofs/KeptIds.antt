@@ -9,7 +9,7 @@ use Rattle.po_catalog.specs.declared.fault.Cause.TheVariants as cause
 use Rattle.po_catalog.specs.declared.front.Keyword.{Keyword}
 use Rattle.po_catalog.specs.declared.front.Keyword.TheVariants.{Domain, Context, Id, PluralId, Form}
 use Rattle.po_catalog.specs.Catalogs.{PoMessage, PoText}
-use Rattle.po_catalog.specs.Drafts.{PoDraft, PoField, all_ended, behind_empty, behind_line, comment_checked, differ, empty_draft, ended_at_comment, ended_before, ended_if_whole, ends_before, field_at, field_begun, field_ended, field_taken, flags_read, form_checked, form_place, has_no_form, keyword_of_message, keyword_read, line_checked, message_begun, message_ended, message_kept, next_form, noted, passed_over, place_of, placed, plural_place, text_checked, text_ended, told, unknown_read, with_field, with_text}
+use Rattle.po_catalog.specs.Drafts.{PoDraft, PoField, all_ended, behind_empty, behind_line, comment_checked, differ, empty_draft, ended_at_comment, ended_before, ended_if_whole, ends_before, field_at, field_begun, field_ended, field_taken, flags_read, form_checked, form_place, has_no_form, keyword_of_message, keyword_read, line_checked, message_begun, message_ended, message_kept, next_form, noted, other_line, passed_over, place_of, placed, plural_place, text_checked, text_ended, texts_checked, told, told_other, unknown_read, with_field, with_text}
 use Rattle.po_catalog.specs.Fronts.{PoFront}
 use Rattle.po_catalog.specs.KeptIds.{HaveId, IdsAreKept, SaysId, text_of}
 use Rattle.po_catalog.specs.LineKinds.{PoLine, Fields}
@@ -97,6 +97,18 @@ unfolding text_checked
 text_checked_alike true l d = itself d
 text_checked_alike false l d = told_alike l cause.NoText d
 
+told_other_alike : (other : Option ℕ) (d : PoDraft) → IsAlike d (told_other other d)
+told_other_alike None d = itself d
+told_other_alike (Some l) d = told_alike l cause.TextNotUtf8 d
+
+texts_checked_alike : (d : PoDraft) → IsAlike d (texts_checked d)
+unfolding texts_checked
+texts_checked_alike d =
+    elim d.message.is_faulty as (λ (v : Bool). IsAlike d (if v then d else told_other (other_line d.message) d)) [
+      | true ↦ itself d
+      | false ↦ told_other_alike (other_line d.message) d
+    ]
+
 form_checked_alike : (d : PoDraft) → IsAlike d (form_checked d)
 unfolding form_checked
 form_checked_alike d =
@@ -166,8 +178,10 @@ not_begun n t d e (inr h) = let no : true ≡ false = sym h.2 ∙ e in cc
 message_ended_has : (n : ℕ) (t : List ℕ) (d : PoDraft) → IsClosed n t d → HaveId n t (message_ended d).messages
 unfolding message_ended
 message_ended_has n t d h =
-    elim d.is_begun as (λ (v : Bool). d.is_begun ≡ v → HaveId n t (if v then message_kept (form_checked d) else d).messages) [
-      | true ↦ λ e. kept_by n t (form_checked d) (closed_along n t d (form_checked d) (form_checked_alike d) h)
+    let checked = texts_checked d in
+    let same : IsClosed n t checked = closed_along n t d checked (texts_checked_alike d) h in
+    elim d.is_begun as (λ (v : Bool). d.is_begun ≡ v → HaveId n t (if v then message_kept (form_checked checked) else d).messages) [
+      | true ↦ λ e. kept_by n t (form_checked checked) (closed_along n t checked (form_checked checked) (form_checked_alike checked) same)
       | false ↦ λ e. not_begun n t d e h
     ] refl
 

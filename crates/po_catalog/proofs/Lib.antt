@@ -4,6 +4,7 @@ pub mod Codes
 pub mod FrontLengths
 pub mod FlagWords
 pub mod HeaderLines
+pub mod OtherTexts
 pub mod Sayings
 pub mod Numbers
 pub mod Readings

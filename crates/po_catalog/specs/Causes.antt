@@ -1,7 +1,7 @@
 -- The text of what is wrong in a catalog.
 use Rattle.std.specs.Prelude.{ℕ, List, codes}
 use Rattle.po_catalog.specs.declared.fault.Cause.{Cause}
-use Rattle.po_catalog.specs.declared.fault.Cause.TheVariants.{NotUtf8, UnclosedText, UnknownEscape, UnknownWord, BadIndex, StrayText, NoText}
+use Rattle.po_catalog.specs.declared.fault.Cause.TheVariants.{NotUtf8, UnclosedText, UnknownEscape, TextNotUtf8, UnknownWord, BadIndex, StrayText, NoText}
 use Rattle.po_catalog.specs.declared.fault.Cause.TheVariants.{StrayPluralId, FormWithoutId, FormWithoutIndex, IndexWithoutPluralId, WrongIndex, SecondForm, NoForm}
 
 -- what is wrong, and what to do
@@ -9,6 +9,7 @@ abbrev pub cause_text : Cause → List ℕ
 cause_text NotUtf8 = codes "it has bytes that are no UTF-8: save the file as UTF-8"
 cause_text UnclosedText = codes "a text isn't closed: end it with a quotation mark in its line"
 cause_text UnknownEscape = codes "a backslash begins no known escape: write two for the character itself"
+cause_text TextNotUtf8 = codes "with its escapes the text is no UTF-8: write its characters themselves"
 cause_text UnknownWord = codes "it is no line of a .po file: correct it"
 cause_text BadIndex = codes "msgstr[ has no index below 100 and ]: write msgstr[0] and so on"
 cause_text StrayText = codes "a text has no keyword before it: write msgid or msgstr"

@@ -1,11 +1,12 @@
 -- What is read of a catalog up to some place, and what a keyword, a text, a comment and an empty line
 -- add to it.
 use Rattle.std.specs.Prelude.{ℕ, ◌==◌, ◌&&◌, ◌||◌, Bool, true, false, not, List, [], ◌∷◌, ◌++◌, length, flat_map, Option, Some, None, is_none, Result, Ok, Err, if◌then◌else◌}
+use Rattle.std.specs.Option.{option_or}
 use Rattle.std.specs.Str.{is_utf8}
 use Rattle.po_catalog.specs.declared.draft.Place.{Place}
 use Rattle.po_catalog.specs.declared.draft.Place.TheVariants as place
 use Rattle.po_catalog.specs.declared.fault.Cause.{Cause}
-use Rattle.po_catalog.specs.declared.fault.Cause.TheVariants.{NotUtf8, NoText, NoForm, StrayPluralId, FormWithoutId, FormWithoutIndex, IndexWithoutPluralId, WrongIndex, SecondForm}
+use Rattle.po_catalog.specs.declared.fault.Cause.TheVariants.{NotUtf8, TextNotUtf8, NoText, NoForm, StrayPluralId, FormWithoutId, FormWithoutIndex, IndexWithoutPluralId, WrongIndex, SecondForm}
 use Rattle.po_catalog.specs.declared.fault.Fault.{Fault}
 use Rattle.po_catalog.specs.declared.front.Keyword.{Keyword}
 use Rattle.po_catalog.specs.declared.front.Keyword.TheVariants.{Domain, Context, Id, PluralId, Form}
@@ -66,6 +67,29 @@ place_of Context message = Ok place.Context
 place_of Id message = Ok place.Id
 place_of PluralId message = plural_place message
 place_of (Form index) message = form_place index message
+
+-- ---- texts whose bytes are no UTF-8, as their escapes may make them
+
+abbrev pub is_other : PoText → Bool
+is_other text = not (is_utf8 text.bytes)
+
+-- the line of the text, if it is such a one
+abbrev pub line_if_other : Option PoText → Option ℕ
+line_if_other None = None
+line_if_other (Some text) = if is_other text then Some text.line else None
+
+-- the line of the first one of these
+abbrev pub first_other : List PoText → Option ℕ
+first_other [] = None
+first_other (text ∷ more) = if is_other text then Some text.line else first_other more
+
+-- the line of the first one of the message
+abbrev pub other_line : PoMessage → Option ℕ
+other_line message =
+    option_or (option_or (option_or (line_if_other message.context) (line_if_other message.id)) (line_if_other message.plural_id))
+    (first_other message.forms)
+
+-- ---- flags
 
 -- the flags of a comment, with a comma behind each
 abbrev pub with_comma : List ℕ → List ℕ
@@ -139,6 +163,14 @@ field_ended (Some field) draft = field_taken field (record draft { field = None 
 unfoldable pub text_ended : PoDraft → PoDraft
 text_ended draft = field_ended draft.field draft
 
+abbrev pub told_other : Option ℕ → PoDraft → PoDraft
+told_other None draft = draft
+told_other (Some line) draft = told line TextNotUtf8 draft
+
+-- the texts of a message in which nothing is wrong are UTF-8
+unfoldable pub texts_checked : PoDraft → PoDraft
+texts_checked draft = if draft.message.is_faulty then draft else told_other (other_line draft.message) draft
+
 -- a message in which nothing is wrong has a form
 unfoldable pub form_checked : PoDraft → PoDraft
 form_checked draft = if has_no_form draft.message && not draft.message.is_faulty then told draft.message.line NoForm draft else draft
@@ -149,7 +181,7 @@ message_kept draft = record draft { messages = draft.messages ++ draft.message �
 
 -- a message that was begun ends
 unfoldable pub message_ended : PoDraft → PoDraft
-message_ended draft = if draft.is_begun then message_kept (form_checked draft) else draft
+message_ended draft = if draft.is_begun then message_kept (form_checked (texts_checked draft)) else draft
 
 -- the text and the message end
 unfoldable pub all_ended : PoDraft → PoDraft

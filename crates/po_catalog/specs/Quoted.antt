@@ -26,9 +26,9 @@ octal zero n s = (n, s)
 octal (suc more) n [] = (n, [])
 octal (suc more) n (b ∷ s) = if nat_lt (digit_value b) 8 then octal more (n * 8 + digit_value b) s else (n, b ∷ s)
 
--- the code, if it is one of ASCII
-abbrev pub of_ascii : ℕ × List ℕ → Option (ℕ × List ℕ)
-of_ascii code = if nat_lt code.0 128 then Some code else None
+-- the code, if it is a byte
+abbrev pub of_byte : ℕ × List ℕ → Option (ℕ × List ℕ)
+of_byte code = if nat_lt code.0 256 then Some code else None
 
 -- the byte of a letter or a mark behind a backslash
 unfoldable pub byte_of_letter : ℕ → Option ℕ
@@ -47,13 +47,13 @@ byte_of_letter b =
 -- the code of the hexadecimal digits at the front, of which there is one
 abbrev pub hexadecimal_code : List ℕ → Option (ℕ × List ℕ)
 hexadecimal_code [] = None
-hexadecimal_code (b ∷ s) = if nat_lt (digit_value b) 16 then of_ascii (hexadecimal (digit_value b) s) else None
+hexadecimal_code (b ∷ s) = if nat_lt (digit_value b) 16 then of_byte (hexadecimal (digit_value b) s) else None
 
 -- the code behind a backslash: x and hexadecimal digits, or one to three octal digits
 abbrev pub code_front : ℕ → List ℕ → Option (ℕ × List ℕ)
 code_front b s =
     if b == 120 then hexadecimal_code s
-    else (if nat_lt (digit_value b) 8 then of_ascii (octal 2 (digit_value b) s)
+    else (if nat_lt (digit_value b) 8 then of_byte (octal 2 (digit_value b) s)
     else None)
 
 abbrev pub letter_or_code : Option ℕ → ℕ → List ℕ → Option (ℕ × List ℕ)

@@ -1,10 +1,11 @@
 //! The message that is being read.
 
-ghost use Rattle.std.specs.Prelude.{◌≡◌, ◌<◌, length, IfOk, OnOk};
+ghost use Rattle.std.specs.Prelude.{◌≡◌, ◌<◌, length, map, option_map, IfOk, OnOk};
 ghost use Rattle.po_catalog.specs.Catalogs.{message_view, text_view};
-ghost use Rattle.po_catalog.specs.Drafts.{ends_before, field_at, form_place, has_id, next_form, passed_over, place_of, plural_place, with_text};
+ghost use Rattle.po_catalog.specs.Drafts.{ends_before, field_at, first_other, form_place, has_id, is_other, line_if_other, next_form, other_line, passed_over, place_of, plural_place, with_text};
 ghost use Rattle.po_catalog.specs.Inner.DraftViews.{GoesOnIn, field_view};
 
+use crate::bytes::is_utf8;
 use crate::entry::{Entry, Text};
 use crate::fault::{Cause, ReadError};
 use crate::front::Keyword;
@@ -63,7 +64,49 @@ impl Field {
     }
 }
 
+impl Text {
+    // Whether its bytes are no UTF-8.
+    fn is_other(&self) -> bool
+        ensures { result ≡ is_other (text_view self.now) }
+    {
+        !is_utf8(&self.bytes)
+    }
+}
+
+// The line of a text, if its bytes are no UTF-8.
+fn line_if_other(text: &Option<Text>) -> Option<usize>
+    ensures { result ≡ line_if_other (option_map text_view text.now) }
+{
+    match text {
+        Some(text) if text.is_other() => Some(text.line),
+        _ => None,
+    }
+}
+
+// The line of the first of the texts whose bytes are no UTF-8.
+#[tactic(auto, using(crate::proofs::OtherTexts::other_here, crate::proofs::OtherTexts::other_later, crate::proofs::OtherTexts::other_nowhere))]
+fn first_other(texts: &[Text]) -> Option<usize>
+    ensures { result ≡ first_other (map text_view texts.now) }
+{
+    for text in texts {
+        if text.is_other() {
+            return Some(text.line);
+        }
+    }
+    None
+}
+
 impl Entry {
+    // The line of the first text whose bytes are no UTF-8.
+    pub(crate) fn other_line(&self) -> Option<usize>
+        ensures { result ≡ other_line (message_view self.now) }
+    {
+        line_if_other(&self.context)
+            .or(line_if_other(&self.id))
+            .or(line_if_other(&self.plural_id))
+            .or(first_other(&self.forms))
+    }
+
     // Takes a text.
     pub(crate) fn take(&mut self, place: Place, text: Text) -> Result<(), AllocError>
         ensures { OnOk result (message_view self.new ≡ with_text place (text_view text) (message_view self.old)) }

@@ -10,8 +10,10 @@ pub enum Cause {
     NotUtf8,
     /// A text isn't closed in its line.
     UnclosedText,
-    /// A backslash begins no escape, or one whose code is above 127.
+    /// A backslash begins no escape, or one whose code is above 255.
     UnknownEscape,
+    /// A text is no UTF-8 with its escapes, each of which is a byte.
+    TextNotUtf8,
     /// There is a word that is no keyword, or a character that begins nothing.
     UnknownWord,
     /// No index of one or two digits and `]` stand behind `msgstr[`.
@@ -48,6 +50,8 @@ impl fmt::Display for Cause {
             Cause::UnclosedText => "a text isn't closed: end it with a quotation mark in its line",
             Cause::UnknownEscape =>
                 "a backslash begins no known escape: write two for the character itself",
+            Cause::TextNotUtf8 =>
+                "with its escapes the text is no UTF-8: write its characters themselves",
             Cause::UnknownWord => "it is no line of a .po file: correct it",
             Cause::BadIndex => "msgstr[ has no index below 100 and ]: write msgstr[0] and so on",
             Cause::StrayText => "a text has no keyword before it: write msgid or msgstr",

@@ -1,7 +1,7 @@
 //! Texts in quotation marks.
 
 ghost use Rattle.std.specs.Prelude.{◌≡◌, ◌∷◌, ◌≤◌, ◌<◌, ◌+◌, length, IfOk, IfSome};
-ghost use Rattle.po_catalog.specs.Quoted.{byte_of_letter, code_front, digit_value, escape_front, hexadecimal, hexadecimal_code, octal, of_ascii, said_front};
+ghost use Rattle.po_catalog.specs.Quoted.{byte_of_letter, code_front, digit_value, escape_front, hexadecimal, hexadecimal_code, octal, of_byte, said_front};
 ghost use Rattle.po_catalog.specs.ReadTexts.{ReadsExactly};
 ghost use Rattle.po_catalog.specs.Inner.QuotedViews.{GoesOn, IsShorter, code_view, front_view};
 
@@ -33,12 +33,12 @@ fn digit_value(byte: u8) -> u8
     }
 }
 
-// The code of hexadecimal digits whose first ones have this code, if it is one of ASCII, and what
+// The code of hexadecimal digits of which the first one has this value, if it is a byte, and what
 // follows them.
-#[tactic(auto, using(crate::proofs::Codes::hexadecimal_digit, crate::proofs::Codes::hexadecimal_end, crate::proofs::Codes::of_ascii_code, crate::proofs::Codes::too_large))]
+#[tactic(auto, using(crate::proofs::Codes::hexadecimal_digit, crate::proofs::Codes::hexadecimal_end, crate::proofs::Codes::of_byte_code, crate::proofs::Codes::too_large))]
 fn hexadecimal_front(first: u8, text: &[u8]) -> Option<(u8, &[u8])>
-    requires { first < 128 }
-    ensures code { code_view result ≡ of_ascii (hexadecimal first text.now) }
+    requires { first < 16 }
+    ensures code { code_view result ≡ of_byte (hexadecimal first text.now) }
     ensures shorter { IfSome result (λ code. length code.1.now ≤ length text.now) }
 {
     let mut code = first;
@@ -48,7 +48,7 @@ fn hexadecimal_front(first: u8, text: &[u8]) -> Option<(u8, &[u8])>
         if 16 <= value {
             return Some((code, rest));
         }
-        if 8 <= code {
+        if 16 <= code {
             return None;
         }
         code = code * 16 + value;
@@ -57,11 +57,11 @@ fn hexadecimal_front(first: u8, text: &[u8]) -> Option<(u8, &[u8])>
     Some((code, rest))
 }
 
-// The code of one to three octal digits, if it is one of ASCII, and what follows them.
-#[tactic(auto, using(crate::proofs::Codes::octal_digit, crate::proofs::Codes::octal_end, crate::proofs::Codes::of_ascii_code))]
+// The code of one to three octal digits, if it is a byte, and what follows them.
+#[tactic(auto, using(crate::proofs::Codes::octal_digit, crate::proofs::Codes::octal_end, crate::proofs::Codes::of_byte_code))]
 fn octal_front(first: u8, text: &[u8]) -> Option<(u8, &[u8])>
     requires { first < 8 }
-    ensures code { code_view result ≡ of_ascii (octal 2 first text.now) }
+    ensures code { code_view result ≡ of_byte (octal 2 first text.now) }
     ensures shorter { IfSome result (λ code. length code.1.now ≤ length text.now) }
 {
     let [second, after @ ..] = text else {
@@ -74,12 +74,11 @@ fn octal_front(first: u8, text: &[u8]) -> Option<(u8, &[u8])>
     third_octal(first * 8 + second, after)
 }
 
-// The code of octal digits of which a third one may follow, if it is one of ASCII, and what follows
-// them.
-#[tactic(auto, using(crate::proofs::Codes::octal_digit, crate::proofs::Codes::octal_end, crate::proofs::Codes::of_ascii_code, crate::proofs::Codes::of_ascii_none))]
+// The code of octal digits of which a third one may follow, if it is a byte, and what follows them.
+#[tactic(auto, using(crate::proofs::Codes::octal_digit, crate::proofs::Codes::octal_end, crate::proofs::Codes::of_byte_code, crate::proofs::Codes::of_byte_none))]
 fn third_octal(code: u8, text: &[u8]) -> Option<(u8, &[u8])>
     requires { code < 64 }
-    ensures code { code_view result ≡ of_ascii (octal 1 code text.now) }
+    ensures code { code_view result ≡ of_byte (octal 1 code text.now) }
     ensures shorter { IfSome result (λ code. length code.1.now ≤ length text.now) }
 {
     let [third, rest @ ..] = text else {
@@ -89,7 +88,7 @@ fn third_octal(code: u8, text: &[u8]) -> Option<(u8, &[u8])>
     if 8 <= third {
         return Some((code, text));
     }
-    if code < 16 {
+    if code < 32 {
         Some((code * 8 + third, rest))
     } else {
         None
@@ -198,7 +197,8 @@ pub(crate) fn push_text<'l>(line: &'l [u8], text: &mut Vec<u8>) -> Result<&'l [u
 }
 
 /// Reads a text from behind its first quotation mark on, as gettext's escapes say it, up to the next
-/// mark. Returns its bytes, for which memory is taken, and what follows the mark.
+/// mark. Returns its bytes, which its escapes may make no UTF-8, and what follows the mark. Memory is
+/// taken for the bytes.
 #[tactic(auto, using(crate::proofs::Sayings::ok_said, crate::proofs::Sayings::err_said))]
 pub fn read_text(alloc: Global, line: &[u8]) -> Result<(Vec<u8>, &[u8]), ReadError>
     ensures { ReadsExactly line.now result }

@@ -3,7 +3,7 @@
 ghost use Rattle.std.specs.Prelude.{◌≡◌, ◌<◌, length, IfOk, OnOk};
 ghost use Rattle.po_catalog.specs.Drafts.{all_ended, behind_empty, behind_line, comment_checked, empty_draft, ended_at_comment, ended_before, ended_if_whole, flags_read};
 ghost use Rattle.po_catalog.specs.Drafts.{field_taken, form_checked, keyword_of_message, keyword_read, line_checked, message_begun, message_ended, message_kept};
-ghost use Rattle.po_catalog.specs.Drafts.{noted, placed, text_checked, text_ended, told, unknown_read};
+ghost use Rattle.po_catalog.specs.Drafts.{noted, placed, text_checked, text_ended, texts_checked, told, unknown_read};
 ghost use Rattle.po_catalog.specs.Inner.DraftViews.{IsFurther, ReadsTold, TakesFront, TakesText, TextGoesOn, draft_view, field_view};
 ghost use Rattle.po_catalog.specs.ReadCatalogs.{ReadsFields, ReadsLine, catalog_at, catalog_view};
 
@@ -114,6 +114,20 @@ impl Reader {
         }
     }
 
+    // Tells the first text of the message whose bytes are no UTF-8, if nothing else is wrong in it.
+    #[tactic(auto, unfolding(crate::specs::Drafts::texts_checked))]
+    fn check_texts(&mut self) -> Result<(), AllocError>
+        ensures { OnOk result (draft_view self.new ≡ texts_checked (draft_view self.old)) }
+    {
+        if self.entry.is_faulty {
+            return Ok(());
+        }
+        match self.entry.other_line() {
+            Some(line) => self.tell(line, Cause::TextNotUtf8),
+            None => Ok(()),
+        }
+    }
+
     // Tells that the message has no form, if nothing else is wrong in it.
     #[tactic(auto, unfolding(crate::specs::Drafts::form_checked))]
     fn check_form(&mut self) -> Result<(), AllocError>
@@ -146,6 +160,7 @@ impl Reader {
         if !self.is_begun {
             return Ok(());
         }
+        self.check_texts()?;
         self.check_form()?;
         self.keep_message()
     }
