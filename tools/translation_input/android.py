@@ -1,4 +1,4 @@
-"""Android's resources: files of `plurals`."""
+"""Android's resources: files of `plurals`, and of patterns of ICU with plurals."""
 import os
 import re
 from typing import NamedTuple
@@ -9,6 +9,8 @@ from .lines import Fault, shown
 CATEGORIES = ("zero", "one", "two", "few", "many", "other")
 # Elements that Android skips wherever they stand.
 SKIPPED = ("skip", "eat-comment")
+# The head of a plural argument, as far as plural_forms decides whether it is one.
+PATTERN = re.compile(r"\{[^{},]*,[^{},]*(?:plural|selectordinal)", re.IGNORECASE)
 # The namespace of `tools:locale`.
 TOOLS = "http://schemas.android.com/tools"
 
@@ -42,11 +44,12 @@ class Item(NamedTuple):
     line: int
 
 
-class Plurals:
-    """A `plurals`: its line, its name, the product that it is for, and its items."""
+class Message:
+    """A `plurals` or a `string`: its tag, its line, its name, the product that it is for, and its items; of a `string` it is one."""
 
-    def __init__(self, line, name, product):
-        self.line, self.name, self.product, self.items = line, name, product, []
+    def __init__(self, tag, line, name, product):
+        self.tag, self.line, self.name, self.product = tag, line, name, product
+        self.items = [Item(tag, "", [], line)] if tag == "string" else []
 
 
 class Refused(Exception):
@@ -54,7 +57,7 @@ class Refused(Exception):
 
 
 class Resources:
-    """Reads the plurals of an Android file, up to the fault of the file, if it has one: its line, or none, and what is wrong.
+    """Reads the messages of an Android file, up to the fault of the file, if it has one: its line, or none, and what is wrong.
 
     A file with a document type, and so with entities of its own, is refused. The locale is that of `tools:locale`.
     """
@@ -82,21 +85,22 @@ class Resources:
         self.depth += 1
         if self.root is None:
             self.root, self.locale = tag, tools_locale(attributes)
-        if self.current is None and tag == "plurals":
-            self.current = Plurals(self.parser.CurrentLineNumber, attributes.get("name"), attributes.get("product"))
+        if self.current is None and tag in ("plurals", "string"):
+            self.current = Message(tag, self.parser.CurrentLineNumber, attributes.get("name"), attributes.get("product"))
             self.inside = self.depth
-        elif self.current is not None and self.depth == self.inside + 1 and tag not in SKIPPED:
+        elif self.current is not None and self.current.tag == "plurals" and self.depth == self.inside + 1 and tag not in SKIPPED:
             quantity = attributes.get("quantity", "").strip(" \t\n\r")
             self.current.items.append(Item(tag, quantity, [], self.parser.CurrentLineNumber))
 
     def end(self, _):
         if self.current is not None and self.depth == self.inside:
-            self.found.append(self.current)
+            if self.current.tag == "plurals" or PATTERN.search("".join(self.current.items[0].parts)):
+                self.found.append(self.current)
             self.current = None
         self.depth -= 1
 
     def put(self, text):
-        if self.current is not None and self.current.items and self.depth > self.inside:
+        if self.current is not None and self.current.items and (self.depth > self.inside or self.current.tag == "string"):
             self.current.items[-1].parts.append(text)
 
 
@@ -161,9 +165,9 @@ def is_reference(raw):
 
 
 def key_of(plurals, more):
-    """Returns the key of a plurals: what is for some devices, networks or products alone has their qualifiers in it."""
+    """Returns the key of a message: what is for some devices, networks or products alone has their qualifiers in it."""
     if not plurals.name:
-        raise Fault("a plurals has no name: give it one")
+        raise Fault(f"a {plurals.tag} has no name: give it one")
     more = ", ".join(it for it in (more, plurals.product) if it)
     return plurals.name + (f" ({more})" if more else "")
 

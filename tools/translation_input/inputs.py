@@ -3,7 +3,7 @@ import codecs
 import json
 import re
 
-from .android import Resources, items_of_plurals, key_of, locale_of_folder, texts_of_items
+from .android import Resources, android_text, items_of_plurals, key_of, locale_of_folder, texts_of_items
 from .lines import Fault, shown
 
 # The charsets other than UTF-8 that a catalog can have: those in which ASCII's bytes are ASCII's characters, or nearly.
@@ -15,8 +15,6 @@ MOST = 4194304
 WIDE = (codecs.BOM_UTF16_LE, codecs.BOM_UTF16_BE)
 # How many faults of the items of a `plurals` are told one by one.
 MOST_TOLD = 10
-# A catalog that has a head alone: of it plural_forms notes that it has no messages.
-NO_MESSAGES = b'msgid ""\nmsgstr ""\n'
 
 
 def data_of_file(path):
@@ -41,12 +39,21 @@ def json_text(told):
     return json_text({"@@file": told["@@file"], "messages": [], "notices": [long]})
 
 
+def told_pattern(string, key):
+    """Returns the message of a string that is a pattern, and what is wrong with it."""
+    text, fault = android_text("".join(string.items[0].parts))
+    message = {"key": key, "line": string.line, "type": "patterns", "text": text}
+    return message, [notice(string.line, "syntax", f"{shown(key)}: {fault}")] if fault else []
+
+
 def told_plurals(plurals, more):
     """Returns a message, none if it can't be read or each text is that of another resource; and what is wrong with it."""
     try:
         key = key_of(plurals, more)
     except Fault as fault:
         return None, [notice(plurals.line, "syntax", str(fault), left_out=1)]
+    if plurals.tag == "string":
+        return told_pattern(plurals, key)
     items, faults = items_of_plurals(plurals, shown(key))
     forms, wrong = texts_of_items(items, shown(key))
     faults = sorted(faults + wrong, key=lambda it: it.line)
@@ -69,8 +76,6 @@ def told_android(data, path):
         told, notices = [], [notice(None, "not-read", "it is no file of messages: name a file of gettext, Android, i18next or ARB")]
     elif resources.fault:
         notices.insert(0, notice(resources.fault[0], "syntax", resources.fault[1]))
-    elif not told:
-        return told_catalog(NO_MESSAGES, path)
     messages = [message for message, _ in told if message]
     return json_text({"@@file": path, **({"@@locale": locale} if locale else {}), "messages": messages, "notices": notices})
 

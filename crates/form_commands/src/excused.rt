@@ -1,23 +1,23 @@
 //! Findings of translators' files that their pattern or their message excuses.
 
-use fixed_decimal::CompactDecimal;
 use icu_plurals::PluralRuleType;
-use message_format::has_branch_of_value;
 use message_pattern::{ArgumentKind, Part, PatternError, Piece, Selector, StyledPattern};
 use message_report::{
     ArgumentPlace, BranchFault, Cause, Finding, FormFault, MessagePlace, PatternPlace, Place,
 };
 use serde_json::Value;
 use std::alloc::{AllocError, Global};
+use translation_files::FileMessages;
 
 // Whether a finding is none: that a branch doesn't say the number, where the pattern says it beside
-// the argument, or no branch does; that a category has no branch, whose one number has a branch of
-// its own; or that a form is missing for which nothing is left beside those of exactly 0 and 1.
+// the argument, or no branch does; that a form doesn't, and none of the message does, whose source
+// isn't known; or that a form is missing for which nothing is left beside those of exactly 0 and 1.
 pub(crate) fn is_excused(
     alloc: Global,
-    document: &Value,
+    read: &FileMessages,
     finding: &Finding<'_>,
 ) -> Result<bool, AllocError> {
+    let document = &read.document;
     match (finding.place, finding.cause) {
         (
             Place::Branch(place, Selector::Keyword(keyword)),
@@ -26,11 +26,8 @@ pub(crate) fn is_excused(
             Some(text) => is_said_beside(alloc, text, &place, keyword),
             None => Ok(false),
         },
-        (Place::Branch(place, _), Cause::Branch(BranchFault::Missing(_, number, None))) => {
-            match text_of(document, &place.pattern) {
-                Some(text) => has_own_branch(alloc, text, &place, number),
-                None => Ok(false),
-            }
+        (Place::Form(place, _), Cause::Form(FormFault::NoNumber(..))) => {
+            Ok(read.placeholder_at(&finding.place).is_some() && lacks_number(document, &place))
         }
         (Place::Form(place, _), Cause::Form(FormFault::MissingRare(_, None, _))) => {
             Ok(has_explicit(document, &place))
@@ -40,27 +37,56 @@ pub(crate) fn is_excused(
 }
 
 // The text of a pattern.
-fn text_of<'d>(document: &'d Value, place: &PatternPlace<'_>) -> Option<&'d str> {
+pub(crate) fn text_of<'d>(document: &'d Value, place: &PatternPlace<'_>) -> Option<&'d str> {
     let locale = document.get(place.locale.locale)?;
     locale.get("patterns")?.get(place.key)?.as_str()
 }
 
-// Whether a message has a form of exactly 0 or 1.
-fn has_explicit(document: &Value, place: &MessagePlace<'_>) -> bool {
+// The forms of a message.
+fn forms_of<'d>(document: &'d Value, place: &MessagePlace<'_>) -> Option<&'d Value> {
     let part = match place.rule_type {
         PluralRuleType::Cardinal => "cardinal",
         PluralRuleType::Ordinal => "ordinal",
     };
-    let Some(locale) = document.get(place.locale.locale) else {
-        return false;
-    };
-    let Some(messages) = locale.get(part) else {
-        return false;
-    };
-    match messages.get(place.key) {
+    document.get(place.locale.locale)?.get(part)?.get(place.key)
+}
+
+// The arguments of a message's source, if they are known.
+fn source_of<'d>(document: &'d Value, place: &MessagePlace<'_>) -> Option<&'d Value> {
+    document
+        .get(place.locale.locale)?
+        .get("source")?
+        .get(place.key)
+}
+
+// Whether a message has a form of exactly 0 or 1.
+fn has_explicit(document: &Value, place: &MessagePlace<'_>) -> bool {
+    match forms_of(document, place) {
         Some(forms) => {
             forms.get("explicit_zero").is_some() || forms.get("explicit_one").is_some()
         }
+        None => false,
+    }
+}
+
+// Whether no form of a message has the number, and its source isn't known: of a cardinal and an
+// ordinal of one key it is only known where it is the same.
+fn lacks_number(document: &Value, place: &MessagePlace<'_>) -> bool {
+    let Some(Value::Object(forms)) = forms_of(document, place) else {
+        return false;
+    };
+    for (_, form) in forms.iter() {
+        if has_number(form) {
+            return false;
+        }
+    }
+    source_of(document, place).is_none()
+}
+
+// Whether a form has the number.
+fn has_number(form: &Value) -> bool {
+    match form.as_str() {
+        Some(text) => text.contains("{}"),
         None => false,
     }
 }
@@ -196,62 +222,4 @@ fn says(part: &Part<'_>, name: &[u8]) -> bool {
         Piece::Argument(other) => other == name,
         _ => false,
     }
-}
-
-// Whether each plural of a name in a pattern has a branch of a number.
-fn has_own_branch(
-    alloc: Global,
-    text: &str,
-    place: &ArgumentPlace<'_>,
-    number: u16,
-) -> Result<bool, AllocError> {
-    match StyledPattern::parse(alloc, text.as_bytes()) {
-        Ok(styled) => {
-            let pattern = styled.into_pattern();
-            let found = has_branch_in(alloc, pattern.parts(), place.name, number);
-            drop(pattern);
-            found
-        }
-        Err(PatternError::Memory) => Err(AllocError),
-        Err(PatternError::Fault(..)) => Ok(false),
-    }
-}
-
-// Whether each plural of a name among parts has a branch of a number.
-fn has_branch_in(
-    alloc: Global,
-    parts: &[Part<'_>],
-    name: &[u8],
-    number: u16,
-) -> Result<bool, AllocError> {
-    let text = number.to_string(alloc)?;
-    match CompactDecimal::from_str(alloc, text.as_str()) {
-        Ok(number) => have_branch(alloc, parts, name, &number),
-        // A number's digits are one, so memory ran out.
-        Err(_) => Err(AllocError),
-    }
-}
-
-// Whether each plural of a name among parts, without an offset, has a branch of a number.
-fn have_branch(
-    alloc: Global,
-    parts: &[Part<'_>],
-    name: &[u8],
-    number: &CompactDecimal,
-) -> Result<bool, AllocError> {
-    let mut has_all = false;
-    for (index, part) in parts.iter().enumerate() {
-        let Piece::Begin(kind, other, offset) = part.piece else {
-            continue;
-        };
-        if kind == ArgumentKind::Select || other != name {
-            continue;
-        }
-        let behind = parts.get(index.saturating_add(1)..).unwrap_or(&[]);
-        if offset.is_some() || !has_branch_of_value(alloc, number, part.depth, behind)? {
-            return Ok(false);
-        }
-        has_all = true;
-    }
-    Ok(has_all)
 }

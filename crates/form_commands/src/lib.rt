@@ -13,6 +13,8 @@ mod list;
 mod misspelt;
 mod name;
 mod note;
+mod own_numbers;
+mod pattern_notes;
 mod question;
 mod run;
 mod similar_keys;

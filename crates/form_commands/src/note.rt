@@ -98,7 +98,7 @@ fn push_file(
 }
 
 // The place before the locales of a file.
-fn place_of(alloc: Global, name: &str) -> Result<String, AllocError>
+pub(crate) fn place_of(alloc: Global, name: &str) -> Result<String, AllocError>
     ensures { IfOk result (λ place. string_bytes place ≡ name.now ++ codes ": ") }
 {
     format!(in alloc; "{name}: ")
@@ -163,7 +163,7 @@ fn is_asked(part: Part, value: &Value) -> bool
 }
 
 // Whether there is something under a key.
-fn has_some(name: &str, value: &Value) -> bool
+pub(crate) fn has_some(name: &str, value: &Value) -> bool
     ensures { result ≡ has_some name.now (view value.now) }
 {
     match members_under(name, value) {
@@ -180,7 +180,7 @@ fn members_under<'a>(name: &str, value: &'a Value) -> Option<&'a Map<String, Val
 }
 
 // Appends the note of a locale, if it is asked for.
-fn push_if(
+pub(crate) fn push_if(
     alloc: Global,
     asked: bool,
     document: &Value,

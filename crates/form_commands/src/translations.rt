@@ -10,11 +10,13 @@ ghost use Rattle.plural_documents.specs.Inputs.{IsRead};
 use crate::error::{FormsError, Verdict};
 use crate::excused::is_excused;
 use crate::misspelt::is_misspelt;
-use crate::note::{notes_of, write_notes};
+use crate::note::write_notes;
+use crate::own_numbers::with_left_numbers;
+use crate::pattern_notes::translation_notes;
 use crate::run::{document_of, refused};
 use finding_formats::{Format, Located, Notice, Told, Totals, print_located};
 use icu_plurals::JsonProvider;
-use message_report::{Cause, Found, MessageFile, RulesOfLocales, Severity, found_in_files};
+use message_report::{Cause, Found, MessageFile, Place, RulesOfLocales, Severity, found_in_files};
 use plural_documents::{sum, write_output};
 use plural_fallback::FallbackProvider;
 use serde_json::Value;
@@ -146,6 +148,7 @@ fn report_of<S: RulesOfLocales>(
     }
     let located = locate_all(
         alloc,
+        source,
         messages.as_slice(),
         read.as_slice(),
         found.as_slice(),
@@ -154,7 +157,7 @@ fn report_of<S: RulesOfLocales>(
     let totals = totals_of(located.as_slice(), read.as_slice(), found.as_slice())?;
     Ok(Report {
         text: print_located(alloc, checking.format, located.as_slice(), totals)?,
-        notes: notes_of(alloc, document, messages.as_slice())?,
+        notes: translation_notes(alloc, document, messages.as_slice())?,
         verdict: verdict_of(totals, checking.is_strict),
     })
 }
@@ -216,8 +219,9 @@ fn messages_of<'a>(
 }
 
 // What is told of each file, in its order: that of no line first, then by lines.
-fn locate_all<'a>(
+fn locate_all<'a, S: RulesOfLocales>(
     alloc: Global,
+    source: &S,
     messages: &[MessageFile<'a>],
     read: &'a [FileMessages],
     found: &[Found<'a>],
@@ -227,7 +231,7 @@ fn locate_all<'a>(
     for ((file, it), found) in messages.iter().zip(read.iter()).zip(found.iter()) {
         let mut located = Vec::new(alloc);
         push_notices(&mut located, file.name, it, ignored)?;
-        push_findings(alloc, &mut located, it, found, ignored)?;
+        push_findings(alloc, source, &mut located, it, found, ignored)?;
         located.sort_by_key(|it| it.line)?;
         all.extend_from_slice(located.as_slice())?;
     }
@@ -253,10 +257,12 @@ fn push_notices<'a>(
     Ok(())
 }
 
-// Appends what is found in the messages of a file, unless the message excuses it. Of a misspelt
-// keyword it is told that it is no category, and not that the category is missing.
-fn push_findings<'a>(
+// Appends what is found in the messages of a file, unless the message excuses it, by numbers that
+// have no branch of their own. Of a misspelt keyword it is told that it is no category, and not
+// that the category is missing.
+fn push_findings<'a, S: RulesOfLocales>(
     alloc: Global,
+    source: &S,
     located: &mut Vec<Located<'a>>,
     read: &'a FileMessages,
     found: &Found<'a>,
@@ -265,17 +271,20 @@ fn push_findings<'a>(
     let all = found.findings();
     for (index, it) in all.iter().enumerate() {
         let behind = all.get(index.saturating_add(1)..).unwrap_or(&[]);
-        if is_misspelt(alloc, it, behind)? || is_excused(alloc, &read.document, it)? {
+        if is_misspelt(alloc, it, behind)? || is_excused(alloc, read, it)? {
             continue;
         }
+        let Some(told) = with_left_numbers(alloc, source, &read.document, it)? else {
+            continue;
+        };
         let line = read.line_at(&it.place);
         let placeholder = read.placeholder_at(&it.place);
-        push_told(located, line, placeholder, Told::Finding(*it), ignored)?;
+        push_told(located, line, placeholder, Told::Finding(told), ignored)?;
     }
     Ok(())
 }
 
-// Appends what is told, unless its code is ignored.
+// Appends what is told, unless its code is ignored, or that of the keys that it counts.
 fn push_told<'a>(
     located: &mut Vec<Located<'a>>,
     line: Option<u64>,
@@ -284,7 +293,12 @@ fn push_told<'a>(
     ignored: &[&str],
 ) -> Result<(), AllocError> {
     let code = told.code();
-    if ignored.iter().any(|it| *it == code) {
+    let counted = if counts_keys(told) {
+        "not-a-form"
+    } else {
+        code
+    };
+    if ignored.iter().any(|it| *it == code || *it == counted) {
         return Ok(());
     }
     located.push(Located {
@@ -293,6 +307,17 @@ fn push_told<'a>(
         told,
     })?;
     Ok(())
+}
+
+// Whether this counts further keys of a message that name no form.
+fn counts_keys(told: Told<'_>) -> bool {
+    match told {
+        Told::Finding(finding) => match (finding.place, finding.cause) {
+            (Place::Message(_), Cause::More(_)) => true,
+            _ => false,
+        },
+        Told::Notice(_) => false,
+    }
 }
 
 // The totals of files.

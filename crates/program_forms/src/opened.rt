@@ -145,9 +145,14 @@ fn is_of_translators(opened: &Opened<'_>) -> bool {
     matches!(opened.held, Held::Translations(_))
 }
 
-// Whether one of the files is one of translators.
+// Whether a file can't be read.
+fn is_unread(opened: &Opened<'_>) -> bool {
+    matches!(opened.held, Held::Unopened | Held::Unread(_))
+}
+
+// Whether one of the files is one of translators, or none can be read.
 pub(crate) fn have_translations(all: &[Opened<'_>]) -> bool {
-    all.iter().any(|it| is_of_translators(it))
+    all.iter().any(|it| is_of_translators(it)) || all.iter().all(|it| is_unread(it))
 }
 
 // The files as those of translators.

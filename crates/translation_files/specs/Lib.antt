@@ -1,3 +1,12 @@
+-- notices, kinds and counts
 pub mod NoticeCodes
+pub mod NoticeSeverities
 pub mod MessageKinds
 pub mod MessageFates
+-- where messages stand
+pub mod FilePlaces
+-- what a file gives
+pub mod MessageDocuments
+pub mod ReadFiles
+-- not definitions of the subject
+pub mod Inner

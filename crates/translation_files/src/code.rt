@@ -28,6 +28,8 @@ pub enum NoticeCode {
     NotTranslated,
     /// `arguments`: a form has other arguments than its source.
     Arguments,
+    /// `no-number`: a form of several numbers lacks the number.
+    NoNumber,
     /// `number-unclear`: which argument is the number isn't clear.
     NumberUnclear,
     /// `format-unknown`: the format of a message isn't read.
@@ -59,6 +61,7 @@ impl NoticeCode {
             NoticeCode::Indices => "indices",
             NoticeCode::NotTranslated => "not-translated",
             NoticeCode::Arguments => "arguments",
+            NoticeCode::NoNumber => "no-number",
             NoticeCode::NumberUnclear => "number-unclear",
             NoticeCode::FormatUnknown => "format-unknown",
             NoticeCode::TooMany => "too-many",

@@ -1,8 +1,7 @@
 //! What became of the messages of a file.
 
-ghost use Rattle.std.specs.Prelude.{◌≡◌, ◌+◌, OnOk, OnErr};
+ghost use Rattle.std.specs.Prelude.{◌≡◌, ◌+◌, ◌^◌, ◌≤◌, OnOk, OnErr};
 
-use plural_documents::sum;
 use std::alloc::AllocError;
 
 /// What became of a message.
@@ -45,15 +44,19 @@ impl FileCounts {
         }
     }
 
-    /// Counts so many messages of a fate. A count that is too large is reported as out of memory.
+    /// Counts so many messages of a fate. It allocates nothing: a count of 2^64 or more is reported as
+    /// out of memory.
     pub fn add(&mut self, fate: Fate, count: u64) -> Result<(), AllocError>
         ensures read { OnOk result (self.new.read ≡ self.old.read + count) }
         ensures checked { OnOk result (self.new.checked ≡ self.old.checked + checked_of fate count) }
         ensures noted { OnOk result (self.new.noted ≡ self.old.noted + noted_of fate count) }
         ensures left_out { OnOk result (self.new.left_out ≡ self.old.left_out + left_out_of fate count) }
+        ensures full { OnErr result (2 ^ 64 ≤ self.old.read + count) }
         ensures err { OnErr result (self.new ≡ self.old) }
     {
-        let read = sum(self.read, count)?;
+        let Some(read) = self.read.checked_add(count) else {
+            return Err(AllocError);
+        };
         *self = self.grown(read, fate, count);
         Ok(())
     }

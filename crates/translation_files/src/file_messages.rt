@@ -1,5 +1,10 @@
 //! The messages of a file.
 
+ghost use Rattle.std.specs.Prelude.{◌≡◌, option_and_then, option_copied, option_map};
+ghost use Rattle.message_report.specs.MessagePlaces.{message_place_view, pattern_place_view, place_view};
+ghost use Rattle.translation_files.specs.FilePlaces.{kind_of, line_of, message_target, pattern_target, placeholder_of, target, target_of};
+ghost use Rattle.translation_files.specs.Inner.PlaceSteps.{target_view};
+
 use crate::counts::FileCounts;
 use crate::lines::MessageKind;
 use crate::notice::FileNotice;
@@ -42,13 +47,17 @@ impl FileMessages {
         kind: MessageKind,
         key: &str,
         form: Option<Form>,
-    ) -> Option<u64> {
+    ) -> Option<u64>
+        ensures { result ≡ line_of self.now.places (target locale.now kind key.now form) }
+    {
         let lines = self.places.find(locale, kind, key)?;
         Some(lines.line_of(form))
     }
 
     /// Returns what stands for the number in the texts of a message, as `%d`, if that is known.
-    pub fn placeholder(&self, locale: &str, kind: MessageKind, key: &str) -> Option<&str> {
+    pub fn placeholder(&self, locale: &str, kind: MessageKind, key: &str) -> Option<&str>
+        ensures { option_copied result ≡ placeholder_of self.now.places (target locale.now kind key.now None) }
+    {
         match &self.places.find(locale, kind, key)?.placeholder {
             Some(text) => Some(text.as_str()),
             None => None,
@@ -56,13 +65,17 @@ impl FileMessages {
     }
 
     /// Returns the line of a finding's place, if its message is known.
-    pub fn line_at(&self, place: &Place<'_>) -> Option<u64> {
+    pub fn line_at(&self, place: &Place<'_>) -> Option<u64>
+        ensures { result ≡ option_and_then (line_of self.now.places) (target_of (place_view place.now)) }
+    {
         let target = target_of(place)?;
         self.line(target.locale, target.kind, target.key, target.form)
     }
 
     /// Returns what stands for the number in the texts of a finding's message, if that is known.
-    pub fn placeholder_at(&self, place: &Place<'_>) -> Option<&str> {
+    pub fn placeholder_at(&self, place: &Place<'_>) -> Option<&str>
+        ensures { option_copied result ≡ option_and_then (placeholder_of self.now.places) (target_of (place_view place.now)) }
+    {
         let target = target_of(place)?;
         self.placeholder(target.locale, target.kind, target.key)
     }
@@ -70,7 +83,9 @@ impl FileMessages {
 
 impl<'a> Target<'a> {
     // A message, or a form of it.
-    fn of_message(message: MessagePlace<'a>, form: Option<Form>) -> Target<'a> {
+    fn of_message(message: MessagePlace<'a>, form: Option<Form>) -> Target<'a>
+        ensures { target_view result ≡ message_target (message_place_view message.entry) form }
+    {
         Target {
             locale: message.locale.locale,
             kind: kind_of(message.rule_type),
@@ -80,7 +95,9 @@ impl<'a> Target<'a> {
     }
 
     // A pattern.
-    fn of_pattern(pattern: PatternPlace<'a>) -> Target<'a> {
+    fn of_pattern(pattern: PatternPlace<'a>) -> Target<'a>
+        ensures { target_view result ≡ pattern_target (pattern_place_view pattern.entry) }
+    {
         Target {
             locale: pattern.locale.locale,
             kind: MessageKind::Pattern,
@@ -91,7 +108,9 @@ impl<'a> Target<'a> {
 }
 
 // The message of a place, if it is of one.
-fn target_of<'a>(place: &Place<'a>) -> Option<Target<'a>> {
+fn target_of<'a>(place: &Place<'a>) -> Option<Target<'a>>
+    ensures { option_map target_view result ≡ target_of (place_view place.now) }
+{
     match *place {
         Place::Source(locale, key) => Some(Target {
             locale: locale.locale,
@@ -112,7 +131,9 @@ fn target_of<'a>(place: &Place<'a>) -> Option<Target<'a>> {
 }
 
 // The kind of messages of a type.
-fn kind_of(rule_type: PluralRuleType) -> MessageKind {
+fn kind_of(rule_type: PluralRuleType) -> MessageKind
+    ensures { result ≡ kind_of rule_type }
+{
     match rule_type {
         PluralRuleType::Cardinal => MessageKind::Cardinal,
         PluralRuleType::Ordinal => MessageKind::Ordinal,

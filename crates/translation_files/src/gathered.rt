@@ -1,10 +1,14 @@
 //! The messages of a file in one locale, as they are gathered.
 
+ghost use Rattle.std.specs.Prelude.{◌≡◌, ◌++◌, All, IfOk, List};
+ghost use Rattle.translation_files.specs.NoticeSeverities.{IsErrorCode, IsGraded, IsNoteCode, severity_of_code};
+
 use crate::code::NoticeCode;
 use crate::counts::{Fate, FileCounts};
 use crate::file_messages::FileMessages;
 use crate::lines::{FormLine, MessageKind, MessageLines};
 use crate::notice::FileNotice;
+use crate::notices::Notices;
 use crate::places::Places;
 use crate::pushed::push;
 use message_report::{Form, Severity};
@@ -35,7 +39,7 @@ pub(crate) struct Gathered {
     patterns: Map<String, Value>,
     source: Map<String, Value>,
     places: Places,
-    notices: Vec<FileNotice>,
+    notices: Notices,
     counts: FileCounts,
     // Of the message that is being gathered: its forms by name, the lines of these, what stands for
     // the number, and the arguments of its source.
@@ -59,7 +63,7 @@ impl Gathered {
             patterns: Map::new(alloc),
             source: Map::new(alloc),
             places: Places::new(alloc),
-            notices: Vec::new(alloc),
+            notices: Notices::new(alloc),
             counts: FileCounts::none(),
             forms: Map::new(alloc),
             lines: Vec::new(alloc),
@@ -98,12 +102,16 @@ impl Gathered {
     }
 
     // Tells what is wrong.
-    pub(crate) fn tell<T: Display + Drop>(&mut self, line: Option<u64>, code: NoticeCode, text: T) {
+    pub(crate) fn tell<T: Display + Drop>(&mut self, line: Option<u64>, code: NoticeCode, text: T)
+        requires { IsErrorCode code }
+    {
         self.add_notice(Severity::Error, line, code, text);
     }
 
     // Tells what isn't checked, or how something is taken.
-    pub(crate) fn note<T: Display + Drop>(&mut self, line: Option<u64>, code: NoticeCode, text: T) {
+    pub(crate) fn note<T: Display + Drop>(&mut self, line: Option<u64>, code: NoticeCode, text: T)
+        requires { IsNoteCode code }
+    {
         self.add_notice(Severity::Note, line, code, text);
     }
 
@@ -114,19 +122,23 @@ impl Gathered {
         line: Option<u64>,
         code: NoticeCode,
         text: T,
-    ) {
+    )
+        requires { IsErrorCode code }
+    {
         self.tell(line, code, text);
         self.count(Fate::LeftOut, count);
     }
 
-    // Adds a notice.
-    pub(crate) fn add_notice<T: Display + Drop>(
+    // Adds a notice, which is as grave as its code.
+    fn add_notice<T: Display + Drop>(
         &mut self,
         severity: Severity,
         line: Option<u64>,
         code: NoticeCode,
         text: T,
-    ) {
+    )
+        requires { severity ≡ severity_of_code code }
+    {
         match String::format(self.alloc, text) {
             Ok(text) => self.push_notice(FileNotice {
                 line,
@@ -139,14 +151,11 @@ impl Gathered {
     }
 
     // Appends a notice.
-    fn push_notice(&mut self, notice: FileNotice) {
-        let done = push(&mut self.notices, notice);
+    fn push_notice(&mut self, notice: FileNotice)
+        requires { IsGraded notice }
+    {
+        let done = self.notices.push(notice);
         self.keep(done);
-    }
-
-    // Tells that a file isn't read.
-    pub(crate) fn tell_not_read(&mut self, text: &str) {
-        self.tell(None, NoticeCode::NotRead, text);
     }
 
     // Tells that a file has no messages.
@@ -303,7 +312,9 @@ impl Gathered {
     }
 
     // What was gathered. The only error is out of memory, at any time before.
-    pub(crate) fn finish(mut self) -> Result<FileMessages, AllocError> {
+    pub(crate) fn finish(mut self) -> Result<FileMessages, AllocError>
+        ensures { IfOk result (λ file. All IsGraded file.notices.items) }
+    {
         let mut document = Map::new(self.alloc);
         let filled = self.fill(&mut document);
         self.keep(filled);
@@ -315,13 +326,29 @@ impl Gathered {
         Ok(self.into_messages(document))
     }
 
+    // The same, with notices that the file tells before its own.
+    pub(crate) fn finish_behind(self, told: Vec<FileNotice>) -> Result<FileMessages, AllocError>
+        ensures { IfOk result (λ file. (own : List FileNotice) × (file.notices.items ≡ told.items ++ own) × All IsGraded own) }
+    {
+        let file = match self.finish() {
+            Ok(file) => file,
+            Err(error) => {
+                drop(told);
+                return Err(error);
+            }
+        };
+        told_before(told, file)
+    }
+
     // These messages, with their document.
-    fn into_messages(self, document: Map<String, Value>) -> FileMessages {
+    fn into_messages(self, document: Map<String, Value>) -> FileMessages
+        ensures { All IsGraded result.notices.items }
+    {
         FileMessages {
             name: self.name,
             document: Value::Object(document),
             places: self.places,
-            notices: self.notices,
+            notices: self.notices.into_items(),
             counts: self.counts,
         }
     }
@@ -368,4 +395,28 @@ fn put_part(
 ) -> Result<(), AllocError> {
     let members = mem::replace(members, Map::new(alloc));
     put(parts, alloc, key, Value::Object(members))
+}
+
+// A file with further notices before its own.
+fn told_before(told: Vec<FileNotice>, file: FileMessages) -> Result<FileMessages, AllocError>
+    ensures { IfOk result (λ whole. whole.notices.items ≡ told.items ++ file.notices.items) }
+{
+    let mut told = told;
+    let FileMessages {
+        name,
+        document,
+        places,
+        mut notices,
+        counts,
+    } = file;
+    match told.append(&mut notices) {
+        Ok(()) => Ok(FileMessages {
+            name,
+            document,
+            places,
+            notices: told,
+            counts,
+        }),
+        Err(error) => Err(error),
+    }
 }

@@ -4,9 +4,14 @@
 mod android_arguments;
 mod android_message;
 mod android_number;
+mod apostrophes;
 mod arb_locale;
+mod arb_text;
+mod argument_head;
 mod count_text;
 mod document_places;
+mod document_shape;
+mod empty_form;
 mod fault;
 mod form_text;
 mod found_messages;
@@ -18,31 +23,41 @@ mod line_count;
 mod members;
 mod message_keys;
 mod pattern_message;
+mod spoken_categories;
 mod suffix_groups;
 mod suffix_message;
 mod text_bytes;
 mod texts;
 mod told;
 
+ghost use Rattle.std.specs.Prelude.{◌≡◌, [], All, false, IfOk};
+ghost use Rattle.serde_json.specs.Errors.{IsMemory};
+ghost use Rattle.serde_json.specs.View.{view};
+ghost use Rattle.translation_files.specs.NoticeSeverities.{IsGraded};
+ghost use Rattle.translation_files.specs.ReadFiles.{IsBroken, IsDocumentOf, IsReadOf, ReadsJson, tells_notices};
+
 use crate::code::NoticeCode;
 use crate::counts::{Fate, FileCounts};
 use crate::file_messages::FileMessages;
 use crate::gathered::Gathered;
-use crate::locale_name::{push_locale, text_of};
+use crate::locale_name::{LocaleFault, push_locale, text_of};
+use crate::notice::FileNotice;
 use crate::places::Places;
-use crate::po::gather_po;
+use crate::po::read_po;
+use crate::read_file::without_mark;
 use arb_locale::locale_of_name;
 use document_places::add_places;
-use fault::tell_fault;
-use found_messages::{FoundMessages, Spoken, add_found, tell_repeated};
-use icu_plurals::{PluralCategory, PluralRuleType};
+pub use document_shape::is_document;
+use fault::broken;
+use found_messages::{FoundMessages, add_found, tell_repeated};
 use json::Scratch;
 use key_tree::KeyTree;
 use message_report::RulesOfLocales;
-use serde_json::{Error, Map, Value};
+use serde_json::{Error, Value};
+use spoken_categories::spoken_by;
 use std::alloc::{AllocError, Global};
 use texts::JsonTexts;
-use told::{ToldFile, add_notices, add_told, told_catalog, told_file};
+use told::{ToldCatalog, ToldFile, add_notices, add_told, told_catalog, told_file};
 
 /// Reads a JSON file of messages.
 ///
@@ -62,156 +77,121 @@ pub fn read_json<S: RulesOfLocales>(
     bytes: &[u8],
     rules: &S,
     locale: Option<&str>,
-) -> Result<FileMessages, AllocError> {
+) -> Result<FileMessages, AllocError>
+    ensures { IfOk result (ReadsJson bytes.now) }
+{
     let bytes = without_mark(bytes);
     match Value::from_slice(alloc, bytes) {
-        Ok(value) if is_document(&value) => placed_document(alloc, text_of(bytes), value),
-        Ok(value) => {
-            let mut gathered = Gathered::new(alloc);
-            gather(&mut gathered, name, bytes, &value, rules, locale);
-            drop(value);
-            gathered.finish()
-        }
+        Ok(value) => read_value(alloc, name, bytes, value, rules, locale),
         Err(fault) => no_json(alloc, bytes, &fault),
     }
 }
 
-// What is told of bytes that aren't JSON.
-fn no_json(alloc: Global, bytes: &[u8], fault: &Error) -> Result<FileMessages, AllocError> {
-    if fault.is_memory() {
-        return Err(AllocError);
+// Reads a file whose text is a value.
+fn read_value<S: RulesOfLocales>(
+    alloc: Global,
+    name: &str,
+    bytes: &[u8],
+    value: Value,
+    rules: &S,
+    locale: Option<&str>,
+) -> Result<FileMessages, AllocError>
+    ensures { IfOk result (IsReadOf (view value)) }
+{
+    if is_document(&value) {
+        return placed_document(alloc, text_of(bytes), value);
     }
+    let file = read_texts(alloc, name, bytes, &value, rules, locale);
+    drop(value);
+    file
+}
+
+// Reads a file of texts, or what a tool tells of a file.
+fn read_texts<S: RulesOfLocales>(
+    alloc: Global,
+    name: &str,
+    bytes: &[u8],
+    value: &Value,
+    rules: &S,
+    locale: Option<&str>,
+) -> Result<FileMessages, AllocError>
+    ensures { IfOk result (λ file. tells_notices (view value.now) ≡ false → All IsGraded file.notices.items) }
+{
+    match told_catalog(value) {
+        Some(told) => read_told_catalog(alloc, told, rules, locale),
+        None => read_gathered(alloc, name, bytes, value, rules, locale),
+    }
+}
+
+// Reads the catalog that a tool tells.
+fn read_told_catalog<S: RulesOfLocales>(
+    alloc: Global,
+    told: ToldCatalog<'_>,
+    rules: &S,
+    locale: Option<&str>,
+) -> Result<FileMessages, AllocError>
+    ensures { IfOk result (λ file. All IsGraded file.notices.items) }
+{
+    let mut file = read_po(alloc, told.name, told.text.as_bytes(), rules, locale)?;
+    match String::from_str(alloc, told.name) {
+        Ok(name) => {
+            file.name = Some(name);
+            Ok(file)
+        }
+        Err(error) => {
+            drop(file);
+            Err(error)
+        }
+    }
+}
+
+// Reads a file of texts, or the messages that a tool tells.
+fn read_gathered<S: RulesOfLocales>(
+    alloc: Global,
+    name: &str,
+    bytes: &[u8],
+    value: &Value,
+    rules: &S,
+    locale: Option<&str>,
+) -> Result<FileMessages, AllocError>
+    ensures { IfOk result (λ file. tells_notices (view value.now) ≡ false → All IsGraded file.notices.items) }
+{
     let mut gathered = Gathered::new(alloc);
-    tell_fault(&mut gathered, bytes, fault);
-    gathered.finish()
+    let told = gather(&mut gathered, name, bytes, value, rules, locale);
+    gathered.finish_behind(told)
 }
 
-/// Returns whether a JSON value is a document of messages, as [`message_report::found_in_files`]
-/// takes it: no file of texts. It is if it isn't an object, or is empty, or a member is an object
-/// that has a part `cardinal` or `ordinal`, and is named as a locale or has messages there. Without
-/// such a part it is if a member that is named as a locale has no members but parts, misspelt ones
-/// too, and none of the document's is a text.
-pub fn is_document(value: &Value) -> bool {
-    let Value::Object(members) = value else {
-        return true;
-    };
-    if members.contains_key("@@locale") || members.contains_key("@@file") {
-        return false;
-    }
-    let mut has_text = false;
-    let mut may_be = members.is_empty();
-    for (key, locale) in members.iter() {
-        let is_named = is_named_as_locale(key.as_str()) || is_name_of_part(key.as_str());
-        match locale {
-            Value::Object(parts) if has_part(parts, is_named) => return true,
-            Value::Object(parts) => may_be = may_be || is_named && are_parts(parts),
-            Value::String(_) => has_text = true,
-            _ => (),
-        }
-    }
-    may_be && !has_text
-}
-
-// Whether a key is written as a locale: `root`, or a language of two or three letters, alone or before
-// further subtags.
-fn is_named_as_locale(key: &str) -> bool {
-    let language = match key.split_once(['-', '_']) {
-        Some((language, _)) => language,
-        None => key,
-    };
-    key == "root"
-        || matches!(language.len(), 2 | 3) && language.bytes().all(|it| it.is_ascii_alphabetic())
-}
-
-// Whether one of a locale's members is a part that has members; where the key isn't that of a locale,
-// no texts.
-fn has_part(parts: &Map<String, Value>, is_named: bool) -> bool {
-    for (key, part) in parts.iter() {
-        if let Value::Object(messages) = part
-            && matches!(key.as_str(), "cardinal" | "ordinal")
-            && (is_named || !has_text(messages))
-        {
-            return true;
-        }
-    }
-    false
-}
-
-// Whether one of the members is a text.
-fn has_text(members: &Map<String, Value>) -> bool {
-    for (_, member) in members.iter() {
-        if let Value::String(_) = member {
-            return true;
-        }
-    }
-    false
-}
-
-// Whether a locale has members, and each may be a part of a document.
-fn are_parts(parts: &Map<String, Value>) -> bool {
-    for (key, part) in parts.iter() {
-        let is_part = match part {
-            Value::String(_) => false,
-            _ if is_name_of_part(key.as_str()) => true,
-            Value::Object(messages) => are_messages(messages),
-            _ => false,
-        };
-        if !is_part {
-            return false;
-        }
-    }
-    !parts.is_empty()
-}
-
-// Whether a key is the name of a part.
-fn is_name_of_part(key: &str) -> bool {
-    matches!(key, "cardinal" | "ordinal" | "source" | "patterns")
-}
-
-// Whether there are no messages, or one has forms by category.
-fn are_messages(messages: &Map<String, Value>) -> bool {
-    for (_, message) in messages.iter() {
-        if has_forms(message) {
-            return true;
-        }
-    }
-    messages.is_empty()
-}
-
-// Whether a message has the text of a category.
-fn has_forms(message: &Value) -> bool {
-    let Value::Object(forms) = message else {
-        return false;
-    };
-    for (name, form) in forms.iter() {
-        if matches!(form, Value::String(_))
-            && PluralCategory::get_for_cldr_string(name.as_str()).is_some()
-        {
-            return true;
-        }
-    }
-    false
-}
-
-// The bytes behind the mark of UTF-8 at their front, if it is there.
-fn without_mark(bytes: &[u8]) -> &[u8] {
-    match bytes {
-        [0xef, 0xbb, 0xbf, rest @ ..] => rest,
-        _ => bytes,
+// What is told of bytes that aren't JSON.
+fn no_json(alloc: Global, bytes: &[u8], fault: &Error) -> Result<FileMessages, AllocError>
+    ensures { IfOk result (λ file. (¬ IsMemory fault.now) × IsBroken bytes.now file) }
+{
+    if fault.is_memory() {
+        Err(AllocError)
+    } else {
+        broken(alloc, bytes, fault)
     }
 }
 
-// Keeps the locale that is named, else that of a file's name. If it isn't known, tells so and how
-// many messages are left out, and returns false.
+// Keeps the locale that is named, else that of a file's name. If it isn't known, tells so, where it
+// can be named, and how many messages are left out, and returns false.
 fn keep_locale<S: RulesOfLocales>(
     gathered: &mut Gathered,
     rules: &S,
     named: Option<&str>,
     name: &str,
+    place: &str,
     count: u64,
 ) -> bool {
     match push_locale(&mut gathered.locale, named, name, rules) {
         Ok(None) => return true,
+        Ok(Some(LocaleFault::Unnamed)) => gathered.leave_out(
+            count,
+            None,
+            NoticeCode::Language,
+            format_args!(
+                "its language isn't known: name it {place}, or by --locale; messages left out: {count}"
+            ),
+        ),
         Ok(Some(fault)) => gathered.leave_out(
             count,
             None,
@@ -223,48 +203,40 @@ fn keep_locale<S: RulesOfLocales>(
     false
 }
 
-// What a language has; one that isn't known may have all.
-fn spoken<S: RulesOfLocales>(rules: &S, locale: &str) -> Spoken {
-    match rules.rules_of(PluralRuleType::Cardinal, locale) {
-        Some(rules) => {
-            let has_zero = rules.zero.is_some();
-            let has_more = has_zero || rules.one.is_some() || rules.two.is_some();
-            let has_more = has_more || rules.few.is_some() || rules.many.is_some();
-            drop(rules);
-            Spoken { has_zero, has_more }
-        }
-        None => Spoken {
-            has_zero: true,
-            has_more: true,
-        },
-    }
-}
-
 // A document with the places of its messages.
-fn placed_document(alloc: Global, text: &str, document: Value) -> Result<FileMessages, AllocError> {
-    let mut messages = FileMessages {
-        name: None,
-        document,
-        places: Places::new(alloc),
-        notices: Vec::new(alloc),
-        counts: FileCounts::none(),
-    };
-    match place(alloc, text, &mut messages) {
-        Ok(()) => Ok(messages),
+fn placed_document(alloc: Global, text: &str, document: Value) -> Result<FileMessages, AllocError>
+    ensures { IfOk result (IsDocumentOf (view document)) }
+{
+    let mut places = Places::new(alloc);
+    let mut counts = FileCounts::none();
+    match place(alloc, text, &mut places, &mut counts) {
+        Ok(()) => Ok(FileMessages {
+            name: None,
+            document,
+            places,
+            notices: Vec::new(alloc),
+            counts,
+        }),
         Err(error) => {
-            drop(messages);
+            drop(document);
+            drop(places);
             Err(error)
         }
     }
 }
 
-// Adds the places of a document's messages.
-fn place(alloc: Global, text: &str, messages: &mut FileMessages) -> Result<(), AllocError> {
-    let count = add_places(alloc, text, &mut messages.places)?;
-    messages.counts.add(Fate::Checked, count)
+// Adds the places of a document's messages, and counts these.
+fn place(
+    alloc: Global,
+    text: &str,
+    places: &mut Places,
+    counts: &mut FileCounts,
+) -> Result<(), AllocError> {
+    let count = add_places(alloc, text, places)?;
+    counts.add(Fate::Checked, count)
 }
 
-// Gathers what is in a file that is JSON, and no document.
+// Gathers what is in a file that is JSON, and no document. The notices that it tells itself.
 fn gather<S: RulesOfLocales>(
     gathered: &mut Gathered,
     name: &str,
@@ -272,34 +244,40 @@ fn gather<S: RulesOfLocales>(
     value: &Value,
     rules: &S,
     locale: Option<&str>,
-) {
-    if let Some(told) = told_file(value) {
-        return gather_told(gathered, value, told, rules, locale);
-    }
-    match told_catalog(value) {
-        Some(told) => {
-            gathered.keep_name(told.name);
-            gather_po(gathered, told.name, told.text.as_bytes(), rules, locale)
+) -> Vec<FileNotice>
+    ensures { tells_notices (view value.now) ≡ false → result.items ≡ [] }
+{
+    match told_file(value) {
+        Some(told) => gather_told(gathered, told, rules, locale),
+        None => {
+            gather_texts(gathered, name, text_of(bytes), rules, locale);
+            Vec::new(gathered.alloc)
         }
-        None => gather_texts(gathered, name, text_of(bytes), rules, locale),
     }
 }
 
-// Gathers what a tool tells of a file.
+// Gathers what a tool tells of a file. The notices that it tells.
 fn gather_told<S: RulesOfLocales>(
     gathered: &mut Gathered,
-    value: &Value,
     told: ToldFile<'_>,
     rules: &S,
     locale: Option<&str>,
-) {
+) -> Vec<FileNotice>
+    ensures { told.entry.notices.now ≡ [] → result.items ≡ [] }
+{
     gathered.keep_name(told.name);
-    add_notices(gathered, value);
+    let notices = add_notices(gathered, told.notices);
+    if told.messages.is_empty() && told.notices.is_empty() {
+        gathered.note_no_messages();
+        return notices;
+    }
     let named = locale.or(told.locale);
     let count = told.messages.len() as u64;
-    if count > 0 && keep_locale(gathered, rules, named, told.name, count) {
+    let place = "by a folder as values-ru, by tools:locale";
+    if count > 0 && keep_locale(gathered, rules, named, told.name, place, count) {
         add_told(gathered, told.messages);
     }
+    notices
 }
 
 // Gathers the texts of a file.
@@ -348,8 +326,8 @@ fn add_messages<'a, S: RulesOfLocales>(
     if count == 0 {
         return gathered.note_no_messages();
     }
-    if keep_locale(gathered, rules, named, name, count) {
-        let spoken = spoken(rules, gathered.locale.as_str());
+    if keep_locale(gathered, rules, named, name, "in the file", count) {
+        let spoken = spoken_by(rules, gathered.locale.as_str());
         add_found(gathered, keys, found, spoken);
     }
 }

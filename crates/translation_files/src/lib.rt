@@ -10,6 +10,7 @@ mod json_file;
 mod lines;
 mod locale_name;
 mod notice;
+mod notices;
 mod places;
 mod po;
 mod pushed;

@@ -1,6 +1,7 @@
 //! Where a message stands in its file.
 
 ghost use Rattle.std.specs.Prelude.{◌≡◌};
+ghost use Rattle.translation_files.specs.FilePlaces.{form_line};
 ghost use Rattle.translation_files.specs.MessageKinds.{kind_name};
 
 use message_report::Form;
@@ -49,12 +50,21 @@ pub struct MessageLines {
 
 impl MessageLines {
     /// Returns the line of a form's text, else that of the message.
-    pub fn line_of(&self, form: Option<Form>) -> u64 {
-        let Some(form) = form else {
-            return self.line;
-        };
+    pub fn line_of(&self, form: Option<Form>) -> u64
+        ensures { result ≡ form_line self.now form }
+    {
+        match form {
+            Some(form) => self.line_of_form(form),
+            None => self.line,
+        }
+    }
+
+    // The line of a form's text, else that of the message.
+    fn line_of_form(&self, form: Form) -> u64
+        ensures { result ≡ form_line self.now (Some form) }
+    {
         for it in self.forms.iter() {
-            if it.form == form {
+            if it.form.as_str() == form.as_str() {
                 return it.line;
             }
         }

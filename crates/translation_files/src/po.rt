@@ -4,31 +4,44 @@ mod compared;
 mod faults;
 mod header;
 mod indices;
+mod lacking;
 mod laid;
 mod marked;
 mod measure;
 mod message;
 mod mistakes;
 mod numbers;
+mod range;
 mod read_text;
 mod refusal;
+mod seconds;
 mod sides;
 mod source_number;
 mod standing;
 mod text_format;
 
+ghost use Rattle.std.specs.Prelude.{◌≡◌, [], All, IfOk, None};
+ghost use Rattle.po_catalog.specs.Catalogs.{messages_view};
+ghost use Rattle.translation_files.specs.NoticeSeverities.{IsGraded};
+ghost use Rattle.translation_files.specs.ReadFiles.{IsUnread, ReadsPo};
+
 use crate::code::NoticeCode;
 use crate::counts::Fate;
 use crate::file_messages::FileMessages;
 use crate::gathered::Gathered;
+use crate::read_file::no_messages;
 use faults::{other_charset, tell_faults};
-use header::{PoFile, read_messages};
+use header::{PoFile, read_messages, tell_rule};
 use message_report::RulesOfLocales;
 use plural_documents::printed_name;
 use po_catalog::Catalog;
 use refusal::{left_out, line_of_header};
+use seconds::tell_seconds;
 use standing::{Standings, standings_of};
 use std::alloc::{AllocError, Global};
+
+// What is told of a file without messages.
+const NO_CATALOG: &str = "it is no file of messages: name a file of gettext, i18next or ARB";
 
 /// Reads a gettext catalog: the messages with plural forms that are translated, under the locale
 /// that its header names, else its name or its folder; `locale` overrides these.
@@ -41,29 +54,37 @@ pub fn read_po<S: RulesOfLocales>(
     bytes: &[u8],
     rules: &S,
     locale: Option<&str>,
-) -> Result<FileMessages, AllocError> {
-    let mut gathered = Gathered::new(alloc);
-    gather_po(&mut gathered, name, bytes, rules, locale);
-    gathered.finish()
+) -> Result<FileMessages, AllocError>
+    ensures { IfOk result (ReadsPo bytes.now) }
+{
+    match Catalog::read(alloc, bytes) {
+        Ok(catalog) => read_entries(alloc, catalog, name, rules, locale),
+        Err(error) => Err(error),
+    }
 }
 
-// Gathers what is in a catalog.
-pub(crate) fn gather_po<S: RulesOfLocales>(
-    gathered: &mut Gathered,
+// Reads what is in a catalog, unless it has no messages.
+fn read_entries<S: RulesOfLocales>(
+    alloc: Global,
+    catalog: Catalog,
     name: &str,
-    bytes: &[u8],
     rules: &S,
     locale: Option<&str>,
-) {
-    match Catalog::read(gathered.alloc, bytes) {
-        Ok(mut catalog) => {
-            let sorted = catalog.faults.sort_by_key(|it| it.line);
-            gathered.keep(sorted);
-            gather_catalog(gathered, &catalog, name, rules, locale);
-            drop(catalog);
-        }
-        Err(_) => gathered.fail(),
+) -> Result<FileMessages, AllocError>
+    ensures graded { IfOk result (λ file. All IsGraded file.notices.items) }
+    ensures nothing { messages_view catalog ≡ [] → IfOk result (IsUnread None NoticeCode.NotRead NO_CATALOG.now) }
+{
+    if catalog.entries.is_empty() {
+        drop(catalog);
+        return no_messages(alloc, NO_CATALOG);
     }
+    let mut catalog = catalog;
+    let mut gathered = Gathered::new(alloc);
+    let sorted = catalog.faults.sort_by_key(|it| it.line);
+    gathered.keep(sorted);
+    gather_catalog(&mut gathered, &catalog, name, rules, locale);
+    drop(catalog);
+    gathered.finish()
 }
 
 // Gathers what is in a catalog, whose faults are in the order of their lines.
@@ -74,10 +95,6 @@ fn gather_catalog<S: RulesOfLocales>(
     rules: &S,
     locale: Option<&str>,
 ) {
-    if catalog.entries.is_empty() {
-        let text = "it is no file of messages: name a file of gettext, i18next or ARB";
-        return gathered.tell_not_read(text);
-    }
     if let Some(charset) = other_charset(catalog) {
         return refuse_charset(gathered, catalog, charset);
     }
@@ -117,7 +134,8 @@ fn read_catalog<S: RulesOfLocales>(
     }
     tell_left_out(gathered, &standings);
     if standings.whole == 0 {
-        return;
+        tell_rule(gathered, catalog);
+        return tell_seconds(gathered, catalog, false);
     }
     let file = PoFile {
         catalog,

@@ -2,7 +2,7 @@
 
 ghost use Rattle.std.specs.Prelude.{◌≤◌, ◌<◌, length, IfSome};
 
-use crate::json_file::text_bytes::{Class, after_byte, behind_run, is_in, split_run};
+use crate::json_file::text_bytes::{Class, after_byte, before, behind_run, is_in, split_run};
 use crate::pushed::push;
 use std::alloc::AllocError;
 
@@ -104,11 +104,6 @@ fn percent_front<'t>(
         text: before(text, directive.rest),
     };
     (AndroidPiece::Argument(argument), directive.rest)
-}
-
-// What stands in a text before its rest.
-fn before<'t>(text: &'t [u8], rest: &[u8]) -> &'t [u8] {
-    &text[..text.len().saturating_sub(rest.len())]
 }
 
 // The directive behind a `%`, if it is one.

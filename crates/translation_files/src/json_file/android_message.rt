@@ -5,6 +5,7 @@ use crate::counts::Fate;
 use crate::gathered::{Gathered, MessageHead};
 use crate::json_file::android_arguments::{AndroidArgument, AndroidPiece, push_pieces};
 use crate::json_file::android_number::{AndroidNumber, android_number, count_arguments};
+use crate::json_file::empty_form::{note_empty, put_empty};
 use crate::json_file::form_text::FormText;
 use crate::locale_name::text_of;
 use crate::pushed::push;
@@ -64,6 +65,9 @@ pub(crate) fn add_android_message(
     if gathered.is_twice(head) {
         return;
     }
+    if have_no_text(forms) {
+        return note_empty(gathered, head.key, head.line);
+    }
     let longest = longest_of(forms);
     let singular = singular_of(forms).unwrap_or(longest);
     add_forms(
@@ -83,6 +87,16 @@ fn have_too_many(forms: &[AndroidForm<'_>]) -> bool {
         }
     }
     false
+}
+
+// Whether there are forms, and none has a text.
+fn have_no_text(forms: &[AndroidForm<'_>]) -> bool {
+    for form in forms {
+        if !form.pieces.is_empty() {
+            return false;
+        }
+    }
+    !forms.is_empty()
 }
 
 // Tells that a text has more arguments than are read.
@@ -129,7 +143,11 @@ fn add_forms(
     number: AndroidNumber<'_>,
 ) {
     for form in forms {
-        put_form(gathered, form, number);
+        if form.pieces.is_empty() {
+            put_empty(gathered, head, Form::Category(form.category), form.line);
+        } else {
+            put_form(gathered, form, number);
+        }
     }
     end(gathered, head, longest, number);
     match number {

@@ -3,13 +3,16 @@
 use crate::code::NoticeCode;
 use crate::counts::Fate;
 use crate::gathered::{Gathered, MessageHead};
+use crate::json_file::argument_head::wrong_head;
+use crate::json_file::empty_form::note_empty;
 use crate::json_file::icu_scan::has_plural;
 use crate::json_file::key_tree::KeyTree;
 use crate::json_file::message_keys::{MessageKeys, shown_key};
 use crate::json_file::pattern_message::add_pattern_message;
+use crate::json_file::spoken_categories::{Named, Spoken};
 use crate::json_file::suffix_groups::{Group, Groups};
 use crate::json_file::suffix_message::add_suffix_message;
-use crate::json_file::texts::{JsonText, JsonTexts, Repeated};
+use crate::json_file::texts::{JsonText, JsonTexts, KeyLine};
 use crate::lines::MessageKind;
 use crate::pushed::push;
 use message_report::Form;
@@ -18,13 +21,6 @@ use std::alloc::{AllocError, Global};
 
 // The most keys that stand twice that are told one by one.
 const MOST_TOLD: usize = 10;
-
-// What a language has: a zero of its own, and other categories than other.
-#[derive(Clone, Copy)]
-pub(crate) struct Spoken {
-    pub(crate) has_zero: bool,
-    pub(crate) has_more: bool,
-}
 
 // The texts of a file that are messages.
 #[derive(Drop)]
@@ -47,11 +43,14 @@ impl<'a> FoundMessages<'a> {
     // Takes those of a file's texts; keys of ARB have no suffixes.
     pub(crate) fn fill(&mut self, texts: &JsonTexts<'a>) -> Result<(), AllocError> {
         for text in &texts.texts {
-            if has_plural(text.text) {
+            if has_plural(text.text) || wrong_head(text.text).is_some() {
                 push(&mut self.patterns, *text)?;
             } else if !self.is_arb {
                 self.groups.take(&texts.keys, *text)?;
             }
+        }
+        for other in &texts.others {
+            self.groups.take_other(&texts.keys, *other);
         }
         Ok(())
     }
@@ -63,7 +62,7 @@ impl<'a> FoundMessages<'a> {
 }
 
 // Tells which keys stand twice.
-pub(crate) fn tell_repeated(gathered: &mut Gathered, keys: &KeyTree<'_>, repeated: &[Repeated]) {
+pub(crate) fn tell_repeated(gathered: &mut Gathered, keys: &KeyTree<'_>, repeated: &[KeyLine]) {
     for (index, again) in repeated.iter().enumerate() {
         if index == MOST_TOLD {
             let rest = repeated.len().saturating_sub(MOST_TOLD);
@@ -78,7 +77,7 @@ pub(crate) fn tell_repeated(gathered: &mut Gathered, keys: &KeyTree<'_>, repeate
 }
 
 // Tells that a key stands twice.
-fn tell_again(gathered: &mut Gathered, keys: &KeyTree<'_>, again: Repeated) {
+fn tell_again(gathered: &mut Gathered, keys: &KeyTree<'_>, again: KeyLine) {
     match shown_key(gathered.alloc, keys, again.place) {
         Ok(key) => {
             let shown = printed_name(key.as_str());
@@ -94,8 +93,7 @@ fn tell_again(gathered: &mut Gathered, keys: &KeyTree<'_>, again: Repeated) {
     }
 }
 
-// Adds the messages of a file. A `_zero` is for exactly 0 where the language has no zero of its own,
-// and so is the zero of a pattern of ARB, as Flutter takes it.
+// Adds the messages of a file. A `_zero` is for exactly 0 where the language has no zero.
 pub(crate) fn add_found<'a>(
     gathered: &mut Gathered,
     keys: &KeyTree<'a>,
@@ -103,9 +101,9 @@ pub(crate) fn add_found<'a>(
     spoken: Spoken,
 ) {
     let mut message_keys = MessageKeys::new(keys);
-    let zero_is_exact = found.is_arb && !spoken.has_zero;
+    let arb = if found.is_arb { Some(spoken) } else { None };
     for text in &found.patterns {
-        add_pattern(gathered, keys, &mut message_keys, *text, zero_is_exact);
+        add_pattern(gathered, keys, &mut message_keys, *text, arb);
     }
     for group in &found.groups.groups {
         add_group(gathered, &mut message_keys, group, spoken);
@@ -119,13 +117,13 @@ fn add_pattern<'a>(
     keys: &KeyTree<'a>,
     message_keys: &mut MessageKeys<'_, 'a>,
     text: JsonText<'a>,
-    zero_is_exact: bool,
+    arb: Option<Spoken>,
 ) {
     let Some(piece) = keys.piece(text.place) else {
         return;
     };
     match message_keys.key_of(piece, text.line) {
-        Ok(Some(key)) => add_pattern_message(gathered, key.as_str(), text, zero_is_exact),
+        Ok(Some(key)) => add_pattern_message(gathered, key.as_str(), text, arb),
         Ok(None) => (),
         Err(_) => gathered.fail(),
     }
@@ -151,7 +149,10 @@ fn add_group_under(gathered: &mut Gathered, key: &str, group: &Group<'_>, spoken
         return note_doubtful(gathered, key, group);
     }
     if !group.has_text() {
-        return note_empty(gathered, key, group);
+        return note_empty(gathered, key, group.line);
+    }
+    if let Some(line) = group.no_text {
+        return note_no_text(gathered, key, line);
     }
     let kind = if group.name.is_ordinal {
         MessageKind::Ordinal
@@ -163,17 +164,17 @@ fn add_group_under(gathered: &mut Gathered, key: &str, group: &Group<'_>, spoken
         gathered,
         MessageHead { kind, key, line },
         group,
-        spoken.has_zero,
+        spoken.zero != Named::Lacking,
     );
 }
 
-// Tells that the texts of a message are empty.
-fn note_empty(gathered: &mut Gathered, key: &str, group: &Group<'_>) {
+// Tells that a form of a message is no text.
+fn note_no_text(gathered: &mut Gathered, key: &str, line: u64) {
     let shown = printed_name(key);
     gathered.note(
-        Some(group.line),
+        Some(line),
         NoticeCode::LeftOut,
-        format_args!("'{shown}' has no text: left out"),
+        format_args!("'{shown}' has a form that is no text: left out"),
     );
     gathered.count(Fate::LeftOut, 1);
 }

@@ -13,7 +13,8 @@ pub(crate) enum MemberValue<'a> {
     Text(&'a str),
     // An object, whose members come next.
     Object,
-    // A number, a truth, null, or an array, whose items are passed over.
+    Null,
+    // A number, a truth, or an array, whose items are passed over.
     Other,
 }
 
@@ -107,6 +108,7 @@ impl<'a> Members<'a> {
                 self.pass();
                 MemberValue::Other
             }
+            Some(Token::Null) => MemberValue::Null,
             _ => MemberValue::Other,
         }
     }

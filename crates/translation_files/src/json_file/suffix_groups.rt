@@ -1,9 +1,9 @@
 //! The texts of i18next that are forms of one message: their keys differ in the suffix alone.
 
 use crate::json_file::count_text::first_count;
-use crate::json_file::key_suffix::{SuffixedKey, suffixed_key};
+use crate::json_file::key_suffix::suffixed_key;
 use crate::json_file::key_tree::{KeyTree, Piece, ROOT};
-use crate::json_file::texts::JsonText;
+use crate::json_file::texts::{JsonText, KeyLine};
 use crate::pushed::push;
 use icu_plurals::PluralCategory;
 use std::alloc::{AllocError, Global};
@@ -30,6 +30,8 @@ pub(crate) struct Group<'a> {
     pub(crate) name: GroupName<'a>,
     pub(crate) line: u64,
     pub(crate) forms: Vec<GroupForm<'a>>,
+    // The line of a form that is no text, if there is one.
+    pub(crate) no_text: Option<u64>,
 }
 
 // The messages of a file.
@@ -57,32 +59,12 @@ impl<'a> Groups<'a> {
         keys: &KeyTree<'a>,
         text: JsonText<'a>,
     ) -> Result<(), AllocError> {
-        let Some(piece) = keys.piece(text.place) else {
+        let Some((name, category)) = form_of(keys, text.place) else {
             return Ok(());
-        };
-        let Some(key) = suffixed_key(piece.parent == ROOT, piece.name) else {
-            return Ok(());
-        };
-        self.add(piece.parent, key, text)
-    }
-
-    // Adds a form to its message.
-    fn add(
-        &mut self,
-        parent: usize,
-        key: SuffixedKey<'a>,
-        text: JsonText<'a>,
-    ) -> Result<(), AllocError> {
-        let name = GroupName {
-            base: Piece {
-                parent,
-                name: key.base,
-            },
-            is_ordinal: key.is_ordinal,
         };
         let index = self.index(name, text.line)?;
         let form = GroupForm {
-            category: key.category,
+            category,
             text: text.text,
             line: text.line,
         };
@@ -92,16 +74,47 @@ impl<'a> Groups<'a> {
         }
     }
 
+    // Takes a value that is no text, if its key is that of a form of one of the messages.
+    pub(crate) fn take_other(&mut self, keys: &KeyTree<'a>, other: KeyLine) {
+        let Some((name, _)) = form_of(keys, other.place) else {
+            return;
+        };
+        let Some(index) = self.known.get(&name) else {
+            return;
+        };
+        if let Some(group) = self.groups.get_mut(*index) {
+            group.no_text = Some(other.line);
+        }
+    }
+
     // The index of a message, which is added if it is new.
     fn index(&mut self, name: GroupName<'a>, line: u64) -> Result<usize, AllocError> {
         let next = self.groups.len();
         let index = *self.known.entry(name)?.or_insert(next);
         if index == next {
             let forms = Vec::new(self.alloc);
-            push(&mut self.groups, Group { name, line, forms })?;
+            let group = Group {
+                name,
+                line,
+                forms,
+                no_text: None,
+            };
+            push(&mut self.groups, group)?;
         }
         Ok(index)
     }
+}
+
+// The message of a key, and the form, if it has a suffix.
+fn form_of<'a>(keys: &KeyTree<'a>, place: usize) -> Option<(GroupName<'a>, PluralCategory)> {
+    let piece = keys.piece(place)?;
+    let key = suffixed_key(piece.parent == ROOT, piece.name)?;
+    let base = Piece {
+        parent: piece.parent,
+        name: key.base,
+    };
+    let is_ordinal = key.is_ordinal;
+    Some((GroupName { base, is_ordinal }, key.category))
 }
 
 impl<'a> Group<'a> {

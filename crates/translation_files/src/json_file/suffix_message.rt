@@ -1,13 +1,12 @@
 //! The message of i18next's texts that differ in the suffixes of their keys.
 
-use crate::code::NoticeCode;
 use crate::counts::Fate;
 use crate::gathered::{Gathered, MessageHead};
 use crate::json_file::count_text::{count_text, first_count};
+use crate::json_file::empty_form::put_empty;
 use crate::json_file::suffix_groups::{Group, GroupForm};
 use icu_plurals::PluralCategory;
 use message_report::Form;
-use plural_documents::printed_name;
 
 // Adds the message. A `_zero` is for exactly 0 where the language has no zero of its own. The
 // arguments of its source aren't known, but that there are none, if no form has the number.
@@ -24,7 +23,7 @@ pub(crate) fn add_suffix_message(
     for form in &group.forms {
         let name = name_of(form.category, has_zero);
         if form.text.is_empty() {
-            put_empty(gathered, head, name, form);
+            put_empty(gathered, head, name, form.line);
         } else {
             put_form(gathered, name, form);
         }
@@ -38,20 +37,6 @@ pub(crate) fn add_suffix_message(
 // Puts a form under its name.
 fn put_form(gathered: &mut Gathered, name: Form, form: &GroupForm<'_>) {
     let text = count_text(gathered.alloc, form.text);
-    gathered.put_form(name, text);
-    gathered.put_line(name, form.line);
-}
-
-// Tells that a form has no text, and puts it as one of which nothing else is told.
-fn put_empty(gathered: &mut Gathered, head: MessageHead<'_>, name: Form, form: &GroupForm<'_>) {
-    let shown = printed_name(head.key);
-    let suffix = name.as_str();
-    gathered.tell(
-        Some(form.line),
-        NoticeCode::NotTranslated,
-        format_args!("'{shown}', {suffix}: it has no text: translate it"),
-    );
-    let text = String::from_str(gathered.alloc, "{}");
     gathered.put_form(name, text);
     gathered.put_line(name, form.line);
 }

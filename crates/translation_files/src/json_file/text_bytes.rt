@@ -81,6 +81,11 @@ pub(crate) fn split_run(class: Class, text: &[u8]) -> (&[u8], &[u8])
     text.split_at(text.len() - behind_run(class, text).len())
 }
 
+// What stands in a text before its rest.
+pub(crate) fn before<'t>(text: &'t [u8], rest: &[u8]) -> &'t [u8] {
+    &text[..text.len().saturating_sub(rest.len())]
+}
+
 // What follows the white space at the front.
 pub(crate) fn after_white(text: &[u8]) -> &[u8]
     ensures { length result.now ≤ length text.now }

@@ -14,19 +14,23 @@ pub(crate) struct JsonText<'a> {
     pub(crate) line: u64,
 }
 
-// A key that stands again.
+// A key of a value.
 #[derive(Clone, Copy)]
-pub(crate) struct Repeated {
+pub(crate) struct KeyLine {
     pub(crate) place: usize,
     pub(crate) line: u64,
 }
 
-// The texts of a file, in their order; of a key that stands twice, the first one.
+// The texts of a file, in their order; of a key that stands twice, the first one. Null is an empty
+// one.
 #[derive(Drop)]
 pub(crate) struct JsonTexts<'a> {
     pub(crate) keys: KeyTree<'a>,
     pub(crate) texts: Vec<JsonText<'a>>,
-    pub(crate) repeated: Vec<Repeated>,
+    // The values that are no texts, such as arrays.
+    pub(crate) others: Vec<KeyLine>,
+    // The keys that stand again.
+    pub(crate) repeated: Vec<KeyLine>,
     // What `@@locale` says.
     pub(crate) locale: Option<&'a str>,
     // The places of the objects around the next member.
@@ -44,6 +48,7 @@ impl<'a> JsonTexts<'a> {
         JsonTexts {
             keys: KeyTree::new(alloc),
             texts: Vec::new(alloc),
+            others: Vec::new(alloc),
             repeated: Vec::new(alloc),
             locale: None,
             open: Vec::new(alloc),
@@ -96,7 +101,12 @@ impl<'a> JsonTexts<'a> {
                 push(&mut self.open, place)
             }
             MemberValue::Text(text) => self.take_text(parent, member, text),
-            MemberValue::Other => Ok(()),
+            MemberValue::Null => self.take_text(parent, member, ""),
+            MemberValue::Other => {
+                let place = self.keys.place_of(parent, member.key)?;
+                let line = member.line;
+                push(&mut self.others, KeyLine { place, line })
+            }
         }
     }
 
@@ -112,7 +122,7 @@ impl<'a> JsonTexts<'a> {
         if self.keys.keep_line(place, line) {
             push(&mut self.texts, JsonText { place, text, line })
         } else {
-            push(&mut self.repeated, Repeated { place, line })
+            push(&mut self.repeated, KeyLine { place, line })
         }
     }
 }

@@ -1,10 +1,20 @@
 //! What tools/translation-input tells of a file that isn't read here, as JSON.
 
+ghost use Rattle.std.specs.Prelude.{◌≡◌, [], IfSome, false, is_some, option_and_then};
+ghost use Rattle.serde_json.specs.Find.{as_array, get};
+ghost use Rattle.serde_json.specs.View.{view};
+ghost use Rattle.translation_files.specs.ReadFiles.{tells_notices};
+
 use crate::code::NoticeCode;
 use crate::counts::Fate;
 use crate::gathered::{Gathered, MessageHead};
 use crate::json_file::android_message::{AndroidForm, AndroidText, add_android_message, push_form};
+use crate::json_file::key_tree::ROOT;
+use crate::json_file::pattern_message::add_pattern_message;
+use crate::json_file::texts::JsonText;
 use crate::lines::MessageKind;
+use crate::notice::FileNotice;
+use crate::pushed::push;
 use icu_plurals::PluralCategory;
 use message_report::Severity;
 use serde_json::{Map, Value};
@@ -16,19 +26,40 @@ pub(crate) struct ToldFile<'v> {
     pub(crate) name: &'v str,
     pub(crate) locale: Option<&'v str>,
     pub(crate) messages: &'v [Value],
+    pub(crate) notices: &'v [Value],
 }
 
 // The file that a document tells, if it does: it names the file.
-pub(crate) fn told_file(value: &Value) -> Option<ToldFile<'_>> {
+pub(crate) fn told_file(value: &Value) -> Option<ToldFile<'_>>
+    ensures { IfSome result (λ told. tells_notices (view value.now) ≡ false → told.notices.now ≡ []) }
+{
     let name = text_under("@@file", value)?;
     match value.get("messages")? {
         Value::Array(messages) => Some(ToldFile {
             name,
             locale: text_under("@@locale", value),
             messages: messages.as_slice(),
+            notices: notices_of(value),
         }),
         _ => None,
     }
+}
+
+// The notices of a document, if they are an array.
+fn notices_of(value: &Value) -> &[Value]
+    ensures { tells_notices (view value.now) ≡ false → result.now ≡ [] }
+{
+    match array_under("notices", value) {
+        Some(notices) => notices.as_slice(),
+        None => &[],
+    }
+}
+
+// The array under a key.
+fn array_under<'v>(key: &str, value: &'v Value) -> Option<&'v Vec<Value>>
+    ensures { is_some result ≡ is_some (option_and_then as_array (get key.now (view value.now))) }
+{
+    value.get(key)?.as_array()
 }
 
 // A gettext catalog that is told.
@@ -38,26 +69,32 @@ pub(crate) struct ToldCatalog<'v> {
     pub(crate) text: &'v str,
 }
 
-// The catalog that a document tells, if it does: it names the file, and has its text.
+// The catalog that a document tells, if it does: it names the file, and has its text and no messages.
 pub(crate) fn told_catalog(value: &Value) -> Option<ToldCatalog<'_>> {
+    if told_file(value).is_some() {
+        return None;
+    }
     Some(ToldCatalog {
         name: text_under("@@file", value)?,
         text: text_under("catalog", value)?,
     })
 }
 
-// A message that is told, under whose forms are texts.
+// A message that is told: its forms, each with a text, or a pattern.
 #[derive(Clone, Copy)]
-struct ToldMessage<'v> {
-    head: MessageHead<'v>,
-    forms: &'v Map<String, Value>,
+enum ToldMessage<'v> {
+    Forms(MessageHead<'v>, &'v Map<String, Value>),
+    Pattern(&'v str, JsonText<'v>),
 }
 
 // Adds the messages that are told.
 pub(crate) fn add_told(gathered: &mut Gathered, messages: &[Value]) {
     for message in messages {
         match told_message(message) {
-            Some(told) => add_message(gathered, told),
+            Some(ToldMessage::Forms(head, forms)) => add_message(gathered, head, forms),
+            Some(ToldMessage::Pattern(key, text)) => {
+                add_pattern_message(gathered, key, text, None)
+            }
             None => tell_untold(gathered, message),
         }
     }
@@ -77,8 +114,16 @@ fn line_of(told: &Value) -> Option<u64> {
 // A message, if it is of the shape.
 fn told_message(message: &Value) -> Option<ToldMessage<'_>> {
     let head = head_of(message)?;
+    if head.kind == MessageKind::Pattern {
+        let text = JsonText {
+            place: ROOT,
+            text: text_under("text", message)?,
+            line: head.line,
+        };
+        return Some(ToldMessage::Pattern(head.key, text));
+    }
     match message.get("forms")? {
-        Value::Object(forms) if are_texts(forms) => Some(ToldMessage { head, forms }),
+        Value::Object(forms) if are_texts(forms) => Some(ToldMessage::Forms(head, forms)),
         _ => None,
     }
 }
@@ -103,11 +148,11 @@ fn are_texts(forms: &Map<String, Value>) -> bool {
 }
 
 // Adds a message.
-fn add_message(gathered: &mut Gathered, told: ToldMessage<'_>) {
+fn add_message(gathered: &mut Gathered, head: MessageHead<'_>, told: &Map<String, Value>) {
     let mut forms = Vec::new(gathered.alloc);
-    let pushed = push_forms(gathered.alloc, &mut forms, told.forms);
+    let pushed = push_forms(gathered.alloc, &mut forms, told);
     gathered.keep(pushed);
-    add_android_message(gathered, told.head, &forms);
+    add_android_message(gathered, head, &forms);
     drop(forms);
 }
 
@@ -135,6 +180,7 @@ fn kind_of(message: &Value) -> Option<MessageKind> {
     match text_under("type", message)? {
         "cardinal" => Some(MessageKind::Cardinal),
         "ordinal" => Some(MessageKind::Ordinal),
+        "patterns" => Some(MessageKind::Pattern),
         _ => None,
     }
 }
@@ -148,21 +194,41 @@ fn text_of<'v>(name: &str, form: &'v Value) -> Option<AndroidText<'v>> {
     })
 }
 
-// Adds the notices that are told.
-pub(crate) fn add_notices(gathered: &mut Gathered, value: &Value) {
-    let Some(Value::Array(notices)) = value.get("notices") else {
-        return;
-    };
-    for notice in notices {
-        add_notice(gathered, notice);
+// The notices of an array. The messages that they leave out are counted.
+pub(crate) fn add_notices(gathered: &mut Gathered, notices: &[Value]) -> Vec<FileNotice>
+    ensures { notices.now ≡ [] → result.items ≡ [] }
+{
+    if notices.is_empty() {
+        return Vec::new(gathered.alloc);
     }
+    let mut told = Vec::new(gathered.alloc);
+    for notice in notices {
+        add_notice(gathered, &mut told, notice);
+    }
+    told
 }
 
 // Adds a notice, and counts the messages that it leaves out.
-fn add_notice(gathered: &mut Gathered, notice: &Value) {
+fn add_notice(gathered: &mut Gathered, told: &mut Vec<FileNotice>, notice: &Value) {
     let text = text_under("text", notice).unwrap_or("something is told without a text");
-    let code = code_named(text_under("code", notice).unwrap_or(""));
-    gathered.add_notice(severity_of(notice), line_of(notice), code, text);
+    match String::from_str(gathered.alloc, text) {
+        Ok(text) => {
+            let line = line_of(notice);
+            let severity = severity_of(notice);
+            let code = code_named(text_under("code", notice).unwrap_or(""));
+            let pushed = push(
+                told,
+                FileNotice {
+                    line,
+                    severity,
+                    code,
+                    text,
+                },
+            );
+            gathered.keep(pushed);
+        }
+        Err(_) => gathered.fail(),
+    }
     if let Some(count) = notice.get("left_out") {
         gathered.count(Fate::LeftOut, count.as_u64().unwrap_or(0));
     }

@@ -5,7 +5,9 @@ use crate::gathered::Gathered;
 use crate::po::measure::Measure;
 use crate::po::message::{line_of, take_texts};
 use crate::po::mistakes::{Compared, push_mistakes};
+use crate::po::range::range_of;
 use crate::po::read_text::{Read, has_too_many, read_text};
+use crate::po::seconds::tell_seconds;
 use crate::po::sides::{Sides, Texts, push_texts};
 use crate::po::source_number::{is_same_name, number_in};
 use crate::po::standing::{Standing, standing_of};
@@ -15,12 +17,30 @@ use format_arguments::Argument;
 use po_catalog::{Catalog, Entry, Text};
 use std::alloc::{AllocError, Global};
 
-// Takes the messages of a catalog that are whole.
+// Takes the messages of a catalog that are whole, and tells those that stand twice.
 pub(crate) fn take_messages(gathered: &mut Gathered, catalog: &Catalog, measure: Measure<'_>) {
+    tell_seconds(gathered, catalog, measure.has_rules());
     for entry in catalog.entries.iter() {
         if let Standing::Whole = standing_of(entry) {
-            take_message(gathered, entry, measure);
+            take_in_range(gathered, entry, measure);
         }
+    }
+}
+
+// Takes a message. If its flags have a range, no other number is shown in it, so that the rules of all
+// numbers aren't its rules.
+fn take_in_range(gathered: &mut Gathered, entry: &Entry, measure: Measure<'_>) {
+    match (measure, range_of(entry)) {
+        (Measure::Rules(forms), Some(range)) => {
+            match forms.indices.within(gathered.alloc, range) {
+                Ok(indices) => {
+                    take_message(gathered, entry, Measure::Range(&indices));
+                    drop(indices);
+                }
+                Err(_) => gathered.fail(),
+            }
+        }
+        _ => take_message(gathered, entry, measure),
     }
 }
 
@@ -62,7 +82,7 @@ fn has_too_many_signs(entry: &Entry) -> bool {
 }
 
 // The bytes of a text.
-fn bytes_of(text: &Option<Text>) -> &[u8] {
+pub(crate) fn bytes_of(text: &Option<Text>) -> &[u8] {
     match text {
         Some(text) => text.bytes.as_slice(),
         None => b"",
@@ -84,7 +104,9 @@ fn compare<'e>(
     measure: Measure<'_>,
     reads: &mut Vec<Read<'e>>,
 ) {
-    let format = format_of(entry);
+    let Ok(format) = format_of(gathered.alloc, entry) else {
+        return gathered.fail();
+    };
     let read = push_reads(gathered.alloc, reads, entry, format);
     gathered.keep(read);
     match reads.as_slice() {

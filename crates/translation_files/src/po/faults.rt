@@ -1,5 +1,7 @@
 //! The lines of a catalog that can't be read.
 
+ghost use Rattle.translation_files.specs.NoticeSeverities.{IsErrorCode};
+
 use crate::code::NoticeCode;
 use crate::counts::Fate;
 use crate::gathered::Gathered;
@@ -24,7 +26,7 @@ pub(crate) fn other_charset(catalog: &Catalog) -> Option<&str> {
 // Whether bytes of a catalog are no UTF-8.
 fn has_other_bytes(catalog: &Catalog) -> bool {
     for it in catalog.faults.iter() {
-        if let Cause::NotUtf8 = it.cause {
+        if let Cause::NotUtf8 | Cause::TextNotUtf8 = it.cause {
             return true;
         }
     }
@@ -123,9 +125,11 @@ fn tell(gathered: &mut Gathered, fault: &Fault) {
 }
 
 // The code of a fault.
-fn code_of(fault: &Fault) -> NoticeCode {
+fn code_of(fault: &Fault) -> NoticeCode
+    ensures { IsErrorCode result }
+{
     match fault.cause {
-        Cause::NotUtf8 => NoticeCode::Charset,
+        Cause::NotUtf8 | Cause::TextNotUtf8 => NoticeCode::Charset,
         _ => NoticeCode::Syntax,
     }
 }

@@ -10,7 +10,7 @@ use crate::po::measure::{Forms, Measure};
 use crate::po::refusal::{
     line_of_header, refuse, refuse_clash, refuse_forms, refuse_index, refuse_language,
 };
-use gettext_plural::{PluralForms, PluralFormsError};
+use gettext_plural::{FaultKind, PluralForms, PluralFormsError};
 use icu_plurals::{PluralRuleType, PluralRules};
 use message_report::RulesOfLocales;
 use po_catalog::Catalog;
@@ -60,6 +60,14 @@ fn read_by_header<S: RulesOfLocales>(
         Ok(forms) => read_by_forms(gathered, file, &forms),
         Err(PluralFormsError::Memory) => gathered.fail(),
         Err(_) => refuse_forms(gathered, file.catalog, error),
+    }
+}
+
+// Tells what is wrong with the rule of a file that has no message to check, if there is `nplurals=`.
+pub(crate) fn tell_rule(gathered: &mut Gathered, catalog: &Catalog) {
+    match PluralForms::parse(gathered.alloc, header_text(catalog)) {
+        Ok(_) | Err(PluralFormsError::Fault(FaultKind::NoCount, _)) => {}
+        Err(error) => refuse_forms(gathered, catalog, error),
     }
 }
 

@@ -1,6 +1,7 @@
 //! The index of each number by a catalog's `Plural-Forms`.
 
 use crate::po::numbers::tried_numbers;
+use crate::po::range::Range;
 use crate::pushed::push;
 use gettext_plural::{IndexError, PluralForms};
 use std::alloc::{AllocError, Global};
@@ -76,6 +77,45 @@ impl Indices {
             *times = times.saturating_add(1);
         }
         push(&mut self.tried, NumberIndex { number, index })
+    }
+
+    // The indices of the numbers in a range.
+    pub(crate) fn within(&self, alloc: Global, range: Range) -> Result<Indices, AllocError> {
+        let mut indices = Indices::new(alloc, self.count);
+        match indices.add_within(self, range) {
+            Ok(()) => Ok(indices),
+            Err(error) => Err(error),
+        }
+    }
+
+    // Adds the numbers of others that are in a range.
+    fn add_within(&mut self, all: &Indices, range: Range) -> Result<(), AllocError> {
+        for _ in 0..self.count {
+            push(&mut self.times, 0)?;
+        }
+        for it in all.tried.iter() {
+            if range.low <= it.number && it.number <= range.high {
+                self.add(it.number, it.index)?;
+            }
+        }
+        Ok(())
+    }
+
+    // The least two numbers that have an index, if several have it.
+    pub(crate) fn least_two(&self, index: u64) -> Option<(u64, u64)> {
+        if self.times_of(index) < 2 {
+            return None;
+        }
+        let mut least = None;
+        for it in self.tried.iter() {
+            if it.index == index {
+                match least {
+                    Some(first) => return Some((first, it.number)),
+                    None => least = Some(it.number),
+                }
+            }
+        }
+        None
     }
 
     // How many numbers have an index.

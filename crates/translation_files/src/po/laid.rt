@@ -15,6 +15,8 @@ pub(crate) struct FormIndex {
     // Whether a category of more numbers has the index, too: what is wrong with its text is told of
     // that one alone.
     pub(crate) is_second: bool,
+    // Whether it is the form of several numbers, so that the rules tell whether it has the number.
+    pub(crate) has_several: bool,
 }
 
 // Two numbers of one category that have two indices.
@@ -281,6 +283,7 @@ fn push_forms(forms: &mut Vec<FormIndex>, groups: &[Group]) -> Result<(), AllocE
                 form: Form::Category(group.category),
                 index: first.index,
                 is_second: has_larger(groups, place, group),
+                has_several: group.second.is_some(),
             };
             push(forms, form)?;
         }
@@ -294,6 +297,7 @@ fn own_form(form: Form, index: u64) -> FormIndex {
         form,
         index,
         is_second: false,
+        has_several: false,
     }
 }
 

@@ -13,6 +13,19 @@ pub(crate) struct Forms<'a> {
     pub(crate) laid: &'a Laid,
 }
 
+impl Forms<'_> {
+    // Whether the rules tell if the form of an index has the number: a category of several numbers has
+    // this index.
+    pub(crate) fn tell_number(self, index: u64) -> bool {
+        for it in self.laid.forms.iter() {
+            if it.index == index && it.has_several {
+                return true;
+            }
+        }
+        false
+    }
+}
+
 // How many numbers have a form.
 #[derive(Clone, Copy, PartialEq, Eq)]
 pub(crate) enum Extent {
@@ -30,6 +43,8 @@ pub(crate) enum Measure<'a> {
     Rules(Forms<'a>),
     // By the indices of the catalog alone.
     Indices(&'a Indices),
+    // By the indices of the numbers that the message is shown for.
+    Range(&'a Indices),
     // By nothing, since the indices aren't known: their arguments are compared.
     Nothing,
 }
@@ -39,7 +54,7 @@ impl<'a> Measure<'a> {
     pub(crate) fn indices(self) -> Option<&'a Indices> {
         match self {
             Measure::Rules(forms) => Some(forms.indices),
-            Measure::Indices(indices) => Some(indices),
+            Measure::Indices(indices) | Measure::Range(indices) => Some(indices),
             Measure::Nothing => None,
         }
     }
@@ -52,10 +67,18 @@ impl<'a> Measure<'a> {
         }
     }
 
-    // Whether the number is checked by the rules.
+    // Whether the rules are known: then the number is checked apart from the other arguments.
     pub(crate) fn has_rules(self) -> bool {
         match self {
-            Measure::Rules(_) => true,
+            Measure::Rules(_) | Measure::Range(_) => true,
+            _ => false,
+        }
+    }
+
+    // Whether what is found in the document tells if the form of an index has the number.
+    pub(crate) fn tells_number(self, index: u64) -> bool {
+        match self {
+            Measure::Rules(forms) => forms.tell_number(index),
             _ => false,
         }
     }

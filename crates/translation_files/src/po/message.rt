@@ -4,6 +4,7 @@ use crate::code::NoticeCode;
 use crate::counts::Fate;
 use crate::gathered::{Gathered, MessageHead};
 use crate::lines::MessageKind;
+use crate::po::lacking::tell_lacking;
 use crate::po::laid::FormIndex;
 use crate::po::measure::{Forms, Measure};
 use crate::po::sides::{Sides, note_number, put_source};
@@ -11,8 +12,8 @@ use message_report::Form;
 use po_catalog::{Entry, Text};
 use std::alloc::{AllocError, Global};
 
-// Takes a message, given its texts with `{}` for the number: tells the form that is missing, and
-// puts it into the document, if the rules are known.
+// Takes a message, given its texts with `{}` for the number: tells the form that is missing, and those
+// that lack the number, and puts it into the document, if the rules are known.
 pub(crate) fn take_texts(
     gathered: &mut Gathered,
     entry: &Entry,
@@ -30,7 +31,14 @@ pub(crate) fn take_texts(
         );
     }
     match measure {
-        Measure::Rules(forms) => add(gathered, entry, sides, forms, texts),
+        Measure::Rules(forms) => {
+            tell_lacking(gathered, entry, sides, measure, texts);
+            add(gathered, entry, sides, forms, texts);
+        }
+        Measure::Range(_) => {
+            tell_lacking(gathered, entry, sides, measure, texts);
+            count(gathered, entry.line as u64, sides);
+        }
         _ => (),
     }
 }
@@ -138,14 +146,19 @@ fn add_under(
     put_lines(gathered, entry, forms);
     put_source(gathered, sides);
     gathered.end(head, true);
-    let is_noted = note_number(gathered, head.line, sides);
+    count(gathered, head.line, sides);
+}
+
+// Counts a message, and notes what of it isn't checked.
+fn count(gathered: &mut Gathered, line: u64, sides: &Sides<'_, '_>) {
+    let is_noted = note_number(gathered, line, sides);
     gathered.count(if is_noted { Fate::Noted } else { Fate::Checked }, 1);
 }
 
 // The key of a message: its context and its id, with a bar between them. A bar in a context is
 // doubled, and one in an id without a context has one before the id, so that messages of two
 // contexts have two keys.
-fn key_of(alloc: Global, entry: &Entry) -> Result<String, AllocError> {
+pub(crate) fn key_of(alloc: Global, entry: &Entry) -> Result<String, AllocError> {
     let mut key = String::new(alloc);
     match push_key(&mut key, entry) {
         Ok(()) => Ok(key),

@@ -2,7 +2,7 @@
 
 use crate::po::text_format::TextFormat;
 use crate::pushed::push;
-use format_arguments::{Argument, Format, Name, arguments};
+use format_arguments::{Argument, Format, Kind, Name, arguments};
 use std::alloc::{AllocError, Global};
 
 // How many percent signs and braces a text has at most, and so arguments.
@@ -208,11 +208,97 @@ fn first_argument<'t>(alloc: Global, text: &'t [u8]) -> Result<Option<Argument<'
         [b'{', ..] => front_argument(alloc, Format::PythonBrace, front),
         [b'%', b'(', ..] => front_argument(alloc, Format::Python, front),
         [b'%', b' ', ..] => Ok(None),
-        _ => match front_argument(alloc, Format::C, front)? {
-            Some(found) if is_common(directive(front, &found)) => Ok(Some(found)),
-            _ => front_argument(alloc, Format::QtPlural, front),
+        _ => match enclosed_argument(front) {
+            Some(found) => Ok(Some(found)),
+            None => percent_argument(alloc, front),
         },
     }
+}
+
+// The argument behind a percent sign, as C or Qt has it.
+fn percent_argument<'t>(
+    alloc: Global,
+    front: &'t [u8],
+) -> Result<Option<Argument<'t>>, AllocError> {
+    match front_argument(alloc, Format::C, front)? {
+        Some(found) if is_of_c(front, &found) => Ok(Some(found)),
+        _ => match front_argument(alloc, Format::QtPlural, front)? {
+            Some(found) if is_of_qt(front, &found) => Ok(Some(found)),
+            _ => Ok(None),
+        },
+    }
+}
+
+// Whether a directive of C has a conversion that Python has, too, and is no encoded byte, as `%2F`.
+fn is_of_c(front: &[u8], found: &Argument<'_>) -> bool {
+    let bytes = directive(front, found);
+    is_common(bytes) && !(has_width(bytes) && begins_word(front, found.end))
+}
+
+// Whether digits that are no place stand behind a percent sign.
+fn has_width(directive: &[u8]) -> bool {
+    match directive {
+        [_, second, ..] => second.is_ascii_digit() && !directive.contains(&b'$'),
+        _ => false,
+    }
+}
+
+// Whether a directive of Qt is no encoded byte, as `%20`, and no part of a word.
+fn is_of_qt(front: &[u8], found: &Argument<'_>) -> bool {
+    match directive(front, found) {
+        [_, b'n'] => !begins_word(front, found.end),
+        [_, second] if second.is_ascii_digit() => match front.get(found.end) {
+            Some(next) => !next.is_ascii_hexdigit(),
+            None => true,
+        },
+        [_, second, _] => !second.is_ascii_digit(),
+        _ => true,
+    }
+}
+
+// Whether a letter or a digit stands there.
+fn begins_word(text: &[u8], place: usize) -> bool {
+    match text.get(place) {
+        Some(byte) => byte.is_ascii_alphanumeric(),
+        None => false,
+    }
+}
+
+// The argument `%name%` at the front of a text, if no letter, digit or percent sign follows it.
+fn enclosed_argument(front: &[u8]) -> Option<Argument<'_>> {
+    let end = end_of_name(front)?;
+    let behind = end.saturating_add(1);
+    if end < 3 || begins_word(front, behind) || front.get(behind) == Some(&b'%') {
+        return None;
+    }
+    Some(Argument {
+        start: 0,
+        end: behind,
+        name: Name::Word(front.get(1..end).unwrap_or(b"")),
+        kind: Kind::Unknown,
+        size: b"",
+    })
+}
+
+// Where the percent sign stands that ends a name behind the one at the front.
+fn end_of_name(front: &[u8]) -> Option<usize> {
+    for (place, byte) in front.iter().enumerate() {
+        if place == 1 && !byte.is_ascii_alphabetic() {
+            return None;
+        }
+        if place > 1 && *byte == b'%' {
+            return Some(place);
+        }
+        if place > 1 && !is_of_name(*byte) {
+            return None;
+        }
+    }
+    None
+}
+
+// Whether a byte is of a name between percent signs.
+fn is_of_name(byte: u8) -> bool {
+    byte.is_ascii_alphanumeric() || byte == b'_' || byte == b'-' || byte == b'.'
 }
 
 // Whether a directive has a conversion that is C's and Python's.

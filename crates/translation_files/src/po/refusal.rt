@@ -1,5 +1,7 @@
 //! Why the messages of a catalog aren't checked by the rules.
 
+ghost use Rattle.translation_files.specs.NoticeSeverities.{IsErrorCode};
+
 use crate::code::NoticeCode;
 use crate::counts::Fate;
 use crate::gathered::Gathered;
@@ -117,17 +119,19 @@ pub(crate) fn refuse<T: Display + Drop>(
     code: NoticeCode,
     why: T,
     measure: Measure<'_>,
-) {
+)
+    requires { IsErrorCode code }
+{
     let count = standings_of(catalog).whole;
     let (fate, left) = match measure {
         Measure::Nothing => (Fate::LeftOut, left_out(count)),
         _ => (Fate::Noted, checked_alone(count)),
     };
-    gathered.tell(
-        line_of_header(catalog),
-        code,
-        format_args!("{why}; {count} {left}"),
-    );
+    let line = line_of_header(catalog);
+    if count == 0 {
+        return gathered.tell(line, code, why);
+    }
+    gathered.tell(line, code, format_args!("{why}; {count} {left}"));
     gathered.count(fate, count);
     take_messages(gathered, catalog, measure);
 }

@@ -1,7 +1,11 @@
 //! The format of a message's texts.
 
+use crate::po::compared::bytes_of;
+use crate::po::read_text::{Read, read_text};
+use crate::po::source_number::number_in;
 use format_arguments::Format;
 use po_catalog::Entry;
+use std::alloc::{AllocError, Global};
 use std::str;
 
 // The format of a message's texts.
@@ -37,23 +41,83 @@ const ALIKE: [(&str, Format); 3] = [
     ("tcl-format", Format::C),
 ];
 
-// The format that a message's flags name.
-pub(crate) fn format_of(entry: &Entry) -> TextFormat {
-    match flagged(entry).or(alike(entry)) {
+// The format that a message's flags name: of several the first one in which the number is clear, else
+// the first one.
+pub(crate) fn format_of(alloc: Global, entry: &Entry) -> Result<TextFormat, AllocError> {
+    let found = match flagged(alloc, entry) {
+        Ok(found) => found.or(alike(entry)),
+        Err(error) => return Err(error),
+    };
+    Ok(match found {
         Some(format) => TextFormat::Flagged(format),
         None if names_other(entry) => TextFormat::Unread,
         None => TextFormat::Unflagged,
-    }
+    })
 }
 
 // The format that is flagged.
-fn flagged(entry: &Entry) -> Option<Format> {
+fn flagged(alloc: Global, entry: &Entry) -> Result<Option<Format>, AllocError> {
+    let (first, count) = flagged_formats(entry);
+    if count < 2 {
+        return Ok(first);
+    }
     for format in FORMATS {
         if entry.has_flag(format.flag()) {
-            return Some(with_plurals(format));
+            let format = with_plurals(format);
+            let is_clear = has_number(alloc, format, entry)?;
+            if is_clear {
+                return Ok(Some(format));
+            }
         }
     }
-    None
+    Ok(first)
+}
+
+// The first format that is flagged, and how many are.
+fn flagged_formats(entry: &Entry) -> (Option<Format>, usize) {
+    let mut first = None;
+    let mut count = 0usize;
+    for format in FORMATS {
+        if entry.has_flag(format.flag()) {
+            first = first.or(Some(with_plurals(format)));
+            count = count.saturating_add(1);
+        }
+    }
+    (first, count)
+}
+
+// Whether the plural of a message has a number in a format, and no fault.
+fn has_number(alloc: Global, format: Format, entry: &Entry) -> Result<bool, AllocError> {
+    match read_text(alloc, TextFormat::Flagged(format), bytes_of(&entry.id)) {
+        Ok(singular) => {
+            let has_number = has_number_beside(alloc, format, entry, &singular);
+            drop(singular);
+            has_number
+        }
+        Err(error) => Err(error),
+    }
+}
+
+// The same, given the singular.
+fn has_number_beside<'e>(
+    alloc: Global,
+    format: Format,
+    entry: &'e Entry,
+    singular: &Read<'e>,
+) -> Result<bool, AllocError> {
+    match read_text(
+        alloc,
+        TextFormat::Flagged(format),
+        bytes_of(&entry.plural_id),
+    ) {
+        Ok(plural) => {
+            let number = number_in(plural.items.as_slice(), &plural, singular);
+            let is_clear = plural.fault.is_none() && number.is_some();
+            drop(plural);
+            Ok(is_clear)
+        }
+        Err(error) => Err(error),
+    }
 }
 
 // The format that is like one that is flagged.

@@ -1,0 +1,4 @@
+pub mod PlaceLemmas
+pub mod NoticeLemmas
+pub mod DocumentLemmas
+pub mod ReadLemmas
