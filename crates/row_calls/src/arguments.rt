@@ -2,6 +2,7 @@
 
 use crate::call::Call;
 use fixed_decimal::CompactDecimal;
+use hex::FromHexError;
 use plural_base::{PluralRulesData, RulesTextError};
 use plural_reference::{PluralOperands, RawPluralOperands};
 use serde_json::Value;
@@ -143,8 +144,8 @@ impl Call {
         let texts = self.five_texts();
         match texts.read(self.alloc) {
             Ok(rules) => rules,
-            Err(_) => {
-                self.not("five rules");
+            Err(refusal) => {
+                self.refused("five rules", &refusal.error);
                 PluralRulesData::default()
             }
         }
@@ -155,7 +156,10 @@ impl Call {
         let text = self.text_of(value);
         match CompactDecimal::from_str(self.alloc, text.as_str()) {
             Ok(number) => PluralOperands::from(&number),
-            Err(_) => self.no_operands(),
+            Err(error) => {
+                self.refused("operands", &error);
+                PluralOperands::default()
+            }
         }
     }
 
@@ -243,10 +247,11 @@ impl Call {
     /// Returns the bytes of a value: a text of hexadecimal digits.
     pub fn bytes_of(&mut self, value: &Value) -> Vec<u8> {
         let digits = self.text_of(value);
-        if let Ok(bytes) = hex::decode(self.alloc, digits.as_str()) {
-            return bytes;
+        match hex::decode(self.alloc, digits.as_str()) {
+            Ok(bytes) => return bytes,
+            Err(FromHexError::OutOfMemory) => self.out_of_memory(),
+            Err(_) => self.not("bytes"),
         }
-        self.not("bytes");
         Vec::new(self.alloc)
     }
 }

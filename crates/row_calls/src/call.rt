@@ -79,6 +79,16 @@ impl Call {
         self.keep(RowFault::Not(form));
     }
 
+    /// Keeps the fault that an argument isn't what is named here, which an error says, or that memory
+    /// ran out, if that is what it says.
+    pub fn refused(&mut self, form: &'static str, error: &impl Debug) {
+        if is_memory(error) {
+            self.out_of_memory();
+        } else {
+            self.not(form);
+        }
+    }
+
     /// Keeps the fault that memory ran out.
     pub fn out_of_memory(&mut self) {
         self.keep(RowFault::Memory);
@@ -94,6 +104,17 @@ impl Call {
     /// Returns an empty text.
     pub fn empty(&self) -> String {
         String::new(self.alloc)
+    }
+
+    /// Returns an empty writer with room for 4096 bytes: it needs no more memory for a short answer.
+    pub fn writer(&mut self) -> Vec<u8> {
+        match Vec::with_capacity(self.alloc, 4096) {
+            Ok(writer) => writer,
+            Err(_) => {
+                self.out_of_memory();
+                Vec::new(self.alloc)
+            }
+        }
     }
 
     /// Adds a piece to a text.
@@ -158,9 +179,14 @@ impl Call {
         let _ = write!(self, "{value:?}");
     }
 
-    /// Prints `error` and the name of an error, as its `Debug` writes it.
+    /// Prints `error` and the name of an error, as its `Debug` writes it. If the name is `Memory`,
+    /// keeps the fault that memory ran out.
     pub fn print_error(&mut self, error: &impl Debug) {
-        let _ = write!(self, "error {error:?}");
+        if is_memory(error) {
+            self.out_of_memory();
+        } else {
+            let _ = write!(self, "error {error:?}");
+        }
     }
 
     /// Prints `true` or `false`.
@@ -228,6 +254,26 @@ impl fmt::Write for Call {
         self.print(s);
         Ok(())
     }
+}
+
+// What is still awaited of a name.
+#[derive(Drop)]
+struct Awaited {
+    left: &'static str,
+}
+
+impl fmt::Write for Awaited {
+    fn write_str(&mut self, s: &str) -> fmt::Result {
+        self.left = self.left.strip_prefix(s).ok_or(fmt::Error)?;
+        Ok(())
+    }
+}
+
+// Whether the name of an error is `Memory`.
+fn is_memory(error: &impl Debug) -> bool {
+    let mut name = Awaited { left: "Memory" };
+    let is_begun = write!(name, "{error:?}").is_ok();
+    is_begun && name.left.is_empty()
 }
 
 // The fault of arguments that no value was read from.

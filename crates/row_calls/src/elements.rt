@@ -166,11 +166,13 @@ impl Call {
     /// Returns the next argument as packed texts.
     pub fn packed(&mut self) -> Option<PluralElementsPackedCow<'static>> {
         let elements = Elements::next_texts(self);
-        let packed = PluralElementsPackedCow::from_elements(self.alloc, &elements.texts()).ok();
-        if packed.is_none() {
-            self.not("texts that are packed");
+        match PluralElementsPackedCow::from_elements(self.alloc, &elements.texts()) {
+            Ok(packed) => Some(packed),
+            Err(error) => {
+                self.refused("texts that are packed", &error);
+                None
+            }
         }
-        packed
     }
 }
 

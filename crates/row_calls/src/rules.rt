@@ -26,11 +26,13 @@ impl Call {
     /// Returns the next argument as a compact decimal, which its text has to write.
     pub fn compact(&mut self) -> Option<CompactDecimal> {
         let text = self.text();
-        let number = CompactDecimal::from_str(self.alloc, text.as_str()).ok();
-        if number.is_none() {
-            self.not("a compact decimal");
+        match CompactDecimal::from_str(self.alloc, text.as_str()) {
+            Ok(number) => Some(number),
+            Err(error) => {
+                self.refused("a compact decimal", &error);
+                None
+            }
         }
-        number
     }
 
     /// Returns the next argument as the rules of a language.
@@ -41,11 +43,13 @@ impl Call {
     /// Returns the provider of the document in the next argument.
     pub fn provider(&mut self) -> Option<JsonProvider> {
         let document = self.value();
-        let provider = JsonProvider::from_value(self.alloc, &document).ok();
-        if provider.is_none() {
-            self.not("a document");
+        match JsonProvider::from_value(self.alloc, &document) {
+            Ok(provider) => Some(provider),
+            Err(error) => {
+                self.refused("a document", &error);
+                None
+            }
         }
-        provider
     }
 
     /// Returns the type of rules that the next argument names, or none for `null`.

@@ -1,5 +1,6 @@
 //! The rows of all files.
 
+use crate::allocations;
 use crate::call::Call;
 use crate::fault::RowFault;
 use crate::row::{Row, is_skipped};
@@ -67,7 +68,12 @@ fn compare_line<K: Kinds>(
     line: &str,
 ) -> io::Result<()> {
     tally.count_row();
-    match result_of_line::<K>(rt.alloc(), tally, line) {
+    let asked_again = tally.asked_again;
+    let result = result_of_line::<K>(rt.alloc(), tally, line);
+    if tally.asked_again != asked_again {
+        println!(rt; "{file}:{number}: asked again")?;
+    }
+    match result {
         Ok((row, found)) => {
             if found.as_str() != row.wanted {
                 tally.count_wrong();
@@ -83,20 +89,34 @@ fn compare_line<K: Kinds>(
     Ok(())
 }
 
-// The row of a line, and its result.
+// The row of a line, and its result. What wants memory is asked once more: after one allocation was
+// refused, its result is that of the row.
 fn result_of_line<'a, K: Kinds>(
     alloc: Global,
     tally: &mut Tally,
     line: &'a str,
 ) -> Result<(Row<'a>, String), RowFault> {
     let row = Row::read(line)?;
+    let mut result = result_of::<K>(alloc, row);
+    if matches!(&result, Err(RowFault::Memory)) {
+        tally.ask_again();
+        result = result_of::<K>(alloc, row);
+    }
+    let found = result?;
+    if tally.count(alloc, row.kind).is_err() {
+        tally.ask_again();
+        tally.count(alloc, row.kind)?;
+    }
+    Ok((row, found))
+}
+
+// The result of the call of a row.
+fn result_of<K: Kinds>(alloc: Global, row: Row<'_>) -> Result<String, RowFault> {
     let mut call = Call::read(alloc, row.arguments)?;
-    if !K::make(row.kind, &mut call) {
+    if !allocations::make(row.kind, &mut call) && !K::make(row.kind, &mut call) {
         return Err(RowFault::UnknownKind);
     }
-    let found = call.end()?;
-    tally.count(alloc, row.kind)?;
-    Ok((row, found))
+    call.end()
 }
 
 // Prints how many rows of each kind there were, and how many in all.

@@ -20,6 +20,8 @@ pub struct Tally {
     pub rows: u64,
     /// Rows with another result than the wanted one, and faults.
     pub wrong: u64,
+    /// How often memory was wanted, and asked for again.
+    pub asked_again: u64,
 }
 
 impl Tally {
@@ -29,6 +31,7 @@ impl Tally {
             kinds: Vec::new(alloc),
             rows: 0,
             wrong: 0,
+            asked_again: 0,
         }
     }
 
@@ -48,6 +51,11 @@ impl Tally {
     /// Counts a row, of whatever kind.
     pub fn count_row(&mut self) {
         self.rows = self.rows.saturating_add(1);
+    }
+
+    /// Counts a row that is asked again.
+    pub fn ask_again(&mut self) {
+        self.asked_again = self.asked_again.saturating_add(1);
     }
 
     /// Counts a row that is wrong, or another fault.

@@ -3,7 +3,7 @@
 
 use crate::tests::assertion::holds;
 use icu_plurals::PluralElements;
-use std::alloc::{AllocError, Global};
+use std::alloc::AllocError;
 use std::test::Fail;
 
 // The values that a closure was called with, and the call, from 1 on, that it refuses.
@@ -194,25 +194,6 @@ fn without_an_error_each_value_is_passed_once(rt: HostRuntime) {
     holds!(rt; seen.calls == 8);
 }
 
-// Eight values that own memory.
-fn lists(alloc: Global) -> Result<PluralElements<Vec<u32>>, AllocError> {
-    eight().try_map(|value| {
-        let mut list = Vec::new(alloc);
-        list.push(value)?;
-        Ok(list)
-    })
-}
-
-#[test]
-fn a_clone_equals_its_source(rt: HostRuntime) -> Result<(), Fail> {
-    let source = lists(rt.alloc())?;
-    let clone = source.try_clone()?;
-    holds!(rt; clone == source);
-    let few = PluralElements::new(1).with_few_value(Some(4));
-    holds!(rt; few.try_clone()? == few);
-    Ok(())
-}
-
 // A value that counts how often it was cloned.
 #[derive(Debug, Drop, PartialEq)]
 struct Copied {
@@ -234,18 +215,4 @@ fn each_value_is_cloned_once(rt: HostRuntime) -> Result<(), Fail> {
     holds!(rt; clone.other().times == 1);
     holds!(rt; clone.few().times == 6);
     Ok(())
-}
-
-// At most one growth is refused: out of memory is returned at most once, and the call made again
-// succeeds.
-#[test]
-fn growth_of_clones_of_elements_may_be_refused(rt: HostRuntime) {
-    let Ok(source) = lists(rt.alloc()).or_else(|_| lists(rt.alloc())) else {
-        holds!(rt; false, "no elements");
-        return;
-    };
-    match source.try_clone() {
-        Ok(clone) => holds!(rt; clone == source),
-        Err(_) => holds!(rt; source.try_clone().ok() == Some(source)),
-    }
 }

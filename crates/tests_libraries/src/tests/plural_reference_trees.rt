@@ -1,11 +1,11 @@
-//! Clones and values of trees.
+//! Clones and values of trees, and samples that are left out.
 
 use crate::tests::assertion::holds;
 use crate::tests::plural_reference_rules::{BENGALI_ONE, FRENCH_MANY, RUSSIAN_FEW};
 use plural_reference::ast::{
     AndCondition, RangeList, RangeListItem, Relation, SampleList, Sequence, Value,
 };
-use plural_reference::{ParseError, parse};
+use plural_reference::{ParseError, parse, parse_without_samples};
 use std::process::Abort;
 use std::test::Fail;
 
@@ -104,4 +104,15 @@ fn lists_of_a_tree_are_read_like_a_vec(rt: HostRuntime) -> Result<(), Fail> {
     holds!(rt; empty.is_empty() && empty.len() == 0);
     holds!(rt; Vec::from(empty).is_empty());
     Ok(())
+}
+
+#[test]
+fn samples_that_are_left_out_take_no_memory(rt: HostRuntime) {
+    for text in [
+        "@integer 0, 1~17, 1000000, … @decimal 0.0~1.5, 10.00000000000, …",
+        "@integer 1c6, 2c6, 1234567890e5, …",
+    ] {
+        let condition = parse_without_samples(rt.alloc(), text.as_bytes());
+        holds!(rt; condition.is_ok_and(|read| read.0.is_empty()), text);
+    }
 }

@@ -1,16 +1,16 @@
-//! What no contract and no row says of commands: failing readers and writers, refused growths.
+//! What no contract and no row says of commands: failing readers and writers.
 
 mod answers;
 mod arguments;
 mod documents;
-mod growth;
 mod inputs;
 mod languages;
 mod sizes;
 mod writers;
 
 use crate::tests::assertion::holds;
-use crate::tests::commands::answers::is_told;
+use crate::tests::commands::answers::{gives, is_told};
+use crate::tests::input::Input;
 use icu_plurals::{ElementsPackError, JsonError};
 use plural_commands::RunError;
 
@@ -23,4 +23,9 @@ fn faults_that_no_command_shows_have_their_texts(rt: HostRuntime) {
     holds!(rt; is_told(&RunError::Write, "1: cannot write output\n"));
     let pack = RunError::Document(JsonError::Pack(ElementsPackError::StartLimit));
     holds!(rt; is_told(&pack, "1: bad document: elements too long\n"));
+}
+
+#[test]
+fn no_words_take_no_memory(rt: HostRuntime) {
+    holds!(rt; gives(rt.alloc(), &[], &mut Input::failing(), USAGE) == Some(true));
 }

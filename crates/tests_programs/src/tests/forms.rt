@@ -1,7 +1,6 @@
-//! What no contract says of `form_commands`: readers and writers that fail, refused growths.
+//! What no contract says of `form_commands`: readers and writers that fail.
 
 mod asked;
-mod growth;
 mod inputs;
 mod lines;
 mod writers;

@@ -1,8 +1,7 @@
-//! What no contract and no row says of reports: failing readers and writers, refused growths.
+//! What no contract and no row says of reports: failing readers and writers.
 
 mod answers;
 mod chains;
-mod growth;
 mod inputs;
 mod sizes;
 mod words;

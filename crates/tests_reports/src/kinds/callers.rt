@@ -135,18 +135,21 @@ fn print_label(call: &mut Call, labels: &RangeLabels<'_>) {
 
 // The number that a text writes.
 fn number_of(call: &mut Call, text: &str) -> Option<CompactDecimal> {
-    let number = CompactDecimal::from_str(call.alloc, text).ok();
-    if number.is_none() {
-        call.not("a number");
+    match CompactDecimal::from_str(call.alloc, text) {
+        Ok(number) => Some(number),
+        Err(error) => {
+            call.refused("a number", &error);
+            None
+        }
     }
-    number
 }
 
 // Whether a document of messages has no fault.
 fn translation(call: &mut Call) {
     let (rules, messages) = (call.value(), call.value());
-    let Ok(provider) = JsonProvider::from_value(call.alloc, &rules) else {
-        return call.not("rules");
+    let provider = match JsonProvider::from_value(call.alloc, &rules) {
+        Ok(provider) => provider,
+        Err(error) => return call.refused("rules", &error),
     };
     let source = FallbackProvider {
         provider: &provider,

@@ -86,8 +86,9 @@ fn catalog_arguments(call: &mut Call) {
     let (text, texts) = (call.text(), call.texts());
     let words = words_of(call, texts.as_slice());
     let given = given_by(call, words.as_slice());
-    let Ok(pattern) = Pattern::parse(call.alloc, text.as_bytes()) else {
-        return call.not("a pattern");
+    let pattern = match Pattern::parse(call.alloc, text.as_bytes()) {
+        Ok(pattern) => pattern,
+        Err(error) => return call.refused("a pattern", &error),
     };
     let Ok(bytes) = pack(call.alloc, &pattern) else {
         return call.out_of_memory();

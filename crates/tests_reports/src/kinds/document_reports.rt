@@ -2,7 +2,7 @@
 
 use crate::kinds::message_reports::print_lines;
 use document_report::run::run;
-use document_report::{Counts, Finding, FindingPlace, Report, report_of};
+use document_report::{CheckError, Counts, Finding, FindingPlace, Report, report_of};
 use row_calls::call::Call;
 
 /// Makes the call of a kind of this file. Returns whether there is such a kind.
@@ -36,14 +36,16 @@ fn of_document(call: &mut Call, printed: Printed) {
 // fault.
 fn checked_document(call: &mut Call) {
     let text = call.text();
-    let mut report = Vec::new(call.alloc);
+    let mut report = call.writer();
     match run(call.alloc, false, &mut text.as_bytes(), &mut report) {
         Ok(verdict) => {
             print_lines(call, report.as_slice());
             call.print(" | status ");
             call.print_value(&verdict.status());
         }
+        Err(CheckError::Memory) if report.is_empty() => call.out_of_memory(),
         Err(fault) => {
+            print_lines(call, report.as_slice());
             call.print_value(&fault.status());
             call.print(": ");
             call.print_value(&fault);

@@ -1,7 +1,7 @@
 //! What the library for C exports: results that are written into a buffer, which is of the size of
 //! the last argument and full of sevens.
 
-use crate::kinds::exports::{given_of, next_given};
+use crate::kinds::exports::{given_of, next_given, print_told};
 use plural_exports::GivenArgument;
 use row_calls::call::Call;
 use serde_json::Value;
@@ -56,7 +56,11 @@ fn next_texts(call: &mut Call) -> Vec<Vec<u8>> {
 
 // Prints a result, and returns what was written: all bytes at the front of the buffer, or none.
 fn written<'a>(call: &mut Call, told: i64, room: &'a [u8]) -> &'a [u8] {
-    call.print_value(&told);
+    if is_untouched(room) {
+        print_told(call, told);
+    } else {
+        call.print_value(&told);
+    }
     match usize::try_from(told) {
         Ok(length) if length <= room.len() => {
             look_behind(call, &room[length..]);
@@ -71,9 +75,14 @@ fn written<'a>(call: &mut Call, told: i64, room: &'a [u8]) -> &'a [u8] {
 
 // Says so if the rest of the buffer isn't as it was.
 fn look_behind(call: &mut Call, rest: &[u8]) {
-    if !rest.iter().all(|byte| *byte == 7) {
+    if !is_untouched(rest) {
         call.print(", written behind");
     }
+}
+
+// Whether the rest of a buffer is as it was.
+fn is_untouched(rest: &[u8]) -> bool {
+    rest.iter().all(|byte| *byte == 7)
 }
 
 // Prints a result, and the bytes that were written.
@@ -217,7 +226,9 @@ fn pattern(call: &mut Call) {
         let again = plural_exports::packed_format(
             call.alloc, &cardinal, &ordinal, &block, &arguments, &mut other,
         );
-        if again != told || other != room {
+        if again == -1 {
+            call.out_of_memory();
+        } else if again != told || other != room {
             call.print(", packed otherwise");
         }
     }
@@ -227,7 +238,9 @@ fn pattern(call: &mut Call) {
 fn block_of(call: &mut Call, pattern: &[u8]) -> Option<Vec<u8>> {
     let length = plural_exports::pattern_pack(call.alloc, pattern, &mut []);
     let mut block = room_of(call, usize::try_from(length).ok()?);
-    plural_exports::pattern_pack(call.alloc, pattern, &mut block);
+    if plural_exports::pattern_pack(call.alloc, pattern, &mut block) != length {
+        call.out_of_memory();
+    }
     Some(block)
 }
 

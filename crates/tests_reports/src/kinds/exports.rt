@@ -36,6 +36,15 @@ pub fn given_of(call: &mut Call, value: &Value) -> Vec<u8> {
     copied(call, text.as_str())
 }
 
+/// Prints the result of an export, or keeps the fault that memory ran out, which is -1.
+pub fn print_told(call: &mut Call, told: i64) {
+    if told == -1 {
+        call.out_of_memory();
+    } else {
+        call.print_value(&told);
+    }
+}
+
 // The bytes of a text.
 fn copied(call: &mut Call, text: &str) -> Vec<u8> {
     match Vec::from_slice(call.alloc, text.as_bytes()) {
@@ -89,11 +98,14 @@ fn operands(call: &mut Call) {
 fn number(call: &mut Call) {
     let rules = call.bytes();
     let number = next_given(call);
-    call.print_value(&plural_exports::category(call.alloc, &rules, &number));
+    let category = plural_exports::category(call.alloc, &rules, &number);
+    print_told(call, i64::from(category));
     call.print(" ");
-    call.print_value(&plural_exports::is_exact(call.alloc, &rules, &number));
+    let is_exact = plural_exports::is_exact(call.alloc, &rules, &number);
+    print_told(call, i64::from(is_exact));
     call.print(" ");
-    call.print_value(&plural_exports::sure_category(call.alloc, &rules, &number));
+    let sure = plural_exports::sure_category(call.alloc, &rules, &number);
+    print_told(call, i64::from(sure));
 }
 
 // What a table tells of each integer.
@@ -119,7 +131,8 @@ fn text_by_table(call: &mut Call) {
 // Whether a text is a rule as a whole.
 fn whole(call: &mut Call) {
     let text = next_given(call);
-    call.print_value(&plural_exports::is_read_whole(call.alloc, &text));
+    let is_whole = plural_exports::is_read_whole(call.alloc, &text);
+    print_told(call, i64::from(is_whole));
 }
 
 // Whether bytes are the block of a pattern.

@@ -66,7 +66,7 @@ fn print_question(call: &mut Call, question: Option<Question<'_>>) {
 // The forms of a locale, for cardinal numbers, by a text of rules.
 fn forms_list(call: &mut Call) {
     let (rules, locale) = (call.text(), call.text());
-    let mut text = Vec::new(call.alloc);
+    let mut text = call.writer();
     let answer = list_forms(
         call.alloc,
         Part::Cardinal,
@@ -80,15 +80,17 @@ fn forms_list(call: &mut Call) {
 // Why a locale has no forms: the text, whether the rules are at fault, and the status.
 fn forms_refusal(call: &mut Call) {
     let (rules, locale) = (call.text(), call.text());
+    let mut text = call.writer();
     let answer = list_forms(
         call.alloc,
         Part::Cardinal,
         locale.as_str(),
         &mut rules.as_bytes(),
-        &mut Vec::new(call.alloc),
+        &mut text,
     );
     match answer {
         Ok(_) => call.print("none"),
+        Err(FormsError::Memory) if text.is_empty() => call.out_of_memory(),
         Err(error) => {
             call.print_value(&error);
             call.print(", ");
@@ -102,7 +104,7 @@ fn forms_refusal(call: &mut Call) {
 // The category of a number.
 fn forms_number(call: &mut Call) {
     let (rules, locale, number) = (call.text(), call.text(), call.text());
-    let (mut text, mut notes) = (Vec::new(call.alloc), Vec::new(call.alloc));
+    let (mut text, mut notes) = (call.writer(), call.writer());
     let numbers = [number.as_str()];
     let answer = answer_numbers(
         call.alloc,
@@ -130,7 +132,7 @@ fn forms_bytes(call: &mut Call) {
 
 // Prints the categories of lines by the rules of a locale.
 fn print_lines_by(call: &mut Call, rules: &str, locale: &str, lines: &[u8]) {
-    let (mut text, mut notes) = (Vec::new(call.alloc), Vec::new(call.alloc));
+    let (mut text, mut notes) = (call.writer(), call.writer());
     let mut rest = lines;
     let answer = answer_lines(
         call.alloc,
@@ -147,7 +149,7 @@ fn print_lines_by(call: &mut Call, rules: &str, locale: &str, lines: &[u8]) {
 // The line for gettext.
 fn forms_gettext(call: &mut Call) {
     let (rules, locale) = (call.text(), call.text());
-    let (mut text, mut notes) = (Vec::new(call.alloc), Vec::new(call.alloc));
+    let (mut text, mut notes) = (call.writer(), call.writer());
     let answer = write_gettext(
         call.alloc,
         Part::Cardinal,
@@ -182,7 +184,7 @@ fn forms_check(call: &mut Call, format: Format) {
             document: &second,
         },
     ];
-    let (mut text, mut notes) = (Vec::new(call.alloc), Vec::new(call.alloc));
+    let (mut text, mut notes) = (call.writer(), call.writer());
     let mut input = rules.as_bytes();
     let answer = match format {
         Format::Text => check_files(call.alloc, &files, &mut input, &mut text, &mut notes),
@@ -212,7 +214,7 @@ fn forms_translations(call: &mut Call) {
     let ignored = [ignored.as_str()];
     let is_strict = strict.as_str() == "strict";
     let checking = checking_of(format, locale.as_str(), &ignored, is_strict);
-    let (mut text, mut notes) = (Vec::new(call.alloc), Vec::new(call.alloc));
+    let (mut text, mut notes) = (call.writer(), call.writer());
     let mut input = rules.as_bytes();
     let answer = check_translations(
         call.alloc, &files, checking, &mut input, &mut text, &mut notes,
@@ -277,6 +279,7 @@ fn print_answer(call: &mut Call, text: &[u8], answer: Result<Verdict, FormsError
                 call.print_value(&verdict.strict().status());
             }
         }
+        Err(FormsError::Memory) if text.is_empty() => call.out_of_memory(),
         Err(error) => {
             call.print_value(&error);
             call.separate(", ");

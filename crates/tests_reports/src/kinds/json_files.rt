@@ -81,8 +81,9 @@ fn print_asked(
     locale: Option<&str>,
     bytes: &[u8],
 ) {
-    let Ok(provider) = JsonProvider::from_value(call.alloc, rules) else {
-        return call.not("rules");
+    let provider = match JsonProvider::from_value(call.alloc, rules) {
+        Ok(provider) => provider,
+        Err(error) => return call.refused("rules", &error),
     };
     let source = FallbackProvider {
         provider: &provider,

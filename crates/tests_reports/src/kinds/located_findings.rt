@@ -65,9 +65,12 @@ fn next_text(call: &mut Call, format: Format) -> String {
     let messages = call.value();
     let list = call.value();
     let totals = next_totals(call);
-    let Ok(provider) = JsonProvider::from_value(call.alloc, &rules) else {
-        call.not("rules");
-        return call.empty();
+    let provider = match JsonProvider::from_value(call.alloc, &rules) {
+        Ok(provider) => provider,
+        Err(error) => {
+            call.refused("rules", &error);
+            return call.empty();
+        }
     };
     let source = FallbackProvider {
         provider: &provider,

@@ -28,8 +28,9 @@ enum Printed {
 fn of_messages(call: &mut Call, printed: Printed) {
     let rules = call.value();
     let messages = call.value();
-    let Ok(provider) = JsonProvider::from_value(call.alloc, &rules) else {
-        return call.not("rules");
+    let provider = match JsonProvider::from_value(call.alloc, &rules) {
+        Ok(provider) => provider,
+        Err(error) => return call.refused("rules", &error),
     };
     let source = FallbackProvider {
         provider: &provider,
@@ -41,7 +42,7 @@ fn of_messages(call: &mut Call, printed: Printed) {
     };
     match printed {
         Printed::Report => {
-            let mut report = Vec::new(call.alloc);
+            let mut report = call.writer();
             match run(call.alloc, &source, &[file], &mut report) {
                 Ok(_) => print_lines(call, report.as_slice()),
                 Err(error) => call.print_error(&error),

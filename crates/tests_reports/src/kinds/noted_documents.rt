@@ -4,6 +4,7 @@ use crate::kinds::message_reports::print_lines;
 use crate::kinds::sarif_members::print_log;
 use document_formats::NotedFormat;
 use document_notes::run::write_noted;
+use document_report::CheckError;
 use finding_formats::Format;
 use row_calls::call::Call;
 use serde_json::Value;
@@ -56,7 +57,7 @@ fn next_report(call: &mut Call, format: Format, is_strict: bool) -> Option<(Vec<
         format,
         is_strict,
     };
-    let mut written = Vec::new(call.alloc);
+    let mut written = call.writer();
     match write_noted(
         call.alloc,
         &printer,
@@ -65,6 +66,10 @@ fn next_report(call: &mut Call, format: Format, is_strict: bool) -> Option<(Vec<
         &mut written,
     ) {
         Ok(verdict) => Some((written, verdict.status())),
+        Err(CheckError::Memory) if written.is_empty() => {
+            call.out_of_memory();
+            None
+        }
         Err(error) => {
             call.print_value(&error);
             None

@@ -76,7 +76,7 @@ fn outlines(call: &mut Call) {
     let mut scratch = Scratch::new(call.alloc);
     match JsonTokens::read(call.alloc, text.as_bytes(), &mut scratch) {
         Ok(tokens) => print_outlines(call, &tokens, keys.as_slice()),
-        Err(_) => call.not("JSON"),
+        Err(error) => call.refused("JSON", &error),
     }
 }
 
@@ -116,6 +116,6 @@ fn held_outlines(call: &mut Call) {
     let mut scratch = Scratch::new(call.alloc);
     match JsonTokens::read_members(call.alloc, &names, text.as_bytes(), &mut scratch) {
         Ok(held) => print_outlines(call, &held, keys.as_slice()),
-        Err(_) => call.not("JSON"),
+        Err(error) => call.refused("JSON", &error),
     }
 }

@@ -1,5 +1,6 @@
 //! What the program `plurals` prints.
 
+use plural_commands::RunError;
 use plural_commands::run::run;
 use row_calls::call::Call;
 use std::io;
@@ -75,9 +76,13 @@ fn print_answer<R: Read>(call: &mut Call, command: &str, reader: &mut R) {
 // fault, which is empty if there is none.
 fn answer<R: Read>(call: &mut Call, command: &str, reader: &mut R) -> (Vec<u8>, String) {
     let words = words_of(call, command);
-    let mut written = Vec::new(call.alloc);
+    let mut written = call.writer();
     let fault = match run(call.alloc, words.as_slice(), reader, &mut written) {
         Ok(()) => call.empty(),
+        Err(RunError::Memory) if written.is_empty() => {
+            call.out_of_memory();
+            call.empty()
+        }
         Err(fault) => {
             let status = fault.status();
             let text = format!(in call.alloc; "{status}: {fault}");

@@ -42,9 +42,12 @@ fn po_of(
     locale: &str,
     bytes: &[u8],
 ) -> Option<FileMessages> {
-    let Ok(provider) = JsonProvider::from_value(call.alloc, rules) else {
-        call.not("rules");
-        return None;
+    let provider = match JsonProvider::from_value(call.alloc, rules) {
+        Ok(provider) => provider,
+        Err(error) => {
+            call.refused("rules", &error);
+            return None;
+        }
     };
     let source = FallbackProvider {
         provider: &provider,
@@ -164,8 +167,9 @@ fn po_findings(call: &mut Call) {
     ) else {
         return;
     };
-    let Ok(provider) = JsonProvider::from_value(call.alloc, &rules) else {
-        return call.not("rules");
+    let provider = match JsonProvider::from_value(call.alloc, &rules) {
+        Ok(provider) => provider,
+        Err(error) => return call.refused("rules", &error),
     };
     let source = FallbackProvider {
         provider: &provider,

@@ -19,7 +19,9 @@ fn asked_categories(call: &mut Call) {
     let mut rules = AskedRules::of(PluralRules::from_data(call.rules()));
     let count = call.number();
     rules.prepare(count);
-    if rules.put_in_order(call.alloc, count).is_err() {
+    // Where memory is wanted, the same rules are asked once more.
+    let is_refused = rules.put_in_order(call.alloc, count).is_err();
+    if is_refused && rules.put_in_order(call.alloc, count).is_err() {
         call.out_of_memory();
     }
     call.print(if rules.tables().is_some() {
@@ -43,8 +45,8 @@ fn category_of(call: &mut Call, rules: &AskedRules<'_>, value: &Value) -> Plural
     let text = call.text_of(value);
     match rules.category_for_text(call.alloc, text.as_str()) {
         Ok(category) => category,
-        Err(_) => {
-            call.not("a number");
+        Err(error) => {
+            call.refused("a number", &error);
             PluralCategory::Other
         }
     }

@@ -36,11 +36,13 @@ pub fn print_condition(call: &mut Call, condition: &Condition) {
 /// Returns the next argument as a condition, which its text has to be.
 pub fn next_condition(call: &mut Call) -> Option<Condition> {
     let text = call.text();
-    let condition = parse_condition(call.alloc, text.as_bytes()).ok();
-    if condition.is_none() {
-        call.not("a condition");
+    match parse_condition(call.alloc, text.as_bytes()) {
+        Ok(condition) => Some(condition),
+        Err(error) => {
+            call.refused("a condition", &error);
+            None
+        }
     }
-    condition
 }
 
 // The condition of a text, as it is printed.

@@ -65,21 +65,25 @@ fn makes_other(kind: &str, call: &mut Call) -> bool {
 /// Returns the next argument as an unsigned decimal, which its text has to write.
 pub fn next_unsigned(call: &mut Call) -> Option<UnsignedDecimal> {
     let text = call.text();
-    let number = UnsignedDecimal::from_str(call.alloc, text.as_str()).ok();
-    if number.is_none() {
-        call.not("an unsigned decimal");
+    match UnsignedDecimal::from_str(call.alloc, text.as_str()) {
+        Ok(number) => Some(number),
+        Err(error) => {
+            call.refused("an unsigned decimal", &error);
+            None
+        }
     }
-    number
 }
 
 /// Returns the next argument as a decimal, which its text has to write.
 pub fn next_decimal(call: &mut Call) -> Option<Decimal> {
     let text = call.text();
-    let number = Decimal::from_str(call.alloc, text.as_str()).ok();
-    if number.is_none() {
-        call.not("a decimal");
+    match Decimal::from_str(call.alloc, text.as_str()) {
+        Ok(number) => Some(number),
+        Err(error) => {
+            call.refused("a decimal", &error);
+            None
+        }
     }
-    number
 }
 
 // Prints the places of a number and its digits, the highest first: `-2..1 1230`.

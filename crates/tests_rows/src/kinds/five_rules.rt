@@ -3,6 +3,7 @@
 use crate::kinds::categories::category_by;
 use plural_base::{PluralRulesData, RulesTextError};
 use plural_reference::PluralOperands;
+use plural_runtime::RuleError;
 use row_calls::call::Call;
 use row_calls::rules::name_of;
 use std::fmt::Write;
@@ -27,6 +28,9 @@ fn read(call: &mut Call) -> Result<PluralRulesData<'static>, RulesTextError> {
 // Prints the category and the fault of a text that gives no rule.
 fn print_refusal(call: &mut Call, refusal: &RulesTextError) {
     let RulesTextError { category, error } = refusal;
+    if *error == RuleError::Memory {
+        return call.out_of_memory();
+    }
     let name = name_of(*category);
     let _ = write!(call, "error rule {name}: {error:?}");
 }
@@ -69,12 +73,13 @@ fn cloned<'a>(call: &mut Call, rules: &PluralRulesData<'a>) -> PluralRulesData<'
 
 // The rules that are read from these rules as JSON.
 fn read_again(call: &mut Call, rules: &PluralRulesData<'_>) -> PluralRulesData<'static> {
-    if let Ok(value) = rules.to_json(call.alloc) {
-        if let Ok(again) = PluralRulesData::from_json(call.alloc, &value) {
-            return again;
-        }
+    match rules.to_json(call.alloc) {
+        Ok(value) => match PluralRulesData::from_json(call.alloc, &value) {
+            Ok(again) => return again,
+            Err(error) => call.refused("rules that are read again", &error),
+        },
+        Err(error) => call.refused("rules as JSON", &error),
     }
-    call.not("rules that are read again");
     PluralRulesData::default()
 }
 

@@ -83,22 +83,31 @@ fn print_repacked(call: &mut Call, rule: &Rule<'_>) {
         return call.print("samples");
     }
     match Rule::try_from(call.alloc, &tree) {
-        Ok(again) if has_equal_copies(&again, rule) => call.print_bytes(again.as_bytes()),
-        Ok(_) => call.print("another clone"),
-        Err(_) => call.print("the tree doesn't pack"),
+        Ok(again) => {
+            if has_equal_copies(call, &again, rule) {
+                call.print_bytes(again.as_bytes());
+            } else {
+                call.print("another clone");
+            }
+        }
+        Err(error) => call.print_error(&error),
     }
 }
 
 // Whether both rules are equal, to their clones too, and the second one to itself, borrowed.
-fn has_equal_copies(again: &Rule<'_>, rule: &Rule<'_>) -> bool {
-    *again == *rule && has_clone(again) && has_clone(rule) && rule.as_borrowed() == *rule
+fn has_equal_copies(call: &mut Call, again: &Rule<'_>, rule: &Rule<'_>) -> bool {
+    let have_clones = has_clone(call, again) && has_clone(call, rule);
+    have_clones && *again == *rule && rule.as_borrowed() == *rule
 }
 
 // Whether the clone of a rule is equal to it.
-fn has_clone(rule: &Rule<'_>) -> bool {
+fn has_clone(call: &mut Call, rule: &Rule<'_>) -> bool {
     match rule.try_clone() {
         Ok(clone) => clone == *rule,
-        Err(_) => false,
+        Err(_) => {
+            call.out_of_memory();
+            false
+        }
     }
 }
 
@@ -154,11 +163,13 @@ fn one_and_a_half() -> PluralOperands {
 // Whether the tree of a text's rule has the condition that the text is read as, and a clone of it.
 fn condition_comes_back(call: &mut Call) {
     let text = call.text();
-    let Ok(rule) = Rule::from_str(call.alloc, text.as_str()) else {
-        return call.print("no rule");
+    let rule = match Rule::from_str(call.alloc, text.as_str()) {
+        Ok(rule) => rule,
+        Err(error) => return call.print_error(&error),
     };
-    let Ok(condition) = parse_condition(call.alloc, text.as_bytes()) else {
-        return call.print("no condition");
+    let condition = match parse_condition(call.alloc, text.as_bytes()) {
+        Ok(condition) => condition,
+        Err(error) => return call.print_error(&error),
     };
     let Ok(tree) = rule.to_ast(call.alloc) else {
         return call.out_of_memory();

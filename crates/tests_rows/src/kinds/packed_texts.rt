@@ -6,6 +6,7 @@ use icu_plurals::provider::PluralElementsPackedCow;
 use row_calls::call::Call;
 use row_calls::elements::Elements;
 use serde_json::Value;
+use std::fmt::Debug;
 
 /// Makes the call of a kind of this file. Returns whether there is such a kind.
 pub fn make(kind: &str, call: &mut Call) -> bool {
@@ -42,16 +43,30 @@ impl Source {
 
     /// Returns the packed elements: of texts they are owned, of bytes they are borrowed.
     pub fn packed(&self, call: &mut Call) -> Option<PluralElementsPackedCow<'_>> {
-        let packed = match self {
-            Source::Bytes(bytes) => PluralElementsPackedCow::from_bytes(bytes.as_slice()).ok(),
-            Source::Texts(elements) => {
-                PluralElementsPackedCow::from_elements(call.alloc, &elements.texts()).ok()
+        match self {
+            Source::Bytes(bytes) => {
+                let packed = PluralElementsPackedCow::from_bytes(bytes.as_slice());
+                packed_or_refused(call, packed)
             }
-        };
-        if packed.is_none() {
-            call.not("packed elements");
+            Source::Texts(elements) => {
+                let packed = PluralElementsPackedCow::from_elements(call.alloc, &elements.texts());
+                packed_or_refused(call, packed)
+            }
         }
-        packed
+    }
+}
+
+// The packed elements, or none, if they are refused.
+fn packed_or_refused<'a, E: Debug + Drop>(
+    call: &mut Call,
+    packed: Result<PluralElementsPackedCow<'a>, E>,
+) -> Option<PluralElementsPackedCow<'a>> {
+    match packed {
+        Ok(packed) => Some(packed),
+        Err(error) => {
+            call.refused("packed elements", &error);
+            None
+        }
     }
 }
 

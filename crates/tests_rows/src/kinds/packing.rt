@@ -17,6 +17,7 @@ pub fn make(kind: &str, call: &mut Call) -> bool {
         "present_texts" => present_texts(call),
         "only_text" => only_text(call),
         "are_equal_texts" => are_equal_texts(call),
+        "cloned_texts" => cloned_texts(call),
         _ => return false,
     }
     true
@@ -151,4 +152,20 @@ fn are_equal_texts(call: &mut Call) {
     let elements = Elements::next_texts(call);
     let others = Elements::next_texts(call);
     call.print_truth(elements.texts() == others.texts());
+}
+
+// Whether the clone of elements that own their texts is equal to them.
+fn cloned_texts(call: &mut Call) {
+    let elements = Elements::next_texts(call);
+    let alloc = call.alloc;
+    let Ok(owned) = elements
+        .texts()
+        .try_map(|text| String::from_str(alloc, text))
+    else {
+        return call.out_of_memory();
+    };
+    match owned.try_clone() {
+        Ok(clone) => call.print_truth(clone == owned),
+        Err(_) => call.out_of_memory(),
+    }
 }

@@ -89,7 +89,7 @@ fn print_said(
 
 // Whether a block says this outcome, also under prepared rules.
 fn is_said_packed(
-    call: &Call,
+    call: &mut Call,
     bytes: &[u8],
     arguments: &[Argument<'_>],
     rules: &Rules<'_, '_>,
@@ -100,29 +100,31 @@ fn is_said_packed(
     };
     let cardinal = PreparedRules::from_rules(rules.cardinal.as_borrowed());
     let ordinal = PreparedRules::from_rules(rules.ordinal.as_borrowed());
-    are_same(said, &format_packed(call.alloc, &pattern, arguments, rules))
-        && are_same(
-            said,
-            &format_prepared(call.alloc, &pattern, arguments, &cardinal, &ordinal),
-        )
+    let packed = format_packed(call.alloc, &pattern, arguments, rules);
+    let prepared = format_prepared(call.alloc, &pattern, arguments, &cardinal, &ordinal);
+    are_same(call, said, &packed)
+        && are_same(call, said, &prepared)
         && is_said_by_place(call, &pattern, arguments, &cardinal, &ordinal)
 }
 
 // Whether a block says with values by place what it says with the arguments of these names.
 fn is_said_by_place(
-    call: &Call,
+    call: &mut Call,
     pattern: &PackedPattern<'_>,
     arguments: &[Argument<'_>],
     cardinal: &PreparedRules<'_>,
     ordinal: &PreparedRules<'_>,
 ) -> bool {
     let Ok(names) = argument_names(call.alloc, pattern) else {
+        call.out_of_memory();
         return false;
     };
     let Ok(given) = arguments_named(call.alloc, &names, arguments) else {
+        call.out_of_memory();
         return false;
     };
     let Ok(values) = values_of(call.alloc, &given) else {
+        call.out_of_memory();
         return false;
     };
     are_said_alike(call, pattern, &names, &given, &values, cardinal, ordinal)
@@ -166,7 +168,7 @@ fn values_of<'a>(alloc: Global, arguments: &[Argument<'a>]) -> Result<Vec<Value<
 
 // Whether a block says with values at the places of names what it says with arguments.
 fn are_said_alike<'v>(
-    call: &Call,
+    call: &mut Call,
     pattern: &PackedPattern<'_>,
     names: &'v [&'v [u8]],
     given: &[Argument<'_>],
@@ -175,14 +177,14 @@ fn are_said_alike<'v>(
     ordinal: &PreparedRules<'_>,
 ) -> bool {
     let placed = PlacedValues { names, values };
-    are_same(
-        &format_prepared(call.alloc, pattern, given, cardinal, ordinal),
-        &format_by_place(call.alloc, pattern, placed, cardinal, ordinal),
-    )
+    let prepared = format_prepared(call.alloc, pattern, given, cardinal, ordinal);
+    let by_place = format_by_place(call.alloc, pattern, placed, cardinal, ordinal);
+    are_same(call, &prepared, &by_place)
 }
 
-// Whether two outcomes are the same.
+// Whether two outcomes are the same, neither of which is want of memory.
 fn are_same(
+    call: &mut Call,
     said: &Result<Vec<u8>, FormatError<'_>>,
     other: &Result<Vec<u8>, FormatError<'_>>,
 ) -> bool {
@@ -191,7 +193,10 @@ fn are_same(
         (Err(FormatError::Argument(a, name)), Err(FormatError::Argument(b, other))) => {
             a == b && name == other
         }
-        (Err(FormatError::Memory), Err(FormatError::Memory)) => true,
+        (Err(FormatError::Memory), _) | (_, Err(FormatError::Memory)) => {
+            call.out_of_memory();
+            false
+        }
         _ => false,
     }
 }

@@ -45,7 +45,7 @@ fn range_key(call: &mut Call) {
             let _ = write!(call, "{} {text}", range.0);
         }
         Ok(_) => call.print("another range is read"),
-        Err(_) => call.print("no text"),
+        Err(error) => call.print_error(&error),
     }
 }
 

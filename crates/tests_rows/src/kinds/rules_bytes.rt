@@ -6,7 +6,6 @@ use plural_base::PluralRulesData;
 use plural_reference::PluralOperands;
 use row_calls::call::Call;
 use row_calls::rules::name_of;
-use std::alloc::Global;
 
 /// Makes the call of a kind of this file. Returns whether there is such a kind.
 pub fn make(kind: &str, call: &mut Call) -> bool {
@@ -37,8 +36,12 @@ fn next_packed(call: &mut Call) -> Option<Vec<u8>> {
 // The bytes of rules, from which the rules are read again. If there are none, prints the reason.
 fn packed(call: &mut Call, rules: &PluralRulesData<'_>) -> Option<Vec<u8>> {
     match rules.to_bytes(call.alloc) {
-        Ok(bytes) if comes_back(call.alloc, rules, &bytes) => return Some(bytes),
-        Ok(_) => call.print("other rules are read"),
+        Ok(bytes) => {
+            if comes_back(call, rules, &bytes) {
+                return Some(bytes);
+            }
+            call.print("other rules are read");
+        }
         Err(error) => call.print_error(&error),
     }
     None
@@ -52,18 +55,21 @@ fn rules_bytes_size(call: &mut Call) {
 }
 
 // Whether these rules are read from these bytes, and have these bytes again.
-fn comes_back(alloc: Global, rules: &PluralRulesData<'_>, bytes: &[u8]) -> bool {
+fn comes_back(call: &mut Call, rules: &PluralRulesData<'_>, bytes: &[u8]) -> bool {
     match PluralRulesData::from_bytes(bytes) {
-        Ok(read) => read == *rules && has_bytes(alloc, &read, bytes),
+        Ok(read) => read == *rules && has_bytes(call, &read, bytes),
         Err(_) => false,
     }
 }
 
 // Whether the rules have these bytes.
-fn has_bytes(alloc: Global, rules: &PluralRulesData<'_>, bytes: &[u8]) -> bool {
-    match rules.to_bytes(alloc) {
+fn has_bytes(call: &mut Call, rules: &PluralRulesData<'_>, bytes: &[u8]) -> bool {
+    match rules.to_bytes(call.alloc) {
         Ok(again) => again.as_slice() == bytes,
-        Err(_) => false,
+        Err(error) => {
+            call.refused("rules with bytes", &error);
+            false
+        }
     }
 }
 
@@ -76,8 +82,13 @@ fn rules_of_bytes(call: &mut Call) {
 // Prints the rules that bytes hold as JSON, which have these bytes again.
 fn print_rules_of(call: &mut Call, bytes: &[u8]) {
     match PluralRulesData::from_bytes(bytes) {
-        Ok(rules) if has_bytes(call.alloc, &rules, bytes) => call.print_rules(&rules),
-        Ok(_) => call.print("rules with other bytes"),
+        Ok(rules) => {
+            if has_bytes(call, &rules, bytes) {
+                call.print_rules(&rules);
+            } else {
+                call.print("rules with other bytes");
+            }
+        }
         Err(error) => call.print_error(&error),
     }
 }
@@ -112,8 +123,14 @@ fn rules_beginnings(call: &mut Call) {
 // Prints what a beginning is: rules that have these bytes again, or a fault.
 fn print_beginning(call: &mut Call, bytes: &[u8]) {
     match PluralRulesData::from_bytes(bytes) {
-        Ok(rules) if has_bytes(call.alloc, &rules, bytes) => call.print("rules"),
-        Ok(_) => call.print("rules with other bytes"),
+        Ok(rules) => {
+            let have_bytes = has_bytes(call, &rules, bytes);
+            call.print(if have_bytes {
+                "rules"
+            } else {
+                "rules with other bytes"
+            });
+        }
         Err(error) => call.print_error(&error),
     }
 }

@@ -66,10 +66,11 @@ fn print_taken(call: &mut Call, error: Option<JsonError>) {
 
 /// Returns the value that a text writes.
 pub fn value_of_text(call: &mut Call, text: &str) -> Value {
-    if let Ok(value) = Value::from_str(call.alloc, text) {
-        return value;
+    match Value::from_str(call.alloc, text) {
+        Ok(value) => return value,
+        Err(fault) if fault.is_memory() => call.out_of_memory(),
+        Err(_) => call.not("JSON"),
     }
-    call.not("JSON");
     Value::Null
 }
 
@@ -114,7 +115,7 @@ fn numbered_locales(call: &mut Call) {
 fn print_numbered(call: &mut Call, provider: &JsonProvider, count: u64, rules: &Value) {
     match PluralRulesData::from_json(call.alloc, rules) {
         Ok(wanted) => print_locales(call, provider, count, &wanted),
-        Err(_) => call.not("five rules"),
+        Err(error) => call.refused("five rules", &error),
     }
 }
 

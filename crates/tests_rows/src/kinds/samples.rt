@@ -13,6 +13,7 @@ pub fn make(kind: &str, call: &mut Call) -> bool {
     match kind {
         "rule" => rule(call),
         "rule_read_again" => rule_read_again(call),
+        "cloned_rule" => cloned_rule(call),
         "rule_without_samples" => rule_without_samples(call),
         "rule_has_condition" => rule_has_condition(call),
         "is_read_whole" => whole(call),
@@ -47,11 +48,13 @@ fn rule(call: &mut Call) {
 
 // The rule of a text, which has to be one.
 fn rule_of(call: &mut Call, text: &str) -> Option<Rule> {
-    let rule = parse(call.alloc, text.as_bytes()).ok();
-    if rule.is_none() {
-        call.not("a rule");
+    match parse(call.alloc, text.as_bytes()) {
+        Ok(rule) => Some(rule),
+        Err(error) => {
+            call.refused("a rule", &error);
+            None
+        }
     }
-    rule
 }
 
 // The next argument as a rule, which its text has to be.
@@ -69,6 +72,17 @@ fn rule_read_again(call: &mut Call) {
     match parse(call.alloc, text.as_bytes()) {
         Ok(again) => call.print_truth(again == rule),
         Err(error) => print_read_error(call, error),
+    }
+}
+
+// Whether the clone of a rule is equal to it.
+fn cloned_rule(call: &mut Call) {
+    let Some(rule) = next_rule(call) else {
+        return;
+    };
+    match rule.try_clone() {
+        Ok(clone) => call.print_truth(clone == rule),
+        Err(_) => call.out_of_memory(),
     }
 }
 
@@ -90,7 +104,7 @@ fn rule_has_condition(call: &mut Call) {
     };
     match parse_without_samples(call.alloc, text.as_bytes()) {
         Ok(alone) => call.print_truth(rule.condition == condition && alone == condition),
-        Err(_) => call.print("error"),
+        Err(error) => print_read_error(call, error),
     }
 }
 

@@ -26,24 +26,3 @@ pub(crate) fn gives<R: Read>(
         Err(fault) => Some(awaits_fault(writer, fault.status(), &fault)),
     }
 }
-
-// `gives` for a command and the words after it, which are separated by bars.
-pub(crate) fn row_gives<'w, R: Read>(
-    alloc: Global,
-    command: &'w str,
-    row: &'w str,
-    reader: &mut R,
-    answer: &str,
-) -> Option<bool> {
-    let mut left = row.split('|');
-    let words = [
-        command,
-        left.next().unwrap_or(""),
-        left.next().unwrap_or(""),
-        left.next().unwrap_or(""),
-        left.next().unwrap_or(""),
-        left.next().unwrap_or(""),
-    ];
-    let count = row.split('|').count().saturating_add(1);
-    gives(alloc, words.get(..count)?, reader, answer)
-}

@@ -12,30 +12,6 @@ use std::io::{Read, Write};
 // The rules that are asked, and the lines of numbers.
 pub(crate) const RULES: &[u8] = br#"{"cardinal":{"en":{"one":"i = 1 and v = 0"}}}"#;
 
-// The same rules beside a number and an array.
-pub(crate) const BESIDE_A_NUMBER: &[u8] =
-    br#"{"x":[1,-2.5],"cardinal":{"en":{"one":"i = 1 and v = 0"}},"y":1}"#;
-
-// The same rules under a key of another language, for which the chain leaves its own.
-pub(crate) const OF_ANOTHER_LANGUAGE: &[u8] =
-    br#"{"parents":{"en":"fr"},"cardinal":{"fr":{"one":"i = 1 and v = 0"}}}"#;
-
-// The same, after a chain of more than sixteen locales.
-pub(crate) const OF_A_LONG_CHAIN: &[u8] = br#"{"parents":{"en":"a-b-c-d-e-f-g-h-i-j-k-l-m-n-o-p-q",
-"a":"fr"},"cardinal":{"fr":{"one":"i = 1 and v = 0"}}}"#;
-
-// The same under `root`, where the language has ordinal rules alone.
-pub(crate) const OF_ORDINALS_ALONE: &[u8] =
-    br#"{"cardinal":{"root":{"one":"i = 1 and v = 0"}},"ordinal":{"en":{}}}"#;
-
-// Rules that lack the language, with four keys that are one edit from it.
-pub(crate) const WITHOUT_THE_LANGUAGE: &[u8] =
-    br#"{"cardinal":{"e":{},"eng":{},"enx":{},"eny":{},"root":{}}}"#;
-
-pub(crate) const NOTE_OF_ANOTHER_LANGUAGE: &str = "plural_forms: en-GB: cardinal rules of fr\n";
-
-pub(crate) const NOTE_OF_ROOT: &str = "plural_forms: en-GB: cardinal rules of root\n";
-
 pub(crate) const LINES: &[u8] = b"1\n2";
 
 const MESSAGES: &str = r#"{"en-GB":{"cardinal":{"files":{"one":"a file","other":"{} files"}}}}"#;

@@ -25,20 +25,6 @@ fn letters_of(alloc: Global, letters: usize) -> Result<String, AllocError> {
     Ok(String::from_utf8(vec![in alloc; b'a'; letters]?).unwrap_or(String::new(alloc)))
 }
 
-// With `root`, a chain of 31 locales has 32, which are all looked up.
-#[test]
-fn chains_of_more_locales_than_are_looked_up_do_not_end(rt: HostRuntime) -> Result<(), Fail> {
-    let alloc = rt.alloc();
-    let document = document_of_chain(alloc, 31)?;
-    let report = "locales: 1, rules: 1, numbers: 0, faults: 0\n";
-    holds!(rt; gives(alloc, false, &mut document.as_bytes(), report) == Some(true));
-    let document = document_of_chain(alloc, 32)?;
-    let report = "parents a: the chain of parents doesn't end
-locales: 1, rules: 1, numbers: 0, faults: 1\n";
-    holds!(rt; gives(alloc, false, &mut document.as_bytes(), report) == Some(true));
-    Ok(())
-}
-
 // Returns the report of a document where the chains of this many locales of letters don't end.
 fn report_of_chain(alloc: Global, faults: usize) -> Result<String, AllocError> {
     let mut text = String::new(alloc);
