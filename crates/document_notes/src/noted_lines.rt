@@ -55,12 +55,12 @@ impl<'f, 'a> LinePrinter<Finding<'a>> for NamedFindings<'f, 'a> {
 
     fn push(
         &mut self,
-        alloc: Global,
+        _alloc: Global,
         finding: &Finding<'a>,
         text: &mut String,
     ) -> Result<(), AllocError> {
         push_name(self.file, text)?;
-        let place = self.place.text(alloc, finding.place)?;
+        let place = self.place.text(finding.place)?;
         push_cause(place, &finding.cause, text)
     }
 }

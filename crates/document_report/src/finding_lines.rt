@@ -29,11 +29,11 @@ impl<'a> LinePrinter<Finding<'a>> for FindingLines<'a> {
 
     fn push(
         &mut self,
-        alloc: Global,
+        _alloc: Global,
         finding: &Finding<'a>,
         text: &mut String,
     ) -> Result<(), AllocError> {
-        let place = self.place.text(alloc, finding.place)?;
+        let place = self.place.text(finding.place)?;
         push_line(text, place, &finding.cause)
     }
 }

@@ -9,6 +9,7 @@ use plural_documents::{PrintedPlace, printed_name};
 use plural_fallback::Part;
 use std::alloc::{AllocError, Global};
 use std::fmt;
+use std::fmt::Write;
 
 /// A locale, in a part.
 #[derive(Clone, Copy, Debug)]
@@ -78,8 +79,11 @@ impl<'a> PrintedPlace for FindingPlace<'a> {
 
     ghost text_of = { λ place. finding_place_text (finding_place_view place) };
 
-    fn text(&self, alloc: Global) -> Result<String, AllocError> {
-        FindingPlace::text(self, alloc)
+    fn push(&self, text: &mut String) -> Result<(), AllocError> {
+        match write!(text, "{self}") {
+            Ok(()) => Ok(()),
+            Err(_) => Err(AllocError),
+        }
     }
 
     // Of other places than a category's text most have one finding.

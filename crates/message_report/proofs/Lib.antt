@@ -11,6 +11,7 @@ pub mod PartLemmas
 pub mod Periods
 -- findings of patterns
 pub mod BranchLemmas
+pub mod KindLemmas
 pub mod OwnBranches
 pub mod PatternTold
 pub mod TellLemmas

@@ -1,12 +1,12 @@
 -- Whether exactly a number has a branch of its own, of what `message_format` returns.
 use Rattle.std.proofs.Common.{◌≡◌, ◌↔◌, ℕ, ◌<◌, Bool, true, false, List, [], ◌∷◌, codes, refl, sym, subst, arith, inl, inr}
-use Rattle.std.specs.Prelude.{◌||◌, IsTrue, Result, Ok, Err, IfOk}
+use Rattle.std.specs.Prelude.{◌||◌, not, IsTrue, Result, Ok, Err, IfOk}
 use Rattle.fixed_decimal.specs.Digits.{text_of}
 use Rattle.fixed_decimal.specs.Written.{CompactNumber, WritesCompact}
 use Rattle.fixed_decimal.specs.declared.sign.Sign.TheVariants as sign
 use Rattle.message_format.specs.FormatBranches.{Equals, HasBranchOfValue}
 use Rattle.message_pattern.specs.PatternParts.{Branching, Selector, Exactly, Keyword}
-use Rattle.message_report.specs.Inner.NumberBranches.{has_number_branch, is_of_number}
+use Rattle.message_report.specs.Inner.BranchKinds.{has_number_branch, is_of_number}
 use Rattle.message_report.specs.PatternBranches.{IsOwn}
 
 -- behind an offset none has
@@ -14,6 +14,10 @@ pub none_own : (text : List ℕ) (offset : Bool) (bs : List Branching) → offse
 none_own text offset bs is = subst (λ (o : Bool). IsOwn text o bs false) (sym is) refl
 
 -- without a branch of a number none has
+pub not_so : (b : Bool) → not b ≡ true → b ≡ false
+not_so true e = cc
+not_so false e = refl
+
 head_not : (x : CompactNumber) (s : Selector) (rest : Bool) → (is_of_number s || rest) ≡ false → (Equals x s → ⊥) × (rest ≡ false)
 head_not x (Exactly number) rest none = cc
 head_not x (Keyword word) rest none = ((λ is. is), none)

@@ -1,5 +1,6 @@
 -- No definitions of the subject: words of private contracts.
 pub mod ArgumentViews
+pub mod BranchKinds
 pub mod FormSteps
 pub mod FormValues
 pub mod KnownLanguages
@@ -8,6 +9,5 @@ pub mod LanguageViews
 pub mod ListedTexts
 pub mod MessageSums
 pub mod NeededRules
-pub mod NumberBranches
 pub mod ToldFindings
 pub mod ToldKeys

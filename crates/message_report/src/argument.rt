@@ -1,34 +1,20 @@
 //! The branches of plural arguments in patterns.
 
-ghost use Rattle.std.specs.Prelude.{◌≡◌, ◌<◌, IfOk, is_some, map};
-ghost use Rattle.message_format.specs.FormatBranches.{branch_of_keyword, is_keyword};
+ghost use Rattle.std.specs.Prelude.{◌≡◌, ◌<◌, IfOk, map};
 ghost use Rattle.message_pattern.specs.PatternParts.{branches_of, Exactly, Keyword, part_view, parts_view, selector_view};
 ghost use Rattle.fixed_decimal.specs.Written.{CompactNumber, WritesCompact};
 ghost use Rattle.message_report.specs.Inner.ArgumentViews.{argument_view};
-ghost use Rattle.message_report.specs.Inner.NumberBranches.{has_number_branch, is_of_number};
+ghost use Rattle.message_report.specs.Inner.BranchKinds.{has_number_branch};
 ghost use Rattle.message_report.specs.PatternFaults.{IsArgumentAt};
-ghost use Rattle.message_report.specs.PatternBranches.{IsOwn, has_category_branch, has_number, inside_of};
+ghost use Rattle.message_report.specs.PatternBranches.{IsOwn, has_number, inside_of};
 ghost use Rattle.message_report.specs.PatternBranches.{same_selector, says_number, stands_in};
 
+use crate::branch_kinds::BranchKinds;
+use crate::plural_argument::Argument;
 use fixed_decimal::CompactDecimal;
-use icu_plurals::PluralCategory;
 use message_format::has_branch_of_value;
 use message_pattern::{Part, Piece, Selector};
 use std::alloc::{AllocError, Global};
-
-// A plural or an ordinal.
-#[derive(Clone, Copy)]
-pub(crate) struct Argument<'a, 'p> {
-    pub(crate) name: &'a [u8],
-    pub(crate) has_offset: bool,
-    // How many branches it is in.
-    pub(crate) depth: usize,
-    // The parts that follow its beginning.
-    pub(crate) parts: &'p [Part<'a>],
-    // Whether exactly 0 has a branch of its own, and exactly 1.
-    pub(crate) own_zero: bool,
-    pub(crate) own_one: bool,
-}
 
 // The argument at a depth, of which these parts follow its beginning.
 pub(crate) fn argument_at<'a, 'p>(
@@ -40,13 +26,15 @@ pub(crate) fn argument_at<'a, 'p>(
 ) -> Result<Argument<'a, 'p>, AllocError>
     ensures { IfOk result (λ a. IsArgumentAt name.now has_offset depth (parts_view parts.now) (argument_view a)) }
 {
-    let own_zero = is_own(alloc, "0", has_offset, depth, parts)?;
-    let own_one = is_own(alloc, "1", has_offset, depth, parts)?;
+    let kinds = BranchKinds::of(depth, parts);
+    let own_zero = is_own(alloc, "0", has_offset, depth, parts, kinds)?;
+    let own_one = is_own(alloc, "1", has_offset, depth, parts, kinds)?;
     Ok(Argument {
         name,
         has_offset,
         depth,
         parts,
+        kinds,
         own_zero,
         own_one,
     })
@@ -60,14 +48,16 @@ fn is_own(
     has_offset: bool,
     depth: usize,
     parts: &[Part<'_>],
+    kinds: BranchKinds,
 ) -> Result<bool, AllocError>
-    requires { (x : CompactNumber) × WritesCompact number.now x }
+    requires number { (x : CompactNumber) × WritesCompact number.now x }
+    requires kinds { kinds.number ≡ has_number_branch (branches_of depth (parts_view parts.now)) }
     ensures { IfOk result (λ own. IsOwn number.now has_offset (branches_of depth (parts_view parts.now)) own) }
 {
     if has_offset {
         return Ok(false);
     }
-    if !has_number_branch(depth, parts) {
+    if !kinds.number {
         return Ok(false);
     }
     match CompactDecimal::from_str(alloc, number) {
@@ -75,75 +65,6 @@ fn is_own(
         // A digit is a number, so memory ran out.
         Err(_) => Err(AllocError),
     }
-}
-
-// Whether an argument at this depth has a branch whose selector is `=` and a number.
-fn has_number_branch(depth: usize, parts: &[Part<'_>]) -> bool
-    ensures { result ≡ has_number_branch (branches_of depth (parts_view parts.now)) }
-{
-    let mut left = parts;
-    while let [part, rest @ ..] = left {
-        if part.depth <= depth {
-            let Piece::Branch(selector) = part.piece else {
-                return false;
-            };
-            if is_of_number(selector) {
-                return true;
-            }
-        }
-        left = rest;
-    }
-    false
-}
-
-// Whether a selector is `=` and a number.
-fn is_of_number(selector: Selector<'_>) -> bool
-    ensures { result ≡ is_of_number (selector_view selector.entry) }
-{
-    match selector {
-        Selector::Exactly(_) => true,
-        Selector::Keyword(_) => false,
-    }
-}
-
-// Whether a selector is this keyword.
-fn is_word(word: &[u8], selector: Selector<'_>) -> bool
-    ensures { result ≡ is_keyword word.now (selector_view selector.entry) }
-{
-    match selector {
-        Selector::Exactly(_) => false,
-        Selector::Keyword(other) => other == word,
-    }
-}
-
-// Whether an argument at this depth has a branch of a category.
-pub(crate) fn has_category_branch(
-    category: PluralCategory,
-    depth: usize,
-    parts: &[Part<'_>],
-) -> bool
-    ensures { result ≡ has_category_branch category (branches_of depth (parts_view parts.now)) }
-{
-    has_word(category.as_str().as_bytes(), depth, parts)
-}
-
-// Whether it has a branch of a keyword.
-fn has_word(word: &[u8], depth: usize, parts: &[Part<'_>]) -> bool
-    ensures { result ≡ is_some (branch_of_keyword word.now (branches_of depth (parts_view parts.now))) }
-{
-    let mut left = parts;
-    while let [part, rest @ ..] = left {
-        if part.depth <= depth {
-            let Piece::Branch(selector) = part.piece else {
-                return false;
-            };
-            if is_word(word, selector) {
-                return true;
-            }
-        }
-        left = rest;
-    }
-    false
 }
 
 // Whether a part says the number of an argument of this depth and name.

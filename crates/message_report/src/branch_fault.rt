@@ -9,9 +9,10 @@ ghost use Rattle.message_report.specs.PatternFaults.{branch_fault, branch_fault_
 ghost use Rattle.message_report.specs.PatternFaults.{missing_by, missing_fault, no_hash, numbers_of, rare_by, selector_fault};
 ghost use Rattle.message_report.specs.Inner.ArgumentViews.{branching};
 
-use crate::argument::{Argument, has_category_branch, has_number, stands_in};
+use crate::argument::{has_number, stands_in};
 use crate::fault::{write_missing, write_rare};
 use crate::language::Language;
+use crate::plural_argument::Argument;
 use crate::rare_samples::TwoSamples;
 use icu_plurals::PluralCategory;
 use message_pattern::{Part, Selector};
@@ -77,7 +78,7 @@ pub(crate) fn missing_fault(
 ) -> Option<BranchFault>
     ensures { result ≡ missing_fault (language_view language.now) (argument_view argument.entry) category }
 {
-    if has_category_branch(category, argument.depth, argument.parts) {
+    if argument.kinds.has(category) {
         return None;
     }
     if !language.has(category) {

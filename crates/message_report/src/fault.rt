@@ -201,31 +201,41 @@ fn fault_of_value(
         (Some (view value.now)) result }
 {
     if language.has(category) {
-        let numbers = language.numbers(category, own.zero, own.one);
-        present_fault(category, numbers, value)
+        present_fault(language, own, category, value)
     } else {
         Some(FormFault::Unused(category))
     }
 }
 
-// The fault of a form that numbers choose, given its value.
-fn present_fault(category: PluralCategory, numbers: TwoNumbers, value: &Value) -> Option<FormFault>
-    ensures { HasPresentFault category numbers (view value.now) result }
+// The fault of a form of a category that the language has, given its value.
+fn present_fault(
+    language: &Language,
+    own: OwnForms,
+    category: PluralCategory,
+    value: &Value,
+) -> Option<FormFault>
+    ensures { HasPresentFault category ((language_view language.now).numbers category own.zero own.one) (view value.now) result }
 {
     match value.as_str() {
-        Some(text) => text_fault(category, numbers, text),
+        Some(text) => text_fault(language, own, category, text),
         None => Some(FormFault::NoText),
     }
 }
 
-// The fault of a form's text, if it has one.
-fn text_fault(category: PluralCategory, numbers: TwoNumbers, text: &str) -> Option<FormFault>
-    ensures { HasTextFault category numbers text.now result }
+// The fault of a form's text, if it has one. Only without the number it is looked up which numbers
+// choose it.
+fn text_fault(
+    language: &Language,
+    own: OwnForms,
+    category: PluralCategory,
+    text: &str,
+) -> Option<FormFault>
+    ensures { HasTextFault category ((language_view language.now).numbers category own.zero own.one) text.now result }
 {
     if text.contains("{}") {
         None
     } else {
-        no_number(category, numbers)
+        no_number(category, language.numbers(category, own.zero, own.one))
     }
 }
 

@@ -51,21 +51,21 @@ impl<'a> FormValues<'a> {
         }
     }
 
-    // Takes a member, unless there is one of its form.
+    // Takes a member, unless there is one of its form. Frequent forms are looked for first.
     fn put(&mut self, key: &str, value: &'a Value)
         ensures values { (form : Form) → value_under form self.new
             ≡ first_of (value_under form self.old) (under_key (bytes_eq (form_name form) key.now) (view value.now)) }
         ensures keys { self.new.has_other_keys ≡ self.old.has_other_keys || not (is_form_name key.now) }
     {
         match key {
-            "explicit_zero" => put_first(&mut self.zero, value),
-            "explicit_one" => put_first(&mut self.one, value),
-            "zero" => put_first(&mut self.categories.zero, value),
+            "other" => put_first(&mut self.other, value),
             "one" => put_first(&mut self.categories.one, value),
-            "two" => put_first(&mut self.categories.two, value),
             "few" => put_first(&mut self.categories.few, value),
             "many" => put_first(&mut self.categories.many, value),
-            "other" => put_first(&mut self.other, value),
+            "two" => put_first(&mut self.categories.two, value),
+            "zero" => put_first(&mut self.categories.zero, value),
+            "explicit_zero" => put_first(&mut self.zero, value),
+            "explicit_one" => put_first(&mut self.one, value),
             _ => self.has_other_keys = true,
         }
     }

@@ -4,6 +4,7 @@
 
 mod argument;
 mod branch_fault;
+mod branch_kinds;
 mod category_numbers;
 mod cause;
 mod counts;
@@ -28,6 +29,7 @@ mod pattern_faults;
 mod patterns;
 mod place;
 mod place_text;
+mod plural_argument;
 mod printed_key;
 mod rare_samples;
 mod report;

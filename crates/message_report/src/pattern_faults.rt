@@ -12,13 +12,14 @@ ghost use Rattle.message_report.specs.MessagesReport.{argument_findings, branch_
 ghost use Rattle.message_report.specs.MessagesReport.{HasPatternFindings, HasPieceFindings, findings_under, language_findings, missing_findings};
 ghost use Rattle.message_report.specs.PatternFaults.{type_of_kind};
 
-use crate::argument::{Argument, argument_at};
+use crate::argument::argument_at;
 use crate::branch_fault::{BranchFault, branch_fault, missing_fault};
 use crate::cause::Cause;
 use crate::found::Found;
 use crate::language::Language;
 use crate::languages::Languages;
 use crate::place::{ArgumentPlace, PatternPlace, Place};
+use crate::plural_argument::Argument;
 use crate::severity::Severity;
 use icu_plurals::{PluralCategory, PluralRuleType};
 use message_pattern::{ArgumentKind, Part, Piece, Selector};

@@ -11,7 +11,7 @@ ghost use Rattle.plural_checker.specs.SampleNumbers.{number_at, number_text, tex
 use crate::reading::{MOST_DIGITS, split_at_e};
 use crate::sample_range::{SampleNumbers, Steps};
 use icu_plurals::provider::rules::reference::ast::{DecimalValue, Operand, SampleRange};
-use icu_plurals::{AskedRules, PluralCategory, PluralOperands, RawPluralOperands};
+use icu_plurals::{AskedRules, DecimalError, PluralCategory, PluralOperands, RawPluralOperands};
 use number_categories::{NumberFault, category_fault};
 use plural_base::laws::kept_choice_is_exact;
 use std::alloc::Global;
@@ -60,7 +60,7 @@ pub(crate) fn verdict_on_single(
     }
 }
 
-// The verdict on the text of a sample.
+// The verdict on the text of a sample. One with an exponent isn't short.
 fn verdict_on_sample(
     alloc: Global,
     rules: Option<&AskedRules<'_>>,
@@ -69,32 +69,31 @@ fn verdict_on_sample(
 ) -> Verdict
     ensures { IsVerdictOn (option_copied rules.entry) category (text_with_c sample.now) result }
 {
-    match sample_operands(alloc, sample) {
-        Some(operands) => verdict_by(rules, category, operands),
-        None => Verdict::Unknown,
-    }
-}
-
-// The operands of a sample's text, if it has at most 16 bytes and no exponent.
-fn sample_operands(alloc: Global, sample: &DecimalValue) -> Option<PluralOperands>
-    ensures { IfSome result (λ operands. WritesShortNumber (text_with_c sample.now) operands) }
-{
     match split_at_e(sample) {
-        Some(_) => None,
-        None => text_operands(alloc, sample.0.as_str()),
+        Some(_) => Verdict::Unknown,
+        None => verdict_on_text(alloc, rules, category, sample.0.as_str()),
     }
 }
 
-// The operands of a text, if it has at most 16 bytes and no exponent.
-fn text_operands(alloc: Global, text: &str) -> Option<PluralOperands>
-    ensures { IfSome result (λ operands. WritesShortNumber text.now operands) }
+// The verdict on a text of at most 16 bytes, which is read without memory; unknown on others.
+fn verdict_on_text(
+    alloc: Global,
+    rules: Option<&AskedRules<'_>>,
+    category: PluralCategory,
+    text: &str,
+) -> Verdict
+    ensures { IsVerdictOn (option_copied rules.entry) category text.now result }
 {
     if text.len() > MOST_BYTES {
-        return None;
+        return Verdict::Unknown;
     }
     match PluralOperands::from_compact_text(alloc, text) {
-        Ok(operands) => without_exponent(operands),
-        Err(_) => None,
+        Ok(operands) => match without_exponent(operands) {
+            Some(operands) => verdict_by(rules, category, operands),
+            None => Verdict::Unknown,
+        },
+        Err(DecimalError::Syntax) => Verdict::Wrong(NumberFault::Text(DecimalError::Syntax)),
+        Err(_) => Verdict::Unknown,
     }
 }
 

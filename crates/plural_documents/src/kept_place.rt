@@ -8,15 +8,15 @@ use std::marker::Model;
 
 /// A place that is printed.
 pub trait PrintedPlace: Copy {
-    ghost use Rattle.std.specs.Prelude.{◌≡◌, List, ℕ, IfOk, string_bytes};
+    ghost use Rattle.std.specs.Prelude.{◌≡◌, ◌++◌, List, ℕ, OnOk, string_bytes};
     ghost use Rattle.std.specs.Bool.{OnTrue};
 
     // What is printed for it.
     ghost text_of: { Self → List ℕ };
 
-    /// Returns what is printed for the place. It allocates; the only error is out of memory.
-    fn text(&self, alloc: Global) -> Result<String, AllocError>
-        ensures { IfOk result (λ text. string_bytes text ≡ text_of self.now) };
+    /// Appends what is printed for the place. It allocates; the only error is out of memory.
+    fn push(&self, text: &mut String) -> Result<(), AllocError>
+        ensures { OnOk result (string_bytes text.new ≡ string_bytes text.old ++ text_of self.now) };
 
     /// Returns whether the same is printed for both, as far as it is seen without memory.
     fn is_same(&self, other: &Self) -> bool
@@ -52,13 +52,15 @@ impl<P: PrintedPlace> KeptPlace<P> {
         }
     }
 
-    /// Returns what is printed for a place, and keeps it. It allocates, unless this is kept; the
-    /// only error is out of memory.
-    pub fn text(&mut self, alloc: Global, place: P) -> Result<&str, AllocError>
+    /// Returns what is printed for a place, and keeps it where the last one was. It allocates,
+    /// unless this is kept; the only error is out of memory, and then none is kept.
+    pub fn text(&mut self, place: P) -> Result<&str, AllocError>
         ensures { IfOk result (λ text. text.now ≡ P.text_of place) }
     {
         if !is_kept(self.place, place) {
-            self.text = place.text(alloc)?;
+            self.place = None;
+            self.text.clear();
+            place.push(&mut self.text)?;
             self.place = Some(place);
         }
         Ok(self.text.as_str())

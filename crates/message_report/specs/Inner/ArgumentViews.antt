@@ -6,7 +6,7 @@ use Rattle.message_pattern.specs.declared.part.Selector as selectors
 use Rattle.message_pattern.specs.PatternParts.{Branching, branches_of, parts_view, selector_view}
 use Rattle.message_report.specs.Inner.LanguageViews.{language_view}
 use Rattle.message_report.specs.PatternFaults.{PluralArgument, TwoLanguages}
-use Rattle.message_report.specs.declared.argument.Argument.{Argument}
+use Rattle.message_report.specs.declared.plural_argument.Argument.{Argument}
 use Rattle.message_report.specs.declared.languages.Languages.{Languages}
 
 abbrev pub argument_view : Argument → PluralArgument

@@ -1,16 +1,16 @@
 use Rattle.std.proofs.Common.{sym, ◌∙◌}
 use Rattle.message_pattern.specs.PatternParts.{branches_of, parts_view}
-use Rattle.message_report.proofs.OwnBranches.{none_of_number, none_own, value_own}
+use Rattle.message_report.proofs.OwnBranches.{none_of_number, none_own, not_so, value_own}
 use Rattle.message_report.proofs.argument.is_own.Goals as goal
 
 pub returns-then-has_offset : goal.returns-then-has_offset
 returns-then-has_offset c =
     none_own c.args.number.now c.args.has_offset (branches_of c.args.depth (parts_view c.args.parts.now)) c.if-has_offset.true
 
-pub returns-then-not-has_number_branch : goal.returns-then-not-has_number_branch
-returns-then-not-has_number_branch c =
-    none_of_number c.args.number.now c.args.has_offset (branches_of c.args.depth (parts_view c.args.parts.now)) c.requires.0
-    c.requires.1 c.if-has_offset.false (sym c.has_number_branch.ensures ∙ c.if-not-has_number_branch.true)
+pub returns-then-not-kinds : goal.returns-then-not-kinds
+returns-then-not-kinds c =
+    none_of_number c.args.number.now c.args.has_offset (branches_of c.args.depth (parts_view c.args.parts.now)) c.requires.number.0
+    c.requires.number.1 c.if-has_offset.false (sym c.requires.kinds ∙ not_so c.args.kinds.number c.if-not-kinds.true)
 
 pub returns-in-Ok : goal.returns-in-Ok
 returns-in-Ok c =

@@ -13,5 +13,5 @@ returns-else-contains c =
           let there : c.contains.result ≡ true =
           (contains_text c.contains.result (codes "{}") c.args.text.now c.contains.ensures.cases).1 sub in
           cc c.if-contains.false),
-      c.no_number.ensures,
+      rw c.numbers.ensures at c.no_number.ensures,
     )
