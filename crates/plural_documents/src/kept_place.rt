@@ -53,7 +53,7 @@ impl<P: PrintedPlace> KeptPlace<P> {
     }
 
     /// Returns what is printed for a place, and keeps it where the last one was. It allocates,
-    /// unless this is kept; the only error is out of memory, and then none is kept.
+    /// unless this is kept; the only error is out of memory.
     pub fn text(&mut self, place: P) -> Result<&str, AllocError>
         ensures { IfOk result (λ text. text.now ≡ P.text_of place) }
     {
