@@ -12,7 +12,7 @@ use Rattle.plural_base.specs.declared.category.PluralCategory.{PluralCategory}
 use Rattle.plural_base.proofs.tables.Entries.{table_category}
 use Rattle.number_categories.specs.WholeNumbers.{AreTwoBelow, HasWhole, least_at}
 use Rattle.number_categories.specs.Inner.SoughtNumbers.{AreSeenBelow}
-use Rattle.number_categories.specs.Inner.ToldRemainders.{AreMarked, AreToldFrom, IsAsBefore}
+use Rattle.number_categories.specs.Inner.ToldRemainders.{AreMarked, AreRunsFrom, AreRunsOf, AreToldFrom, IsAsBefore}
 use Rattle.number_categories.specs.declared.least_numbers.LeastNumbers.{LeastNumbers}
 use Rattle.number_categories.proofs.SeenNumbers.{passed}
 
@@ -94,11 +94,54 @@ marked_told rules bytes table marks start from of same marked high = record { at
           has = has n (omega arith) (omega arith);
         }
 
--- an empty list marks none
-pub none_told : (rules : FiveRules) (start from : ℕ) (told : List Bool) → length told ≡ 0 → AreToldFrom rules start from told
-none_told rules start from told none = record {
-  at = λ n after below marked. absurd (true≢false (sym marked ∙ get_or_past told ((n + 72) % 100) false (omega arith)));
+-- an empty list has no runs
+pub no_runs : (rules : FiveRules) (start from : ℕ) (runs : List ℕ) → length runs ≡ 0 → AreRunsFrom rules start from runs
+no_runs rules start from runs none = record {
+  at = λ n j after below within. (let past : get_or runs ((n + 72) % 100) 0 ≡ 0 = get_or_past runs ((n + 72) % 100) 0 (omega arith) in
+      absurd (omega arith));
 }
+
+-- ---- Runs of numbers that are told
+
+abbrev pub IsMarkedAt : List Bool → ℕ → Type 0
+IsMarkedAt told r = get_or told r false ≡ true
+
+-- so many numbers from a place on are marked
+module _ (told : List Bool) (runs : List ℕ) (place p run : ℕ) (next : p + 1 ≡ place) (all : length runs ≡ 100)
+    (here : (j : ℕ) → j < run → IsMarkedAt told (place + j)) (end : place + run ≤ 100)
+    (at : (r j : ℕ) → place ≤ r → r < 100 → j < get_or runs r 0 → (r + j < 100) × IsMarkedAt told (r + j)) where
+  -- one more before them
+  pub longer_run : IsMarkedAt told p → (new : ℕ) → new ≡ run + 1 → (j : ℕ) → j < new → IsMarkedAt told (p + j)
+  longer_run marked new is zero less = subst (IsMarkedAt told) (omega arith) marked
+  longer_run marked new is (suc j) less =
+      let sum : place + j ≡ p + suc j = omega arith in
+      subst (IsMarkedAt told) sum (here j (omega arith))
+
+  -- a run is written at its place
+  pub run_written : (new : ℕ) → p + new ≤ 100 → ((j : ℕ) → j < new → IsMarkedAt told (p + j)) → (r j : ℕ) → p ≤ r → r < 100
+      → j < get_or (set runs p new) r 0 → (r + j < 100) × IsMarkedAt told (r + j)
+  run_written new within own r j from small less = by (cases_order r p)
+    where
+      by : (r ≡ p) ⊎ ((r < p) ⊎ (p < r)) → (r + j < 100) × IsMarkedAt told (r + j)
+      by (inl same) =
+          let first : j < get_or (set runs p new) p 0 = subst (λ k. j < get_or (set runs p new) k 0) same less in
+          let short : j < new = subst (λ k. j < k) (get_or-set_same runs p new 0 (omega arith)) first in
+          (omega arith, subst (λ k. IsMarkedAt told (k + j)) (sym same) (own j short))
+      by (inr (inl lower)) = absurd (omega arith)
+      by (inr (inr higher)) = at r j (omega arith) small (subst (λ k. j < k) (get_or-set_other runs p r new 0 (λ same. omega arith)) less)
+
+-- where the numbers that are marked are told, so are those in runs of them
+pub runs_told : (rules : FiveRules) (start from : ℕ) (told : List Bool) (runs : List ℕ) → AreToldFrom rules start from told
+    → AreRunsOf told runs → AreRunsFrom rules start from runs
+runs_told rules start from told runs are of = record { at = λ n j after below within. by n j ((n + 72) % 100) after below refl within }
+  where
+    by : (n j r : ℕ) → from ≤ n → n + j < 10000 → (n + 72) % 100 ≡ r → j < get_or runs r 0 → IsAsBefore rules start (n + j)
+    by n j r after below left within =
+        let small : r < 100 = omega arith in
+        let marked = of.at r j small within in
+        let short = marked.0 in
+        let same : r + j ≡ (n + j + 72) % 100 = omega arith in
+        are.at (n + j) (omega arith) below (subst (λ k. get_or told k false ≡ true) same marked.1)
 
 -- ---- The numbers that are passed over
 
@@ -127,6 +170,16 @@ pub told_passed : (rules : FiveRules) (start from n : ℕ) (marks : List Bool) (
     → AreSeenBelow rules start (n + 1) seen
 told_passed rules start from n marks seen told after below marked so_far =
     as_before rules start n seen (told.at n after below marked) so_far
+
+-- nor do those of a run
+pub run_passed : (rules : FiveRules) (start from n k : ℕ) (runs : List ℕ) (seen : LeastNumbers) → AreRunsFrom rules start from runs
+    → from ≤ n → k ≤ get_or runs ((n + 72) % 100) 0 → n + k ≤ 10000 → AreSeenBelow rules start n seen → AreSeenBelow rules start (n + k) seen
+run_passed rules start from n zero runs seen are after within below so_far = subst (λ m. AreSeenBelow rules start m seen) (omega arith) so_far
+run_passed rules start from n (suc k) runs seen are after within below so_far =
+    let next : n + k + 1 ≡ n + suc k = omega arith in
+    subst (λ m. AreSeenBelow rules start m seen) next
+    (as_before rules start (n + k) seen (are.at n k after (omega arith) (omega arith))
+    (run_passed rules start from n k runs seen are after (omega arith) (omega arith) so_far))
 
 -- where all are marked
 all_marked : (marks : List Bool) (eq : Bool → Bool) → eq false ≡ true → list_any eq marks ≡ false → (r : ℕ) → r < length marks

@@ -1,9 +1,9 @@
 //! One walk over the whole numbers for the least of each category.
 
-ghost use Rattle.std.specs.Prelude.{◌≡◌, ◌≤◌, ◌+◌, ◌%◌, slice_index_or, false, IsFalse, IsTrue};
+ghost use Rattle.std.specs.Prelude.{◌≡◌, ◌≤◌, ◌+◌, ◌%◌, slice_index, IsFalse, IsTrue};
 ghost use Rattle.plural_base.specs.CategoryTables.{IsTableOf};
 ghost use Rattle.number_categories.specs.Inner.SoughtNumbers.{AreFound, AreSeenBelow};
-ghost use Rattle.number_categories.specs.Inner.ToldRemainders.{AreMarked, AreToldFrom};
+ghost use Rattle.number_categories.specs.Inner.ToldRemainders.{AreMarked, AreRunsFrom, AreRunsOf};
 
 use crate::least_numbers::LeastNumbers;
 use crate::sought::Sought;
@@ -49,7 +49,7 @@ fn see_all(asked: &mut AskedRules<'_>, sought: Sought, seen: &mut LeastNumbers)
     };
     let told = told_numbers(&table);
     if told.contains(&false) {
-        see_each(asked, &told, twice, WHOLE_LIMIT, sought, seen);
+        see_each(asked, &runs_of(&told), twice, WHOLE_LIMIT, sought, seen);
     }
 }
 
@@ -73,17 +73,18 @@ fn table_made(rules: &PluralRules<'_>) -> [u8; 236]
     table
 }
 
-// Sees each number from a start and before an end, but those that are told, until all that is sought
-// is found. Whether it is. A further number of the same category is passed over once that has two.
+// Sees each number from a start and before an end, but runs of numbers that are told, until all that
+// is sought is found. Whether it is. A further number of the same category is passed over once that
+// has two.
 fn see_each(
     asked: &mut AskedRules<'_>,
-    told: &[bool],
+    runs: &[u8],
     start: u16,
     end: u16,
     sought: Sought,
     seen: &mut LeastNumbers,
 ) -> bool
-    requires told { AreToldFrom asked.old sought.start start told.now }
+    requires runs { AreRunsFrom asked.old sought.start start runs.now }
     requires seen { AreSeenBelow asked.old sought.start start seen.old }
     requires from { sought.start ≤ start }
     requires order { start ≤ end }
@@ -93,16 +94,21 @@ fn see_each(
     ensures seen { IsFalse result → AreSeenBelow asked.old sought.start end seen.new }
 {
     let mut common = None;
-    for number in start..end {
-        if is_told(told, number) {
+    let mut number = start;
+    while number < end {
+        let run = run_from(runs, number);
+        if run > 0 {
+            number = end.min(number + u16::from(run));
             continue;
         }
-        asked.prepare(u64::from(number - sought.start));
-        let category = asked.category_for_integer(u64::from(number));
+        let here = number;
+        number += 1;
+        asked.prepare(u64::from(here - sought.start));
+        let category = asked.category_for_integer(u64::from(here));
         if common == Some(category) {
             continue;
         }
-        if !seen.add(category, number) {
+        if !seen.add(category, here) {
             common = Some(category);
             continue;
         }
@@ -113,19 +119,34 @@ fn see_each(
     false
 }
 
-// Whether the remainder of a number is told.
+// How many numbers from this one on are told in a run.
 #[inline]
-fn is_told(told: &[bool], number: u16) -> bool
+fn run_from(runs: &[u8], number: u16) -> u8
     requires { number ≤ WHOLE_LIMIT }
-    ensures { result ≡ slice_index_or told.now ((number + 72) % 100) false }
+    ensures { result ≡ slice_index runs.now ((number + 72) % 100) }
 {
-    if told.is_empty() {
-        return false;
+    if runs.is_empty() {
+        return 0;
     }
-    match told.get(usize::from((number + 72) % 100)) {
-        Some(is_told) => *is_told,
-        None => false,
+    match runs.get(usize::from((number + 72) % 100)) {
+        Some(run) => *run,
+        None => 0,
     }
+}
+
+// How many of 100 numbers are told in a run, from each on.
+fn runs_of(told: &[bool; 100]) -> [u8; 100]
+    ensures { AreRunsOf told.now result }
+{
+    let mut runs = [0u8; 100];
+    let mut run: u8 = 0;
+    let mut place: usize = 100;
+    while place > 0 {
+        place -= 1;
+        run = if told[place] { run + 1 } else { 0 };
+        runs[place] = run;
+    }
+    runs
 }
 
 // Which of 100 numbers a table tells. Each has the category of all later numbers with its remainder

@@ -2,14 +2,16 @@ use Rattle.std.proofs.Common.{arith, refl, subst, sym, ◌∙◌}
 use Rattle.plural_base.specs.CategoryTables.{IsTableOf}
 use Rattle.plural_base.specs.FiveRules.{FiveRules}
 use Rattle.number_categories.proofs.SeenNumbers.{all_seen}
-use Rattle.number_categories.proofs.ToldLists.{all_passed, marked_told}
+use Rattle.number_categories.proofs.ToldLists.{all_passed, marked_told, runs_told}
 use Rattle.number_categories.proofs.number_walk.see_all.Goals as goal
 
-pub see_each-requires-then-contains-clause-told : goal.see_each-requires-then-contains-clause-told
-see_each-requires-then-contains-clause-told c =
-    marked_told c.see_each.new.asked c.table_of-bytes.result c.in-Some.table c.told_numbers-told.result c.args.sought.start
+pub see_each-requires-then-contains-clause-runs : goal.see_each-requires-then-contains-clause-runs
+see_each-requires-then-contains-clause-runs c =
+    runs_told c.see_each.new.asked c.args.sought.start c.min-twice.result c.told_numbers-told.result c.runs_of.result
+    (marked_told c.see_each.new.asked c.table_of-bytes.result c.in-Some.table c.told_numbers-told.result c.args.sought.start
     c.min-twice.result c.table_of-bytes.ensures c.in-Some.ensures.same c.told_numbers-told.ensures
-    (λ n from below. (omega arith, omega arith))
+    (λ n from below. (omega arith, omega arith)))
+    c.runs_of.ensures
 
 pub returns-else-contains : goal.returns-else-contains
 returns-else-contains c =
