@@ -11,13 +11,13 @@ pub record Valued : Type 0 where
   pub value : Option (List ℕ)
   pub rest : List (List ℕ)
 
-abbrev pub with_value : Option (List ℕ) → List (List ℕ) → Valued
-with_value value rest = record { value = value; rest = rest }
+abbrev pub value_and_rest : Option (List ℕ) → List (List ℕ) → Valued
+value_and_rest value rest = record { value = value; rest = rest }
 
 abbrev pub valued : List ℕ → List (List ℕ) → Valued
 valued option (first ∷ word ∷ rest) =
-    if bytes_eq first option then with_value (Some word) rest else with_value None (first ∷ word ∷ rest)
-valued option words = with_value None words
+    if bytes_eq first option then value_and_rest (Some word) rest else value_and_rest None (first ∷ word ∷ rest)
+valued option words = value_and_rest None words
 
 -- no file has such a name
 abbrev pub is_option : List ℕ → Bool
@@ -59,12 +59,12 @@ of_message locale rules words = None
 abbrev pub with_rules : Option (List ℕ) → Valued → Option Saying
 with_rules locale found = of_message locale found.value found.rest
 
-abbrev pub with_locale : Option (List ℕ) → Valued → Option Saying
-with_locale rules found = of_message found.value rules found.rest
+abbrev pub saying_with_locale : Option (List ℕ) → Valued → Option Saying
+saying_with_locale rules found = of_message found.value rules found.rest
 
 -- `--locale LOCALE`, and then `--rules FILE`, or these in the other order; each may be absent
 abbrev pub behind_rules : Valued → Option Saying
-behind_rules found = with_locale found.value (valued (codes "--locale") found.rest)
+behind_rules found = saying_with_locale found.value (valued (codes "--locale") found.rest)
 
 abbrev pub behind_locale : List (List ℕ) → Valued → Option Saying
 behind_locale words found =

@@ -38,13 +38,13 @@ BeginWithGiven [] = ⊥
 BeginWithGiven (word ∷ words) = IsTrue (is_some (given_of word))
 
 -- the beginning of a plural or an ordinal of the argument with a name
-abbrev pub IsNumber : PatternPiece → List ℕ → Type 0
-IsNumber (Begin kind other offset) name = (kind ≢ Select) × (other ≡ name)
-IsNumber _ name = ⊥
+abbrev pub BeginsNumberArgument : PatternPiece → List ℕ → Type 0
+BeginsNumberArgument (Begin kind other offset) name = (kind ≢ Select) × (other ≡ name)
+BeginsNumberArgument _ name = ⊥
 
 -- the pattern has a plural or an ordinal of the argument
 abbrev pub TakesNumber : List Part → List ℕ → Type 0
-TakesNumber parts name = (index : ℕ) × (part : Part) × (slice_get parts index ≡ Some part) × IsNumber part.piece name
+TakesNumber parts name = (index : ℕ) × (part : Part) × (slice_get parts index ≡ Some part) × BeginsNumberArgument part.piece name
 
 -- the argument that a word gives
 abbrev pub IsArgumentOf : List Part → GivenWord → Argument → Type 0

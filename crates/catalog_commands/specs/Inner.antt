@@ -1,4 +1,3 @@
 -- No definitions of the subject: views, and what private functions tell.
 pub mod KeyedViews
-pub mod LocaleViews
 pub mod WordViews

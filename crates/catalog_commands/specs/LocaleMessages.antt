@@ -1,5 +1,5 @@
 -- The messages of a locale in a document (docs/TRANSLATORS.md), and its patterns.
---     messages_in named document      the messages of the locale that is named, or of the only one
+--     locale_messages_in named document      the messages of the locale that is named, or of the only one
 --     patterns_in messages      the patterns, if nothing else would be packed
 use Rattle.std.specs.Prelude.{ℕ, List, Option, Some, None, Result, Ok, Err, Bool, true, false, codes, if◌then◌else◌}
 use Rattle.catalog_commands.specs.declared.locales.MessagesFault.{MessagesFault}
@@ -32,8 +32,8 @@ messages_among named document None = Err NoLocale
 messages_among None document (Some locales) = only_member locales
 messages_among (Some name) document (Some locales) = member_named name (get name document)
 
-abbrev pub messages_in : Option (List ℕ) → Data → Result OneLocale MessagesFault
-messages_in named document = messages_among named document (as_object document)
+abbrev pub locale_messages_in : Option (List ℕ) → Data → Result OneLocale MessagesFault
+locale_messages_in named document = messages_among named document (as_object document)
 
 -- whether a part is something else than an object without members
 abbrev pub has_members : Option Members → Bool

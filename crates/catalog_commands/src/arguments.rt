@@ -1,9 +1,9 @@
 //! The arguments of a message, as words of a command line.
 
 ghost use Rattle.std.specs.Prelude.{IfOk, MatchBool, map};
-ghost use Rattle.message_format.specs.FormatArguments.{arguments_view};
+ghost use Rattle.message_format.specs.FormatArguments.{named_values_view};
 ghost use Rattle.message_pattern.specs.PatternParts.{piece_view};
-ghost use Rattle.catalog_commands.specs.GivenWords.{AreArgumentsOf, IsNumber, TakesNumber};
+ghost use Rattle.catalog_commands.specs.GivenWords.{AreArgumentsOf, BeginsNumberArgument, TakesNumber};
 ghost use Rattle.catalog_commands.specs.Inner.KeyedViews.{word_view};
 
 use message_format::{Argument, Value};
@@ -27,7 +27,7 @@ pub fn arguments_of<'a>(
     pattern: &PackedPattern<'_>,
     words: &[Word<'a>],
 ) -> Result<Vec<Argument<'a>>, AllocError>
-    ensures { IfOk result (λ arguments. AreArgumentsOf pattern.now (map word_view words.now) (arguments_view arguments.items)) }
+    ensures { IfOk result (λ arguments. AreArgumentsOf pattern.now (map word_view words.now) (named_values_view arguments.items)) }
 {
     let mut arguments = Vec::with_capacity(alloc, words.len())?;
     for word in words {
@@ -58,7 +58,7 @@ pub fn takes_number(pattern: &PackedPattern<'_>, name: &str) -> bool
 
 // Whether a piece begins a plural or an ordinal of the argument with this name.
 fn is_number(piece: Piece<'_>, name: &str) -> bool
-    ensures { MatchBool result (IsNumber (piece_view piece.entry) name.now) (IsNumber (piece_view piece.entry) name.now → ⊥) }
+    ensures { MatchBool result (BeginsNumberArgument (piece_view piece.entry) name.now) (BeginsNumberArgument (piece_view piece.entry) name.now → ⊥) }
 {
     match piece {
         Piece::Begin(ArgumentKind::Plural | ArgumentKind::Ordinal, other, _) => {

@@ -2,7 +2,7 @@
 
 ghost use Rattle.std.specs.Prelude.{◌≡◌, codes, option_map};
 ghost use Rattle.std.specs.Option.{option_copied};
-ghost use Rattle.catalog_commands.specs.CatalogWords.{of_file, of_message, pack_of, say_of, valued, with_locale, with_rules, with_value};
+ghost use Rattle.catalog_commands.specs.CatalogWords.{of_file, of_message, pack_of, say_of, valued, saying_with_locale, with_rules, value_and_rest};
 ghost use Rattle.catalog_commands.specs.Inner.WordViews.{pack_view, say_view, words_view};
 
 // The option that names a locale.
@@ -81,7 +81,7 @@ fn with_rules<'w>(locale: Option<&'w str>, words: &'w [&'w str]) -> Option<SayWo
 
 // What words name behind rules, where a locale may be named.
 fn with_locale<'w>(rules: Option<&'w str>, words: &'w [&'w str]) -> Option<SayWords<'w>>
-    ensures { option_map say_view result ≡ with_locale (option_copied rules.entry) (valued (codes "--locale") (words_view words.now)) }
+    ensures { option_map say_view result ≡ saying_with_locale (option_copied rules.entry) (valued (codes "--locale") (words_view words.now)) }
 {
     let (locale, rest) = valued(LOCALE, words);
     of_message(locale, rules, rest)
@@ -109,7 +109,7 @@ fn of_message<'w>(
 
 // The word behind an option at the front, and the words after it.
 fn valued<'w>(option: &str, words: &'w [&'w str]) -> (Option<&'w str>, &'w [&'w str])
-    ensures { with_value (option_copied result.0) (words_view result.1.now) ≡ valued option.now (words_view words.now) }
+    ensures { value_and_rest (option_copied result.0) (words_view result.1.now) ≡ valued option.now (words_view words.now) }
 {
     match words {
         [first, word, rest @ ..] if *first == option => (Some(*word), rest),

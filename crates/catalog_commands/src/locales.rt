@@ -3,8 +3,8 @@
 ghost use Rattle.std.specs.Prelude.{◌≡◌, option_map};
 ghost use Rattle.std.specs.Option.{option_copied};
 ghost use Rattle.std.specs.Result.{result_map_both};
-ghost use Rattle.catalog_commands.specs.LocaleMessages.{has_members, has_messages, member_named, messages_in, only_member, patterns_in};
-ghost use Rattle.catalog_commands.specs.Inner.LocaleViews.{locale_view, value_view};
+ghost use Rattle.catalog_commands.specs.LocaleMessages.{has_members, has_messages, member_named, locale_messages_in, only_member, patterns_in};
+ghost use Rattle.catalog_commands.specs.Inner.KeyedViews.{locale_view, json_value_view};
 ghost use Rattle.serde_json.specs.Find.{as_object};
 ghost use Rattle.serde_json.specs.View.{members_view, view};
 
@@ -42,7 +42,7 @@ pub fn messages_in<'a>(
     document: &'a Value,
     named: Option<&'a str>,
 ) -> Result<LocaleMessages<'a>, MessagesFault>
-    ensures { result_map_both locale_view (λ f. f) result ≡ messages_in (option_copied named.entry) (view document.now) }
+    ensures { result_map_both locale_view (λ f. f) result ≡ locale_messages_in (option_copied named.entry) (view document.now) }
 {
     let Some(locales) = document.as_object() else {
         return Err(MessagesFault::NoLocale);
@@ -59,7 +59,7 @@ pub fn messages_in<'a>(
 /// Returns the patterns among the messages of a locale, if it has no others: those that are given as
 /// forms aren't packed. It allocates nothing.
 pub fn patterns_in(messages: &Value) -> Result<&Value, MessagesFault>
-    ensures { result_map_both value_view (λ f. f) result ≡ patterns_in (view messages.now) }
+    ensures { result_map_both json_value_view (λ f. f) result ≡ patterns_in (view messages.now) }
 {
     if has_messages(messages.get("cardinal")) {
         return Err(MessagesFault::CardinalForms);
@@ -92,7 +92,7 @@ fn only_member(locales: &Map<String, Value>) -> Result<LocaleMessages<'_>, Messa
 
 // Whether a part is there, and isn't an object without members.
 fn has_messages(part: Option<&Value>) -> bool
-    ensures { result ≡ has_messages (option_map value_view part.entry) }
+    ensures { result ≡ has_messages (option_map json_value_view part.entry) }
 {
     match part {
         Some(part) => has_members(part),

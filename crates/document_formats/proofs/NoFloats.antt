@@ -7,10 +7,10 @@ use Rattle.serde_json.specs.Written.{has_float, items_have_float}
 use Rattle.document_report.specs.DocumentFindings.{Finding}
 use Rattle.document_report.specs.DocumentPlaces.{FindingPlace, at_document, at_key, at_locale, at_parent, at_parents, at_part, at_text}
 use Rattle.document_notes.specs.DocumentNotes.{NoteAt, on_key, on_rule}
-use Rattle.document_formats.specs.DocumentObjects.{finding_data_in, place_data}
+use Rattle.document_formats.specs.DocumentObjects.{finding_data_in, document_place_data}
 use Rattle.document_formats.specs.NotedFormats.{note_data_in, note_place_data}
 
-place_without : (place : FindingPlace) → has_float (place_data place) ≡ false
+place_without : (place : FindingPlace) → has_float (document_place_data place) ≡ false
 place_without at_document = refl
 place_without (at_part key) = refl
 place_without at_parents = refl

@@ -20,9 +20,9 @@ use Rattle.document_report.specs.declared.counts.Counts.{Counts}
 use Rattle.document_report.specs.declared.report.Report.{Report}
 use Rattle.finding_formats.proofs.LineLemmas.{lines_tell}
 use Rattle.finding_formats.proofs.PlainData.{IsLineValue, IsPlain}
-use Rattle.document_formats.specs.DocumentLineLaws.{CountsFit, LinesTellReports, Shown, shown}
+use Rattle.document_formats.specs.DocumentLineLaws.{CountsFit, LinesTellReports, Shown, shown_finding}
 use Rattle.document_formats.specs.DocumentLines.{report_data}
-use Rattle.document_formats.specs.DocumentObjects.{counts_data, finding_data, place_data}
+use Rattle.document_formats.specs.DocumentObjects.{document_counts_data, document_finding_data, document_place_data}
 
 -- ---- What stands under a key
 
@@ -82,7 +82,7 @@ place_of_kind word d =
 place_in : Data → FindingPlace
 place_in d = place_of_kind (text_at (codes "kind") d) d
 
-place_again : (place : FindingPlace) → place_in (place_data place) ≡ place
+place_again : (place : FindingPlace) → place_in (document_place_data place) ≡ place
 unfolding place_in
 place_again at_document = refl
 place_again (at_part key) = refl
@@ -103,13 +103,13 @@ shown_in d = record {
   text = text_at (codes "text") (value_at (codes "cause") d);
 }
 
-shown_again : (f : Finding) → shown_in (finding_data f) ≡ shown f
+shown_again : (f : Finding) → shown_in (document_finding_data f) ≡ shown_finding f
 shown_again f =
-    ap (λ (place : FindingPlace). let one : Shown = record { place = place; code = (shown f).code; text = (shown f).text } in one)
+    ap (λ (place : FindingPlace). let one : Shown = record { place = place; code = (shown_finding f).code; text = (shown_finding f).text } in one)
     (place_again f.place)
 
--- so the object tells what is shown of the finding
-object_tells : (f g : Finding) → finding_data f ≡ finding_data g → shown f ≡ shown g
+-- so the object tells what is shown_finding of the finding
+object_tells : (f g : Finding) → document_finding_data f ≡ document_finding_data g → shown_finding f ≡ shown_finding g
 object_tells f g same = sym (shown_again f) ∙ ap shown_in same ∙ shown_again g
 
 -- ---- The objects are plain, and nest little
@@ -118,7 +118,7 @@ record IsPart (d : Data) : Type 0 where
   pub plain : IsPlain d
   pub shallow : tree.depth (outline d) ≤ 2
 
-place_part : (place : FindingPlace) → IsPart (place_data place)
+place_part : (place : FindingPlace) → IsPart (document_place_data place)
 place_part at_document = record { plain = (tt, tt); shallow = lit≤ tt }
 place_part (at_part key) = record { plain = (tt, (tt, tt)); shallow = lit≤ tt }
 place_part at_parents = record { plain = (tt, tt); shallow = lit≤ tt }
@@ -127,7 +127,7 @@ place_part (at_locale l) = record { plain = (tt, (tt, (tt, tt))); shallow = lit�
 place_part (at_text l category) = record { plain = (tt, (tt, (tt, (tt, tt)))); shallow = lit≤ tt }
 place_part (at_key l key) = record { plain = (tt, (tt, (tt, (tt, tt)))); shallow = lit≤ tt }
 
-finding_line_value : (f : Finding) → IsLineValue (finding_data f)
+finding_line_value : (f : Finding) → IsLineValue (document_finding_data f)
 finding_line_value f =
     let place = place_part f.place in
     record {
@@ -135,30 +135,30 @@ finding_line_value f =
       shallow = omega (arith, place.shallow);
     }
 
-findings_line_values : (fs : List Finding) → All IsLineValue (map finding_data fs)
+findings_line_values : (fs : List Finding) → All IsLineValue (map document_finding_data fs)
 findings_line_values [] = All-nil IsLineValue
 findings_line_values (f ∷ fs) =
-    All-cons IsLineValue (finding_data f) (map finding_data fs) (finding_line_value f) (findings_line_values fs)
+    All-cons IsLineValue (document_finding_data f) (map document_finding_data fs) (finding_line_value f) (findings_line_values fs)
 
-counts_line_value : (counts : Counts) → CountsFit counts → IsLineValue (counts_data counts)
+counts_line_value : (counts : Counts) → CountsFit counts → IsLineValue (document_counts_data counts)
 counts_line_value counts h = record { plain = ((h.faults, (h.locales, (h.numbers, (h.rules, tt)))), tt); shallow = lit≤ tt }
 
 report_line_values : (report : Report) → CountsFit (counts_in report) → All IsLineValue (report_data report)
 report_line_values report h =
-    All-append IsLineValue (map finding_data (findings_in report)) (counts_data (counts_in report) ∷ [])
+    All-append IsLineValue (map document_finding_data (findings_in report)) (document_counts_data (counts_in report) ∷ [])
     (findings_line_values (findings_in report))
-    (All-cons IsLineValue (counts_data (counts_in report)) [] (counts_line_value (counts_in report) h) (All-nil IsLineValue))
+    (All-cons IsLineValue (document_counts_data (counts_in report)) [] (counts_line_value (counts_in report) h) (All-nil IsLineValue))
 
 -- ---- The objects tell the report
 
 -- an object of a finding has a cause, and one of counts has none
-not_counts : (f : Finding) (counts : Counts) → finding_data f ≡ counts_data counts → ⊥
+not_counts : (f : Finding) (counts : Counts) → document_finding_data f ≡ document_counts_data counts → ⊥
 not_counts f counts same = let found = ap (get (codes "cause")) same in cc
 
 abbrev counts_of : ℕ → ℕ → ℕ → ℕ → Counts
 counts_of locales rules numbers faults = record { locales = locales; rules = rules; numbers = numbers; faults = faults }
 
-counts_tell : (c d : Counts) → counts_data c ≡ counts_data d → c ≡ d
+counts_tell : (c d : Counts) → document_counts_data c ≡ document_counts_data d → c ≡ d
 counts_tell c d same =
     let faults : c.faults ≡ d.faults = cc in
     let locales : c.locales ≡ d.locales = cc in
@@ -168,22 +168,22 @@ counts_tell c d same =
     ∙ ap (λ (n : ℕ). counts_of d.locales d.rules n c.faults) numbers ∙ ap (λ (n : ℕ). counts_of d.locales d.rules d.numbers n) faults
 
 record SameShown (fs gs : List Finding) (c d : Counts) : Type 0 where
-  findings : map shown fs ≡ map shown gs
+  findings : map shown_finding fs ≡ map shown_finding gs
   counts : c ≡ d
 
 objects_tell : (fs gs : List Finding) (c d : Counts)
-    → map finding_data fs ++ (counts_data c ∷ []) ≡ map finding_data gs ++ (counts_data d ∷ []) → SameShown fs gs c d
-objects_tell [] [] c d same = let last : counts_data c ≡ counts_data d = cc in record { findings = refl; counts = counts_tell c d last }
-objects_tell [] (g ∷ gs) c d same = let first : finding_data g ≡ counts_data c = cc in absurd (not_counts g c first)
-objects_tell (f ∷ fs) [] c d same = let first : finding_data f ≡ counts_data d = cc in absurd (not_counts f d first)
+    → map document_finding_data fs ++ (document_counts_data c ∷ []) ≡ map document_finding_data gs ++ (document_counts_data d ∷ []) → SameShown fs gs c d
+objects_tell [] [] c d same = let last : document_counts_data c ≡ document_counts_data d = cc in record { findings = refl; counts = counts_tell c d last }
+objects_tell [] (g ∷ gs) c d same = let first : document_finding_data g ≡ document_counts_data c = cc in absurd (not_counts g c first)
+objects_tell (f ∷ fs) [] c d same = let first : document_finding_data f ≡ document_counts_data d = cc in absurd (not_counts f d first)
 objects_tell (f ∷ fs) (g ∷ gs) c d same =
-    let first : finding_data f ≡ finding_data g = cc in
-    let rest : map finding_data fs ++ (counts_data c ∷ []) ≡ map finding_data gs ++ (counts_data d ∷ []) = cc in
-    let one : shown f ≡ shown g = object_tells f g first in
+    let first : document_finding_data f ≡ document_finding_data g = cc in
+    let rest : map document_finding_data fs ++ (document_counts_data c ∷ []) ≡ map document_finding_data gs ++ (document_counts_data d ∷ []) = cc in
+    let one : shown_finding f ≡ shown_finding g = object_tells f g first in
     let others = objects_tell fs gs c d rest in
-    let all : map shown fs ≡ map shown gs = others.findings in
+    let all : map shown_finding fs ≡ map shown_finding gs = others.findings in
     record {
-      findings = ap (λ (s : Shown). s ∷ map shown fs) one ∙ ap (λ (ss : List Shown). shown g ∷ ss) all;
+      findings = ap (λ (s : Shown). s ∷ map shown_finding fs) one ∙ ap (λ (ss : List Shown). shown_finding g ∷ ss) all;
       counts = others.counts;
     }
 

@@ -7,6 +7,14 @@ use Rattle.finding_formats.specs.FindingFormats.{format_named}
 use Rattle.finding_formats.specs.declared.format.Format.{Format}
 use Rattle.finding_formats.specs.declared.format.Format.TheVariants.{Text}
 
+-- ---- the words that name only a format
+
+-- without words it is text; `--format json`
+abbrev pub format_in : List (List ℕ) → Option Format
+format_in [] = Some Text
+format_in (option ∷ word ∷ []) = if bytes_eq option (codes "--format") then format_named word else None
+format_in words = None
+
 pub data Asked : Type 0 where
   help : Asked
   version : Asked

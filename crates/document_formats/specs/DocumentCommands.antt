@@ -5,9 +5,9 @@ use Rattle.message_report.specs.declared.severity.Severity.TheVariants.{Error}
 use Rattle.document_report.specs.DocumentFindings.{Finding, finding_line}
 use Rattle.document_report.specs.ReportText.{findings_in}
 use Rattle.document_report.specs.declared.report.Report.{Report}
-use Rattle.finding_formats.specs.LocatedCommands.{located_commands}
+use Rattle.finding_formats.specs.WorkflowCommands.{located_commands}
 use Rattle.finding_formats.specs.LocatedFindings.{Located, Notice, told_notice}
-use Rattle.document_formats.specs.DocumentCodes.{code_name, code_of}
+use Rattle.document_formats.specs.DocumentCodes.{document_code_name, document_code_of}
 use Rattle.document_formats.specs.DocumentObjects.{input_name}
 
 -- a text with a code, told of a file
@@ -23,7 +23,7 @@ file_command file code text = located_commands (file_located file code text ∷ 
 
 -- `::error file=cldr.json,title=no-other::cardinal ru: no other`
 abbrev pub finding_command_in : List ℕ → Finding → List ℕ
-finding_command_in file f = file_command file (code_name (code_of f.cause)) (finding_line f)
+finding_command_in file f = file_command file (document_code_name (document_code_of f.cause)) (finding_line f)
 
 abbrev pub file_report_commands : List ℕ → Report → List ℕ
 file_report_commands file report = flat_map (finding_command_in file) (findings_in report)

@@ -2,13 +2,12 @@
 --     LinesTellReports      of each finding its place, its code and what is printed of its cause, in
 --         their order, and the counts
 use Rattle.std.specs.Prelude.{◌≡◌, ℕ, ◌<◌, ◌^◌, List, map}
-use Rattle.document_report.specs.DocumentCauses.{cause_text}
-use Rattle.document_report.specs.DocumentFindings.{Finding}
+use Rattle.document_report.specs.DocumentFindings.{document_cause_text, Finding}
 use Rattle.document_report.specs.DocumentPlaces.{FindingPlace}
 use Rattle.document_report.specs.ReportText.{counts_in, findings_in}
 use Rattle.document_report.specs.declared.counts.Counts.{Counts}
 use Rattle.document_report.specs.declared.report.Report.{Report}
-use Rattle.document_formats.specs.DocumentCodes.{code_name, code_of}
+use Rattle.document_formats.specs.DocumentCodes.{document_code_name, document_code_of}
 use Rattle.document_formats.specs.DocumentLines.{report_lines}
 
 -- what a line tells of a finding
@@ -17,8 +16,8 @@ pub record Shown : Type 0 where
   pub code : List ℕ
   pub text : List ℕ
 
-abbrev pub shown : Finding → Shown
-shown f = record { place = f.place; code = code_name (code_of f.cause); text = cause_text f.cause }
+abbrev pub shown_finding : Finding → Shown
+shown_finding f = record { place = f.place; code = document_code_name (document_code_of f.cause); text = document_cause_text f.cause }
 
 -- counts, as the code's types hold them
 pub record CountsFit (counts : Counts) : Type 0 where
@@ -29,7 +28,7 @@ pub record CountsFit (counts : Counts) : Type 0 where
 
 -- two reports tell the same
 pub record TellTheSame (a b : Report) : Type 0 where
-  pub findings : map shown (findings_in a) ≡ map shown (findings_in b)
+  pub findings : map shown_finding (findings_in a) ≡ map shown_finding (findings_in b)
   pub counts : counts_in a ≡ counts_in b
 
 -- the same lines are printed only for reports that tell the same

@@ -1,7 +1,7 @@
 -- The text of the report of a file: the lines of the report of its document, each after the file's name.
 use Rattle.std.specs.Prelude.{ℕ, List, ◌++◌, codes}
 use Rattle.std.specs.List.{flat_map}
-use Rattle.plural_documents.specs.FirstLines.{ended_line}
+use Rattle.plural_documents.specs.PrintedKeys.{ended_line}
 use Rattle.document_report.specs.DocumentFindings.{Finding, finding_line}
 use Rattle.document_report.specs.ReportText.{counts_line, counts_in, findings_in}
 use Rattle.document_report.specs.declared.counts.Counts.{Counts}

@@ -7,12 +7,10 @@ pub mod DocumentLines
 pub mod DocumentLog
 pub mod DocumentCommands
 pub mod FileText
-pub mod DocumentFormats
 pub mod NotedLog
 pub mod NotedFormats
 pub mod DocumentLineLaws
 -- words
-pub mod FormatWords
 pub mod CheckWords
 -- not definitions of the subject
 pub mod Inner

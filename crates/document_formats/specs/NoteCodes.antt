@@ -6,7 +6,7 @@ use Rattle.document_notes.specs.DocumentNotes.{NoteAt, on_key, on_rule}
 use Rattle.finding_formats.specs.FindingCodes.{place_among}
 use Rattle.rule_notes.specs.declared.cause.Cause.{Cause}
 use Rattle.rule_notes.specs.declared.cause.Cause.TheVariants as cause
-use Rattle.document_formats.specs.DocumentCodes.{all_codes}
+use Rattle.document_formats.specs.DocumentCodes.{all_document_codes}
 use Rattle.document_formats.specs.declared.note_code.NoteCode.{NoteCode}
 use Rattle.document_formats.specs.declared.note_code.NoteCode.TheVariants.{RepeatedKey, UpsideDown, NeverTrue, SameCondition, TooLate}
 
@@ -41,4 +41,4 @@ all_note_codes = RepeatedKey ∷ UpsideDown ∷ NeverTrue ∷ SameCondition ∷ 
 
 -- its place in that list, behind the codes of findings
 abbrev pub note_code_place : NoteCode → ℕ
-note_code_place code = length all_codes + place_among (note_code_name code) (map note_code_name all_note_codes)
+note_code_place code = length all_document_codes + place_among (note_code_name code) (map note_code_name all_note_codes)

@@ -9,7 +9,7 @@ use Rattle.document_notes.specs.NotedText.{note_line, note_place_text}
 use Rattle.document_report.specs.ReportText.{findings_in}
 use Rattle.document_report.specs.declared.report.Report.{Report}
 use Rattle.finding_formats.specs.Logs.{location_data, log_text, result_data, rule_data}
-use Rattle.document_formats.specs.DocumentCodes.{all_codes, code_meaning, code_name}
+use Rattle.document_formats.specs.DocumentCodes.{all_document_codes, document_code_meaning, document_code_name}
 use Rattle.document_formats.specs.DocumentLog.{result_in}
 use Rattle.document_formats.specs.NoteCodes.{all_note_codes, note_code_meaning, note_code_name, note_code_of, note_code_place}
 
@@ -28,7 +28,7 @@ noted_results file strict report notes = map (result_in file) (findings_in repor
 
 abbrev pub noted_rules : List Data
 noted_rules =
-    map (λ code. rule_data (code_name code) (code_meaning code)) all_codes
+    map (λ code. rule_data (document_code_name code) (document_code_meaning code)) all_document_codes
     ++ map (λ code. rule_data (note_code_name code) (note_code_meaning code)) all_note_codes
 
 abbrev pub noted_log : List ℕ → Bool → Report → List NoteAt → List ℕ

@@ -1,7 +1,7 @@
 //! The codes of causes.
 
 ghost use Rattle.std.specs.Prelude.{◌≡◌};
-ghost use Rattle.document_formats.specs.DocumentCodes.{code_meaning, code_name, code_of, code_of_entry, code_of_text, code_place};
+ghost use Rattle.document_formats.specs.DocumentCodes.{document_code_meaning, document_code_name, document_code_of, code_of_entry, code_of_text, document_code_place};
 
 use document_report::{Cause, EntryFault};
 use plural_checker::TextFault;
@@ -81,7 +81,7 @@ pub(crate) const ALL_CODES: &[Code] = &[
 impl Code {
     /// Returns the code of a cause.
     pub fn of(cause: &Cause) -> Code
-        ensures { result ≡ code_of cause.now }
+        ensures { result ≡ document_code_of cause.now }
     {
         match cause {
             Cause::NotAPart => Code::NotAPart,
@@ -103,7 +103,7 @@ impl Code {
 
     /// Returns its word.
     pub fn as_str(self) -> &'static str
-        ensures { result.now ≡ code_name self }
+        ensures { result.now ≡ document_code_name self }
     {
         match self {
             Code::NotAPart => "not-a-part",
@@ -132,7 +132,7 @@ impl Code {
 
     // What it means, in a sentence.
     pub(crate) fn meaning(self) -> &'static str
-        ensures { result.now ≡ code_meaning self }
+        ensures { result.now ≡ document_code_meaning self }
     {
         match self {
             Code::NotAPart => "A key of the document names no part.",
@@ -161,7 +161,7 @@ impl Code {
 
     // Its place in the list of rules.
     pub(crate) fn place(self) -> u8
-        ensures { result ≡ code_place self }
+        ensures { result ≡ document_code_place self }
     {
         match self {
             Code::NotAPart => 0,

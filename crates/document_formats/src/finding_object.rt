@@ -1,9 +1,8 @@
 //! Findings as JSON objects.
 
 ghost use Rattle.std.specs.Prelude.{◌≡◌, IfOk, string_bytes};
-ghost use Rattle.document_formats.specs.DocumentObjects.{cause_data, counts_data, counts_data_in, finding_data_in, numbers_data};
-ghost use Rattle.document_report.specs.DocumentCauses.{cause_text};
-ghost use Rattle.document_report.specs.DocumentFindings.{finding_view};
+ghost use Rattle.document_formats.specs.DocumentObjects.{document_cause_data, document_counts_data, counts_data_in, finding_data_in, numbers_data};
+ghost use Rattle.document_report.specs.DocumentFindings.{document_cause_text, finding_view};
 ghost use Rattle.serde_json.specs.View.{view};
 
 use crate::code::Code;
@@ -37,7 +36,7 @@ pub(crate) fn finding_value(
 
 // The object of a cause.
 fn cause_value(alloc: Global, cause: &Cause) -> Result<Value, AllocError>
-    ensures { IfOk result (λ value. view value ≡ cause_data cause.now) }
+    ensures { IfOk result (λ value. view value ≡ document_cause_data cause.now) }
 {
     let text = cause_text(alloc, cause)?;
     json!(in alloc; {"code": Code::of(cause).as_str(), "text": &text})
@@ -45,14 +44,14 @@ fn cause_value(alloc: Global, cause: &Cause) -> Result<Value, AllocError>
 
 // What is printed for a cause.
 fn cause_text(alloc: Global, cause: &Cause) -> Result<String, AllocError>
-    ensures { IfOk result (λ text. string_bytes text ≡ cause_text cause.now) }
+    ensures { IfOk result (λ text. string_bytes text ≡ document_cause_text cause.now) }
 {
     format!(in alloc; "{cause}")
 }
 
 // The object of the line with the counts.
 pub(crate) fn counts_value(alloc: Global, counts: Counts) -> Result<Value, AllocError>
-    ensures { IfOk result (λ value. view value ≡ counts_data counts) }
+    ensures { IfOk result (λ value. view value ≡ document_counts_data counts) }
 {
     let counts = numbers_value(alloc, counts)?;
     json!(in alloc; {"counts": counts})

@@ -1,7 +1,7 @@
 //! Logs of SARIF.
 
 ghost use Rattle.std.specs.Prelude.{◌≡◌, IfOk, string_bytes};
-ghost use Rattle.document_formats.specs.DocumentCodes.{code_meaning, code_name};
+ghost use Rattle.document_formats.specs.DocumentCodes.{document_code_meaning, document_code_name};
 ghost use Rattle.document_formats.specs.DocumentLog.{file_report_log, report_log, result_in};
 ghost use Rattle.document_formats.specs.declared.code.Code as of_codes;
 ghost use Rattle.document_report.specs.DocumentFindings.{finding_view};
@@ -42,7 +42,7 @@ impl ValueMaker<Code> for CodeRules {
 
     ghost seen = { λ code. code };
 
-    ghost data_of = { λ rules code. rule_data (code_name code) (code_meaning code) };
+    ghost data_of = { λ rules code. rule_data (document_code_name code) (document_code_meaning code) };
 
     fn value(&self, alloc: Global, code: &Code) -> Result<Value, AllocError> {
         rule_value(alloc, code.as_str(), code.meaning())

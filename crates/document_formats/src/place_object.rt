@@ -1,7 +1,7 @@
 //! Places as JSON objects.
 
 ghost use Rattle.std.specs.Prelude.{◌≡◌, codes, IfOk};
-ghost use Rattle.document_formats.specs.DocumentObjects.{locale_members, place_data, with_text};
+ghost use Rattle.document_formats.specs.DocumentObjects.{locale_members, document_place_data, with_text_member};
 ghost use Rattle.document_report.specs.DocumentPlaces.{finding_place_view, locale_place_view};
 ghost use Rattle.icu_plurals.specs.Categories.{name_of};
 ghost use Rattle.serde_json.specs.Data.{object};
@@ -15,7 +15,7 @@ use std::alloc::{AllocError, Global};
 
 // The object of a place.
 pub(crate) fn place_value(alloc: Global, place: FindingPlace<'_>) -> Result<Value, AllocError>
-    ensures { IfOk result (λ value. view value ≡ place_data (finding_place_view place.entry)) }
+    ensures { IfOk result (λ value. view value ≡ document_place_data (finding_place_view place.entry)) }
 {
     match place {
         FindingPlace::Document => json!(in alloc; {"kind": "document"}),
@@ -31,7 +31,7 @@ pub(crate) fn place_value(alloc: Global, place: FindingPlace<'_>) -> Result<Valu
 // The object of a locale.
 fn locale_value(alloc: Global, locale: LocalePlace<'_>) -> Result<Value, AllocError>
     ensures { IfOk result (λ value. view value
-        ≡ object (with_text (codes "kind") (codes "locale") (locale_members (locale_place_view locale.entry)))) }
+        ≡ object (with_text_member (codes "kind") (codes "locale") (locale_members (locale_place_view locale.entry)))) }
 {
     json!(in alloc; {"kind": "locale", "locale": locale.locale, "part": locale.part.as_str()})
 }
@@ -43,7 +43,7 @@ fn text_value(
     category: PluralCategory,
 ) -> Result<Value, AllocError>
     ensures { IfOk result (λ value. view value
-        ≡ object (with_text (codes "category") (name_of category) (with_text (codes "kind") (codes "text")
+        ≡ object (with_text_member (codes "category") (name_of category) (with_text_member (codes "kind") (codes "text")
         (locale_members (locale_place_view locale.entry))))) }
 {
     json!(in alloc; {
@@ -57,7 +57,7 @@ fn text_value(
 // The object of a key of a locale.
 fn key_value(alloc: Global, locale: LocalePlace<'_>, key: &str) -> Result<Value, AllocError>
     ensures { IfOk result (λ value. view value
-        ≡ object (with_text (codes "key") key.now (with_text (codes "kind") (codes "key")
+        ≡ object (with_text_member (codes "key") key.now (with_text_member (codes "kind") (codes "key")
         (locale_members (locale_place_view locale.entry))))) }
 {
     json!(in alloc; {

@@ -1,7 +1,7 @@
 //! The report of a document, or of a file, in a format.
 
 ghost use Rattle.std.specs.Prelude.{◌≡◌, IfOk, string_bytes};
-ghost use Rattle.document_formats.specs.DocumentFormats.{file_report_as, report_as};
+ghost use Rattle.document_formats.specs.NotedFormats.{file_report_as, report_as};
 
 use crate::commands::{file_commands, report_commands};
 use crate::file_text::file_text;
@@ -29,7 +29,7 @@ pub fn print(alloc: Global, format: Format, report: &Report<'_>) -> Result<Strin
 pub struct DocumentFormat(pub Format);
 
 impl ReportPrinter for DocumentFormat {
-    ghost use Rattle.document_formats.specs.DocumentFormats.{report_as};
+    ghost use Rattle.document_formats.specs.NotedFormats.{report_as};
 
     ghost text_of = { λ printer. report_as printer.0 };
 
@@ -67,7 +67,7 @@ pub struct FileFormat<'a> {
 }
 
 impl<'a> ReportPrinter for FileFormat<'a> {
-    ghost use Rattle.document_formats.specs.DocumentFormats.{file_report_as};
+    ghost use Rattle.document_formats.specs.NotedFormats.{file_report_as};
 
     ghost text_of = { λ printer. file_report_as printer.file.now printer.format };
 

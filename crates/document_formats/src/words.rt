@@ -1,9 +1,8 @@
 //! The words of the command line.
 
 ghost use Rattle.std.specs.Prelude.{◌≡◌, ◌∷◌, [], map, option_map};
-ghost use Rattle.document_formats.specs.FormatWords.{format_in};
-ghost use Rattle.document_formats.specs.CheckWords.{asked_by, asked_by_format, asked_by_word, asked_of_files, option_among};
-ghost use Rattle.document_formats.specs.Inner.WordViews.{asked_view, words_view};
+ghost use Rattle.document_formats.specs.CheckWords.{format_in, asked_by, asked_by_format, asked_by_word, asked_of_files, option_among};
+ghost use Rattle.document_formats.specs.Inner.WordViews.{asked_view, check_words_view};
 
 use crate::word_fault::WordFault;
 use finding_formats::Format;
@@ -37,7 +36,7 @@ pub enum Asked<'w> {
 ///
 /// The error names the first word that is wrong, and says why.
 pub fn asked_by<'w>(words: &'w [&'w str]) -> Result<Asked<'w>, WordFault<'w>>
-    ensures { asked_view result ≡ asked_by (words_view words.now) }
+    ensures { asked_view result ≡ asked_by (check_words_view words.now) }
 {
     match words {
         [] => of_files(Format::Text, words),
@@ -54,7 +53,7 @@ pub fn asked_by<'w>(words: &'w [&'w str]) -> Result<Asked<'w>, WordFault<'w>>
 
 // What is asked by a word that stands alone.
 fn of_word<'w>(word: &'w str, words: &'w [&'w str]) -> Result<Asked<'w>, WordFault<'w>>
-    requires { words_view words.now ≡ word.now ∷ [] }
+    requires { check_words_view words.now ≡ word.now ∷ [] }
     ensures { asked_view result ≡ asked_by_word word.now }
 {
     if word == "--help" {
@@ -70,7 +69,7 @@ fn of_word<'w>(word: &'w str, words: &'w [&'w str]) -> Result<Asked<'w>, WordFau
 
 // What is asked by the word of a format and those after it.
 fn of_format<'w>(word: &'w str, files: &'w [&'w str]) -> Result<Asked<'w>, WordFault<'w>>
-    ensures { asked_view result ≡ asked_by_format word.now (words_view files.now) }
+    ensures { asked_view result ≡ asked_by_format word.now (check_words_view files.now) }
 {
     match Format::from_word(word) {
         Some(format) => of_files(format, files),
@@ -80,7 +79,7 @@ fn of_format<'w>(word: &'w str, files: &'w [&'w str]) -> Result<Asked<'w>, WordF
 
 // What is asked by the names of files.
 fn of_files<'w>(format: Format, files: &'w [&'w str]) -> Result<Asked<'w>, WordFault<'w>>
-    ensures { asked_view result ≡ asked_of_files format (words_view files.now) }
+    ensures { asked_view result ≡ asked_of_files format (check_words_view files.now) }
 {
     match option_among(files) {
         Some(option) => Err(WordFault::Option(option)),
@@ -90,7 +89,7 @@ fn of_files<'w>(format: Format, files: &'w [&'w str]) -> Result<Asked<'w>, WordF
 
 // The first word that begins as an option does.
 fn option_among<'w>(words: &[&'w str]) -> Option<&'w str>
-    ensures { option_map (λ word. word.now) result ≡ option_among (words_view words.now) }
+    ensures { option_map (λ word. word.now) result ≡ option_among (check_words_view words.now) }
 {
     let mut rest = words;
     while let [word, after @ ..] = rest {

@@ -1,4 +1,3 @@
-pub mod LongNames
 -- the parents, and their chains
 pub mod ParentRows
 pub mod ChainSteps

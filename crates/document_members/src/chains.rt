@@ -3,7 +3,7 @@
 ghost use Rattle.std.specs.Prelude.{◌≡◌, ◌<◌, ◌≤◌, ℕ, List, Option, [], IfOk, IfSome, MatchBool, is_some, option_map};
 ghost use Rattle.std.specs.List.{All};
 ghost use Rattle.document_members.specs.ChainSteps.{AreKnown, HasSteps, IsKnown, short_next};
-ghost use Rattle.document_members.specs.Inner.ChainStops.{IsStop};
+ghost use Rattle.document_members.specs.Inner.Rows.{IsStop};
 ghost use Rattle.document_members.specs.ParentRows.{named_parent};
 ghost use Rattle.plural_fallback.specs.FirstKeys.{locale_at};
 

@@ -1,7 +1,7 @@
 //! Names that are long.
 
 ghost use Rattle.std.specs.Prelude.{◌≡◌};
-ghost use Rattle.document_members.specs.LongNames.{is_long_name};
+ghost use Rattle.document_members.specs.ChainSteps.{is_long_name};
 
 // The most bytes of a name that isn't long.
 pub(crate) const MOST_NAME_BYTES: usize = 255;

@@ -9,7 +9,7 @@ use Rattle.std.specs.Prelude.{◌≡◌, ℕ, List, [], ◌++◌, map, None, Res
 use Rattle.document_report.specs.CheckedDocument.{members_at}
 use Rattle.document_report.specs.DocumentPlaces.{LocalePlace, locale_place_view}
 use Rattle.document_report.specs.DocumentReport.{all_texts_in}
-use Rattle.plural_documents.specs.FoundMembers.{HasGrownBy, IsFoundInMembers}
+use Rattle.plural_documents.specs.Steps.{HasGrownBy, IsFoundInMembers}
 use Rattle.plural_documents.specs.Inputs.{json_of}
 use Rattle.plural_documents.specs.RepeatedKeys.{AreRepeatedInBytes, RepeatedAt, repeated_view}
 use Rattle.plural_documents.specs.declared.JsonTextError.{JsonTextError}
@@ -22,18 +22,18 @@ use Rattle.serde_json.specs.Data.{Data}
 use Rattle.document_notes.specs.declared.document_note.DocumentNote.{DocumentNote}
 use Rattle.document_notes.specs.declared.document_note.DocumentNote.TheVariants as code
 
--- on a rule of a locale; on a key, behind those that lead to its object
+-- on a rule of a locale; on a key, notes_together those that lead to its object
 pub data NoteAt : Type 0 where
   on_rule : LocalePlace → Note → NoteAt
   on_key : RepeatedAt → NoteAt
 
 -- one list after another
-abbrev pub behind : List NoteAt → List NoteAt → List NoteAt
-behind first second = first ++ second
+abbrev pub notes_together : List NoteAt → List NoteAt → List NoteAt
+notes_together first second = first ++ second
 
 -- the list has grown by some notes
 abbrev pub Gathers : (List NoteAt → Type 0) → List NoteAt → List NoteAt → Type 0
-Gathers = HasGrownBy behind
+Gathers = HasGrownBy notes_together
 
 -- ---- A document
 
@@ -42,12 +42,12 @@ IsNotedInRules part locale value notes =
     (own : List Note) × AreNotesOf (all_texts_in value).five own × (notes ≡ map (on_rule (record { part = part; locale = locale })) own)
 
 abbrev pub IsNotedInPart : Data → Part → List NoteAt → Type 0
-IsNotedInPart document part = IsFoundInMembers [] behind (IsNotedInRules part) (members_at part document)
+IsNotedInPart document part = IsFoundInMembers [] notes_together (IsNotedInRules part) (members_at part document)
 
 abbrev pub AreNotesIn : Data → List NoteAt → Type 0
 AreNotesIn document notes =
     (cardinal ordinal : List NoteAt) × IsNotedInPart document Cardinal cardinal × IsNotedInPart document Ordinal ordinal
-    × (notes ≡ behind cardinal ordinal)
+    × (notes ≡ notes_together cardinal ordinal)
 
 -- ---- Its bytes
 
@@ -64,7 +64,7 @@ GivesKeyNotes bytes (Err fault.Memory) = ⊤
 -- those on the keys, and then those of the rules
 abbrev pub AreNotesOfBytes : List ℕ → Data → List NoteAt → Type 0
 AreNotesOfBytes bytes document notes =
-    (on_keys on_rules : List NoteAt) × AreKeyNotesIn bytes on_keys × AreNotesIn document on_rules × (notes ≡ behind on_keys on_rules)
+    (on_keys on_rules : List NoteAt) × AreKeyNotesIn bytes on_keys × AreNotesIn document on_rules × (notes ≡ notes_together on_keys on_rules)
 
 -- ---- Of the code
 

@@ -6,14 +6,13 @@ use Rattle.std.specs.Prelude.{◌≡◌, ℕ, ◌==◌, List, [], ◌∷◌, ◌
 use Rattle.std.specs.Fmt.{decimal}
 use Rattle.std.specs.List.{flat_map}
 use Rattle.document_report.specs.DocumentFindings.{finding_line}
-use Rattle.document_report.specs.DocumentPlaces.{at_text, finding_place_text, named}
+use Rattle.document_report.specs.DocumentPlaces.{at_text, finding_place_text, named_document_place}
 use Rattle.document_report.specs.ReportText.{counts_in, findings_in, report_text}
 use Rattle.document_report.specs.declared.counts.Counts.{Counts}
 use Rattle.document_report.specs.declared.report.Report.{Report}
-use Rattle.plural_documents.specs.FirstLines.{ended_line}
-use Rattle.plural_documents.specs.PrintedKeys.{name_text}
+use Rattle.plural_documents.specs.PrintedKeys.{ended_line, name_text}
 use Rattle.plural_documents.specs.RepeatedKeys.{Path}
-use Rattle.rule_notes.specs.CauseTexts.{cause_text}
+use Rattle.rule_notes.specs.RuleNotes.{note_cause_text}
 use Rattle.document_notes.specs.DocumentNotes.{NoteAt, on_key, on_rule}
 
 -- `cldr.json: ` before a line of a file
@@ -27,7 +26,7 @@ line_in file line = name_in file ++ ended_line line
 -- a key behind those that lead to its object: `cardinal en one`
 abbrev pub keys_text : Path → List ℕ → List ℕ
 keys_text [] key = name_text key
-keys_text (first ∷ path) key = named (name_text first) (keys_text path key)
+keys_text (first ∷ path) key = named_document_place (name_text first) (keys_text path key)
 
 -- the place of a note: `cardinal ru few`
 abbrev pub note_place_text : NoteAt → List ℕ
@@ -35,13 +34,13 @@ note_place_text (on_rule place note) = finding_place_text (at_text place note.ca
 note_place_text (on_key (path, key)) = keys_text path key
 
 -- what is noted: `range 4..2 is upside down`
-abbrev pub note_text : NoteAt → List ℕ
-note_text (on_rule place note) = cause_text note.cause
-note_text (on_key repeated) = codes "key stands more than once"
+abbrev pub document_note_text : NoteAt → List ℕ
+document_note_text (on_rule place note) = note_cause_text note.cause
+document_note_text (on_key repeated) = codes "key stands more than once"
 
 -- `cardinal ru few: note: range 4..2 is upside down`
 abbrev pub note_line : NoteAt → List ℕ
-note_line n = note_place_text n ++ (codes ": note: " ++ note_text n)
+note_line n = note_place_text n ++ (codes ": note: " ++ document_note_text n)
 
 -- nothing, if there is no note
 abbrev pub notes_text : ℕ → List ℕ

@@ -2,8 +2,8 @@
 
 ghost use Rattle.std.specs.Prelude.{◌≡◌, ◌++◌, ◌∷◌, [], codes, IfOk, OnOk, map, string_bytes};
 ghost use Rattle.document_notes.specs.DocumentNotes.{AreNotesIn, Gathers, IsNotedInPart, note_view};
-ghost use Rattle.document_notes.specs.NotedText.{note_line, note_place_text, note_text};
-ghost use Rattle.rule_notes.specs.CauseTexts.{cause_text};
+ghost use Rattle.document_notes.specs.NotedText.{note_line, note_place_text, document_note_text};
+ghost use Rattle.rule_notes.specs.RuleNotes.{note_cause_text};
 ghost use Rattle.serde_json.specs.View.{view};
 
 use crate::key_notes::key_place_text;
@@ -52,7 +52,7 @@ impl DocumentNote<'_> {
     /// Returns what is printed of what is noted: `range 4..2 is upside down`. It allocates; the only
     /// error is out of memory.
     pub fn text(&self, alloc: Global) -> Result<String, AllocError>
-        ensures { IfOk result (λ text. string_bytes text ≡ note_text (note_view self.now)) }
+        ensures { IfOk result (λ text. string_bytes text ≡ document_note_text (note_view self.now)) }
     {
         match self {
             DocumentNote::Rule(_, note) => cause_text(alloc, &note.cause),
@@ -63,7 +63,7 @@ impl DocumentNote<'_> {
 
 // What is printed for what is noted of a rule.
 fn cause_text(alloc: Global, cause: &Cause) -> Result<String, AllocError>
-    ensures { IfOk result (λ text. string_bytes text ≡ cause_text cause.now) }
+    ensures { IfOk result (λ text. string_bytes text ≡ note_cause_text cause.now) }
 {
     format!(in alloc; "{cause}")
 }

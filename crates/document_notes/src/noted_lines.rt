@@ -4,10 +4,9 @@ ghost use Rattle.std.specs.Prelude.{◌≡◌, ◌++◌, codes, IfOk, OnOk, opti
 ghost use Rattle.document_notes.specs.DocumentNotes as noted;
 ghost use Rattle.document_notes.specs.DocumentNotes.{note_view};
 ghost use Rattle.document_notes.specs.NotedText.{counts_with, line_in, name_in, note_line, noted_counts, noted_text, notes_text};
-ghost use Rattle.document_report.specs.DocumentCauses.{cause_text};
+ghost use Rattle.document_report.specs.DocumentFindings.{document_cause_text, finding_line, finding_view};
 ghost use Rattle.document_report.specs.DocumentFindings as listed;
-ghost use Rattle.document_report.specs.DocumentFindings.{finding_line, finding_view};
-ghost use Rattle.plural_documents.specs.FirstLines.{ended_line};
+ghost use Rattle.plural_documents.specs.PrintedKeys.{ended_line};
 
 use crate::document_note::{DocumentNote, DocumentNotes};
 use document_report::{Cause, Counts, Finding, FindingPlace, Report};
@@ -67,7 +66,7 @@ impl<'f, 'a> LinePrinter<Finding<'a>> for NamedFindings<'f, 'a> {
 
 // Appends what is wrong, behind what is printed for the place, and a newline.
 fn push_cause(place: &str, cause: &Cause, text: &mut String) -> Result<(), AllocError>
-    ensures { OnOk result (string_bytes text.new ≡ string_bytes text.old ++ ended_line (place.now ++ (codes ": " ++ cause_text cause.now))) }
+    ensures { OnOk result (string_bytes text.new ≡ string_bytes text.old ++ ended_line (place.now ++ (codes ": " ++ document_cause_text cause.now))) }
 {
     match write!(text, "{place}: {cause}\n") {
         Ok(()) => Ok(()),

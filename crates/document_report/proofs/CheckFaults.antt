@@ -5,11 +5,11 @@ use Rattle.std.specs.Result.{result_and}
 use Rattle.plural_documents.proofs.InputLemmas as faults
 use Rattle.plural_documents.specs.Steps.{◌>>=◌}
 use Rattle.document_report.specs.CheckAnswer.{check_origin}
-use Rattle.document_report.specs.Inner.CheckCalls.{GivesFault, GivesOnly}
+use Rattle.document_report.specs.Inner.CheckCalls.{GivesCheckFault, GivesOnly}
 use Rattle.document_report.specs.declared.error.CheckError.{CheckError}
 
 -- a call that gives a fault of one kind also gives a fault of a wider kind
-pub mapped : (P Q : CheckError → Type 0) → ((fault : CheckError) → P fault → Q fault) → (e : CheckError) → GivesFault P e → GivesFault Q e
+pub mapped : (P Q : CheckError → Type 0) → ((fault : CheckError) → P fault → Q fault) → (e : CheckError) → GivesCheckFault P e → GivesCheckFault Q e
 mapped P Q f e h = faults.mapped (check_origin e) (f e) h
 
 -- `?` passes on the error of the call
@@ -18,7 +18,7 @@ handed_on r e p = p.1 ∙ ap Err p.2
 
 -- a fault of the first step is the fault of both steps
 pub refused_first : {A B D : Type 0} (seen : D → B) (value : Result A CheckError) (next : A → Result B CheckError)
-    (e : CheckError) (r : Result D CheckError) → r ≡ Err e → GivesFault (λ fault. value ≡ Err fault) e
+    (e : CheckError) (r : Result D CheckError) → r ≡ Err e → GivesCheckFault (λ fault. value ≡ Err fault) e
     → GivesOnly seen (value >>= next) r
 refused_first seen value next e r is h =
     rw is (mapped (λ fault. value ≡ Err fault) (λ fault. (value >>= next) ≡ Err fault) (λ fault there. rw there refl) e h)

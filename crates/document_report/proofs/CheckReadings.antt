@@ -7,10 +7,10 @@ use Rattle.serde_json.specs.Find.{as_null, as_object, get}
 use Rattle.serde_json.specs.Written.{has_float}
 use Rattle.plural_documents.specs.PrintedKeys.{name_text}
 use Rattle.document_report.specs.CheckAnswer.{Answer, AnswersDocument, AnswersInputAs, IsCheckAnswered, answer_with, check_origin}
-use Rattle.document_report.specs.CheckedDocument.{document_formed, document_with, has_part_form, locales_formed, object_formed, part_formed, parts_formed, value_in, document_of_bytes}
+use Rattle.document_report.specs.CheckedDocument.{document_formed, document_with, has_part_form, locales_formed, object_formed, part_formed, parts_formed, document_of_input, document_of_bytes}
 use Rattle.document_report.specs.DocumentReport.{IsReportOf}
-use Rattle.plural_documents.specs.Steps.{or_fault, ◌>>=◌}
-use Rattle.document_report.specs.Inner.CheckCalls.{Gives, GivesAfterReading, GivesFault, GivesOnly, answer_view, check_input_fault}
+use Rattle.plural_documents.specs.Steps.{value_or_fault, ◌>>=◌}
+use Rattle.document_report.specs.Inner.CheckCalls.{Gives, GivesAfterReading, GivesCheckFault, GivesOnly, answer_view, check_input_fault}
 use Rattle.plural_fallback.specs.LocalesJson.{part_name}
 use Rattle.document_report.specs.declared.error.CheckError.{CheckError}
 use Rattle.document_report.specs.declared.error.CheckError.TheVariants.{Usage, Read, TooLong, Json, Float, NoObject, Write, Memory}
@@ -21,7 +21,7 @@ use Rattle.document_report.specs.declared.report.Report.{Report}
 use Rattle.document_report.specs.declared.report.Verdict.{Verdict}
 use Rattle.document_report.specs.declared.run.Answer.{Answer as CodeAnswer}
 use Rattle.document_report.proofs.CheckFaults.{mapped}
-use Rattle.plural_documents.specs.Inputs.{GivesInput, IsInput, IsRead, IsReadAfter, IsReadToEnd, input_origin, most_bytes, json_of}
+use Rattle.plural_documents.specs.Inputs.{GivesInput, IsInput, IsReadAfterResult, IsReadAfter, IsReadToEnd, input_origin, most_bytes, json_of}
 use Rattle.plural_documents.specs.declared.InputError.{InputError}
 use Rattle.plural_documents.specs.declared.InputError.TheVariants as cause
 use Rattle.plural_documents.proofs.InputLemmas.{all_is_some, beyond, some_input, within, without_reading}
@@ -78,14 +78,14 @@ document_not_long value h =
         (part_not_long Ordinal ordinal) (λ _. part_not_long Ranges ranges))
 
 -- nor a text that is no JSON
-value_not_long : {A : Type 0} (o : Option A) → or_fault Json o ≡ Err TooLong → ⊥
+value_not_long : {A : Type 0} (o : Option A) → value_or_fault Json o ≡ Err TooLong → ⊥
 value_not_long None h = cc
 value_not_long (Some x) h = cc
 
 -- the value of bytes isn't refused for their length
 pub bytes_not_long : (bytes : List ℕ) → document_of_bytes bytes ≡ Err TooLong → ⊥
 bytes_not_long bytes =
-    steps_not_long (or_fault Json (json_of bytes)) document_with (value_not_long (json_of bytes))
+    steps_not_long (value_or_fault Json (json_of bytes)) document_with (value_not_long (json_of bytes))
     (λ value. steps_not_long (document_formed value) (λ _. Ok value) (document_not_long value) (λ done h. cc))
 
 -- nor is the answer to them
@@ -100,7 +100,7 @@ answer_not_long text_of bytes = by_value (document_of_bytes bytes) (bytes_not_lo
 
 -- a fault of the document is the answer
 pub document_refused : (text_of : Report → List ℕ) (value : Result Data CheckError) (e : CheckError) (r : Result CodeAnswer CheckError)
-    → r ≡ Err e → GivesFault (λ fault. value ≡ Err fault) e → Gives answer_view (AnswersDocument text_of value) r
+    → r ≡ Err e → GivesCheckFault (λ fault. value ≡ Err fault) e → Gives answer_view (AnswersDocument text_of value) r
 document_refused text_of value e r is h =
     rw is (mapped (λ fault. value ≡ Err fault) (λ fault. AnswersDocument text_of value (Err fault)) (λ fault there. rw there refl) e h)
 
@@ -116,7 +116,7 @@ report_answered text_of document report (Err e) is h =
 -- without arguments, only the input matters
 pub without_words : (text_of : Report → List ℕ) (has_words : Bool) (input : List ℕ) (answer : Result Answer CheckError)
     → has_words ≡ false
-    → AnswersDocument text_of (value_in input) answer → AnswersInputAs text_of has_words input answer
+    → AnswersDocument text_of (document_of_input input) answer → AnswersInputAs text_of has_words input answer
 without_words text_of has_words input answer none h = rw none h
 
 -- arguments are a fault
@@ -128,7 +128,7 @@ with_words text_of has_words input some = rw some refl
 
 -- if the input is too long or can't be read, that fault is the answer
 of_input : (text_of : Report → List ℕ) (left : Option (List ℕ)) (e : InputError) → GivesInput left (Err e)
-    → (bytes : List ℕ) × IsInput left bytes × GivesAfterReading (AnswersDocument text_of (value_in bytes)) (Err (check_input_fault e))
+    → (bytes : List ℕ) × IsInput left bytes × GivesAfterReading (AnswersDocument text_of (document_of_input bytes)) (Err (check_input_fault e))
 of_input text_of left cause.Read h = let i = some_input left in (i.0, i.1, tt)
 of_input text_of left cause.TooLong h = (
   h.0,
@@ -141,7 +141,7 @@ of_input text_of left cause.Memory h = let i = some_input left in (i.0, i.1, tt)
 -- `?` passes on such a fault
 pub no_input : (text_of : Report → List ℕ) (left : Option (List ℕ)) (e : InputError) (r : Result CodeAnswer CheckError)
     → r ≡ Err (check_input_fault e) → GivesInput left (Err e)
-    → (bytes : List ℕ) × IsInput left bytes × GivesAfterReading (AnswersDocument text_of (value_in bytes)) r
+    → (bytes : List ℕ) × IsInput left bytes × GivesAfterReading (AnswersDocument text_of (document_of_input bytes)) r
 no_input text_of left e r is h = rw is (of_input text_of left e h)
 
 -- what was read at an error of the input was read at its fault
@@ -153,13 +153,13 @@ read_at old new cause.Memory h = h
 
 -- `?` passes on such a fault
 pub read_on : {B : Type 0} (old new : Option (List ℕ)) (e : InputError) (r : Result B CheckError)
-    → r ≡ Err (check_input_fault e) → IsReadAfter (input_origin e) old new → IsRead check_origin old new r
+    → r ≡ Err (check_input_fault e) → IsReadAfter (input_origin e) old new → IsReadAfterResult check_origin old new r
 read_on old new e r is h = rw is (read_at old new e h)
 
 -- the answer to the bytes is the answer to the input
 pub of_all : (text_of : Report → List ℕ) (whole bytes : List ℕ) → length whole ≤ most_bytes → bytes ≡ whole
     → (r : Result CodeAnswer CheckError) → Gives answer_view (AnswersDocument text_of (document_of_bytes bytes)) r
-    → GivesAfterReading (AnswersDocument text_of (value_in whole)) r
+    → GivesAfterReading (AnswersDocument text_of (document_of_input whole)) r
 of_all text_of whole bytes short same r h =
     let all = subst (λ (read : List ℕ). Gives answer_view (AnswersDocument text_of (document_of_bytes read)) r) same h in
     subst (λ (value : Result Data CheckError). GivesAfterReading (AnswersDocument text_of value) r)
@@ -169,7 +169,7 @@ of_all text_of whole bytes short same r h =
 -- if no answer says that the input is too long, it was read to its end
 pub to_the_end : (IsAnswer : Result Answer CheckError → Type 0) (old new : Option (List ℕ)) → (IsAnswer (Err TooLong) → ⊥)
     → IsReadToEnd old new
-    → (r : Result CodeAnswer CheckError) → Gives answer_view IsAnswer r → IsRead check_origin old new r
+    → (r : Result CodeAnswer CheckError) → Gives answer_view IsAnswer r → IsReadAfterResult check_origin old new r
 to_the_end IsAnswer old new none end (Ok answer) h = end
 to_the_end IsAnswer old new none end (Err Usage) h = end
 to_the_end IsAnswer old new none end (Err Read) h = absurd h

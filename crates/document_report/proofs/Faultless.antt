@@ -38,7 +38,7 @@ use Rattle.document_report.specs.DocumentReport.{faults_of, found_by_check, foun
 use Rattle.document_report.specs.DocumentReport.{found_under_all, has_locale, text_order, texts_at}
 use Rattle.document_report.specs.FaultlessDocuments.{FaultlessDocumentsAreTaken, HasAll}
 use Rattle.document_report.specs.DocumentPlaces.{LocalePlace}
-use Rattle.document_report.specs.FoundInDocuments.{Found, IsFoundInMembers}
+use Rattle.document_report.specs.FoundInDocuments.{Found, IsFoundInDocumentMembers}
 use Rattle.plural_fallback.specs.LocalesJson.{part_name}
 use Rattle.document_report.specs.declared.error.CheckError.{CheckError}
 use Rattle.plural_fallback.specs.declared.locales.Part.{Part}
@@ -58,7 +58,7 @@ abbrev Each : (List ℕ → Data → Type 0) → Members → Type 0
 Each Has no_members = Unit {0}
 Each Has (member key value members) = Has key value × Each Has members
 
-each_faultless : (Is : List ℕ → Data → Found → Type 0) (members : Members) (all : Found) → IsFoundInMembers Is members all
+each_faultless : (Is : List ℕ → Data → Found → Type 0) (members : Members) (all : Found) → IsFoundInDocumentMembers Is members all
     → all.faults ≡ 0 → Each (λ key value. (one : Found) × Is key value one × (one.faults ≡ 0)) members
 each_faultless Is no_members all h none = tt
 each_faultless Is (member key value members) all (first, rest, is, others, whole) none =

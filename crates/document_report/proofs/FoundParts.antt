@@ -11,7 +11,7 @@ use Rattle.icu_plurals.specs.Categories.{name_of}
 use Rattle.plural_checker.specs.declared.Fault.{Fault}
 use Rattle.document_report.specs.DocumentPlaces.{LocalePlace, at_text}
 use Rattle.document_report.specs.DocumentReport.{faults_of, found_told, found_under, found_under_all}
-use Rattle.document_report.specs.FoundInDocuments.{Found, fault_at, nothing_found, together}
+use Rattle.document_report.specs.FoundInDocuments.{Found, document_fault_at, nothing_found, together}
 use Rattle.document_report.specs.declared.cause.Cause.TheVariants.{NoText}
 use Rattle.document_report.proofs.FoundTogether.{nothing-together, together_assoc, two_added}
 
@@ -69,5 +69,5 @@ on_ok (Err e) f h = tt
 -- a value that is neither null nor a text is a fault
 pub no_text : (place : LocalePlace) (category : PluralCategory) (value : Data)
     → is_some (as_null value) ≡ false → is_some (as_str value) ≡ false
-    → found_under place category (Some value) ≡ fault_at (at_text place category) NoText
+    → found_under place category (Some value) ≡ document_fault_at (at_text place category) NoText
 no_text place category value null string = rw (null, string) refl

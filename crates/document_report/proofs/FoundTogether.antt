@@ -1,7 +1,7 @@
 -- What is found, put together.
 use Rattle.std.proofs.Common.{◌≡◌, refl, sym, ap, ◌∙◌}
 use Rattle.std.proofs.Math.Nat.{zero-add}
-pub use Rattle.document_report.specs.Inner.DocumentSums.{together-nothing, together_assoc}
+pub use Rattle.document_report.specs.Inner.CheckCalls.{together-nothing, together_assoc}
 use Rattle.document_report.specs.FoundInDocuments.{Found, nothing_found, together}
 
 -- adding nothing at the beginning changes nothing

@@ -8,10 +8,9 @@ use Rattle.plural_fallback.specs.FirstKeys.{locale_at}
 use Rattle.plural_fallback.specs.LocaleNames.{before_last, key_of}
 use Rattle.plural_fallback.specs.LocalesJson.{keys_in_object, parent_in}
 use Rattle.plural_fallback.specs.declared.first_key.TheConstants.{MOST_LOCALES}
-use Rattle.document_members.specs.ChainSteps.{short_next}
-use Rattle.document_members.specs.LongNames.{is_long_name}
+use Rattle.document_members.specs.ChainSteps.{short_next, is_long_name}
 use Rattle.document_members.specs.ParentRows.{parent_among}
-use Rattle.document_report.specs.FoundInDocuments.{Found, IsFoundInMembers, together}
+use Rattle.document_report.specs.FoundInDocuments.{Found, IsFoundInDocumentMembers, together}
 use Rattle.document_report.specs.ParentFaults.{found_of_chain, found_of_child, found_of_parent, IsFoundInParent}
 
 module _ (f g : List ℕ → Option (List ℕ)) (same : (locale : List ℕ) → f locale ≡ g locale) where
@@ -32,8 +31,8 @@ module _ (f g : List ℕ → Option (List ℕ)) (same : (locale : List ℕ) → 
   same_found locale = rw (same_chain locale MOST_LOCALES) refl
 
   -- the same is found in each member
-  pub same_parents : (members : Members) (found : Found) → IsFoundInMembers (IsFoundInParent f) members found
-      → IsFoundInMembers (IsFoundInParent g) members found
+  pub same_parents : (members : Members) (found : Found) → IsFoundInDocumentMembers (IsFoundInParent f) members found
+      → IsFoundInDocumentMembers (IsFoundInParent g) members found
   same_parents no_members found h = h
   same_parents (member key value members) found (first, rest, is, others, whole) = (
     first,

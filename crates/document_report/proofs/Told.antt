@@ -14,7 +14,7 @@ use Rattle.plural_checker.specs.declared.Fault.{Fault}
 use Rattle.document_report.specs.DocumentFindings.{Finding}
 use Rattle.document_report.specs.DocumentPlaces.{LocalePlace, at_text}
 use Rattle.document_report.specs.DocumentReport.{faults_of, found_told, text_finding}
-use Rattle.plural_documents.specs.FirstLines.{most_told}
+use Rattle.plural_documents.specs.PrintedKeys.{most_told}
 use Rattle.document_report.specs.FoundInDocuments.{Found, faults_alone, findings_alone, rest_of, together}
 use Rattle.document_report.specs.Inner.CheckCalls.{told_after}
 use Rattle.document_report.proofs.FoundTogether.{together_assoc}

@@ -1,11 +1,11 @@
 -- The program's answer to its input, and what it reads and writes.
 --     AnswersInputAs text_of has_words input answer      the answer: the text of a report, printed
 --         so, with its verdict, or the first fault
---     AnswersInput has_words input answer      the same, printed as lines
+--     AnswersInputAsText has_words input answer      the same, printed as lines
 use Rattle.std.specs.Prelude.{◌≡◌, ℕ, ◌==◌, Bool, List, Option, Result, Ok, Err, if◌then◌else◌}
 use Rattle.std.specs.Io.KnownBytes.{Appends, Keeps}
 use Rattle.serde_json.specs.Data.{Data}
-use Rattle.document_report.specs.CheckedDocument.{value_in}
+use Rattle.document_report.specs.CheckedDocument.{document_of_input}
 use Rattle.document_report.specs.DocumentReport.{IsReportOf}
 use Rattle.document_report.specs.ReportText.{report_text}
 use Rattle.plural_documents.specs.Inputs.{IsPartWritten, Origin, from_reader, from_length, from_writer, from_memory, from_answer}
@@ -40,11 +40,11 @@ AnswersDocument text_of (Err fault) answer = answer ≡ Err fault
 
 -- arguments are a fault, which comes before the faults of the input
 abbrev pub AnswersInputAs : (Report → List ℕ) → Bool → List ℕ → Result Answer CheckError → Type 0
-AnswersInputAs text_of has_words input = AnswersDocument text_of (if has_words then Err Usage else value_in input)
+AnswersInputAs text_of has_words input = AnswersDocument text_of (if has_words then Err Usage else document_of_input input)
 
 -- printed as lines
-abbrev pub AnswersInput : Bool → List ℕ → Result Answer CheckError → Type 0
-AnswersInput = AnswersInputAs report_text
+abbrev pub AnswersInputAsText : Bool → List ℕ → Result Answer CheckError → Type 0
+AnswersInputAsText = AnswersInputAs report_text
 
 -- ---- What is read and written
 

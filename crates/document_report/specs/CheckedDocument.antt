@@ -1,22 +1,23 @@
 -- The JSON value of an input whose parts and locales are objects, or the first reason why it has
 -- none (docs/JSON.md).
---     value_in input      the value, or the first fault
+--     document_of_input input      the value, or the first fault
 --     members_at part value      the members of a part, by locale
-use Rattle.std.specs.Prelude.{ℕ, List, Option, Some, None, is_some, Bool, Result, Ok, Err, ⊤, codes}
-use Rattle.std.specs.Prelude.{if◌then◌else◌}
+use Rattle.std.specs.Prelude.{ℕ, List, Option, Some, None, is_some, Bool, Result, Ok, Err, ⊤, codes, if◌then◌else◌, ◌==◌, ◌++◌}
 use Rattle.std.specs.Option.{option_and_then}
 use Rattle.serde_json.specs.Data.{Data, Members, no_members, member}
 use Rattle.serde_json.specs.Find.{get, as_null, as_object}
 use Rattle.serde_json.specs.Written.{has_float}
 use Rattle.plural_documents.specs.Inputs.{within_limit, json_of}
 use Rattle.plural_documents.specs.PrintedKeys.{name_text}
-use Rattle.plural_documents.specs.Steps.{◌>>=◌, or_fault}
+use Rattle.plural_documents.specs.Steps.{◌>>=◌, value_or_fault}
 use Rattle.plural_fallback.specs.LocalesJson.{part_name}
 use Rattle.document_report.specs.declared.error.CheckError.{CheckError}
 use Rattle.document_report.specs.declared.error.CheckError.TheVariants.{TooLong, Json, Float, NoObject}
 use Rattle.plural_fallback.specs.declared.locales.Part.{Part}
 use Rattle.plural_fallback.specs.declared.locales.Part.TheVariants.{Cardinal, Ordinal, Ranges}
 use Rattle.document_report.specs.declared.place.Place.TheVariants as place
+use Rattle.std.specs.List.{list_any}
+use Rattle.document_report.specs.declared.place.Place.{Place}
 
 -- ---- Objects
 
@@ -67,11 +68,11 @@ document_with value = document_formed value >>= λ _. Ok value
 
 -- the value of the bytes
 abbrev pub document_of_bytes : List ℕ → Result Data CheckError
-document_of_bytes bytes = or_fault Json (json_of bytes) >>= document_with
+document_of_bytes bytes = value_or_fault Json (json_of bytes) >>= document_with
 
 -- the value of an input; its length is checked first
-abbrev pub value_in : List ℕ → Result Data CheckError
-value_in input = within_limit TooLong document_of_bytes input
+abbrev pub document_of_input : List ℕ → Result Data CheckError
+document_of_input input = within_limit TooLong document_of_bytes input
 
 -- ---- What a document has
 
@@ -83,3 +84,14 @@ members_or_none (Some members) = members
 -- the members of a part, by locale
 abbrev pub members_at : Part → Data → Members
 members_at part value = members_or_none (option_and_then as_object (get (part_name part) value))
+
+-- ---- names in a document, and the text of a place where an object is expected
+
+abbrev pub has_underscore : List ℕ → Bool
+has_underscore name = list_any (λ byte. byte == 95) name
+
+-- the text of a place; a locale has its printed name
+abbrev pub place_text : Place → List ℕ
+place_text place.Document = codes "document"
+place_text (place.Part part) = part_name part
+place_text (place.Locale part locale) = part_name part ++ codes " " ++ locale

@@ -32,21 +32,21 @@ pub data FindingPlace : Type 0 where
 -- ---- What is printed
 
 -- what has a name at a place
-abbrev pub named : List ℕ → List ℕ → List ℕ
-named place name = place ++ (codes " " ++ name)
+abbrev pub named_document_place : List ℕ → List ℕ → List ℕ
+named_document_place place name = place ++ (codes " " ++ name)
 
 -- `cardinal ru`
 abbrev pub locale_place_text : LocalePlace → List ℕ
-locale_place_text l = named (part_name l.part) (name_text l.locale)
+locale_place_text l = named_document_place (part_name l.part) (name_text l.locale)
 
 abbrev pub finding_place_text : FindingPlace → List ℕ
 finding_place_text at_document = codes "document"
 finding_place_text (at_part key) = name_text key
 finding_place_text at_parents = codes "parents"
-finding_place_text (at_parent locale) = named (codes "parents") (name_text locale)
+finding_place_text (at_parent locale) = named_document_place (codes "parents") (name_text locale)
 finding_place_text (at_locale l) = locale_place_text l
-finding_place_text (at_text l category) = named (locale_place_text l) (name_of category)
-finding_place_text (at_key l key) = named (locale_place_text l) (name_text key)
+finding_place_text (at_text l category) = named_document_place (locale_place_text l) (name_of category)
+finding_place_text (at_key l key) = named_document_place (locale_place_text l) (name_text key)
 
 -- ---- The same of the types of the code
 

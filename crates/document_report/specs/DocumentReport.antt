@@ -21,15 +21,14 @@ use Rattle.plural_checker.specs.LanguageTexts.{SixTexts, has_rule}
 use Rattle.plural_checker.specs.TextChecks.{AreFindingsOf}
 use Rattle.plural_checker.specs.declared.Fault.{Fault}
 use Rattle.plural_checker.specs.declared.Report.{Report as Checked}
-use Rattle.document_members.specs.LongNames.{is_long_name}
-use Rattle.document_report.specs.CheckedDocument.{members_at, members_or_none, table_in}
-use Rattle.plural_documents.specs.FirstLines.{most_told}
+use Rattle.document_members.specs.ChainSteps.{is_long_name}
+use Rattle.document_report.specs.CheckedDocument.{members_at, members_or_none, table_in, has_underscore}
+use Rattle.plural_documents.specs.PrintedKeys.{most_told}
 use Rattle.document_report.specs.DocumentFindings.{Finding}
 use Rattle.document_report.specs.DocumentPlaces.{LocalePlace, at_document, at_key, at_locale, at_part, at_text}
-use Rattle.document_report.specs.FoundInDocuments.{Found, cases_alone, checked_alone, fault_at, finding_at, nothing_found, rest_of, together}
-use Rattle.document_report.specs.FoundInDocuments.{IsFoundInMembers}
+use Rattle.document_report.specs.FoundInDocuments.{Found, cases_alone, checked_alone, document_fault_at, finding_at, nothing_found, rest_of, together}
+use Rattle.document_report.specs.FoundInDocuments.{IsFoundInDocumentMembers}
 use Rattle.document_report.specs.ParentFaults.{IsFoundInParents}
-use Rattle.document_report.specs.Names.{has_underscore}
 use Rattle.plural_fallback.specs.LocalesJson.{part_name}
 use Rattle.document_report.specs.declared.cause.Cause.TheVariants as cause
 use Rattle.document_report.specs.declared.entry.EntryFault.{EntryFault}
@@ -42,11 +41,11 @@ use Rattle.document_report.specs.declared.report.Report.{Report}
 
 -- a long key is a fault
 abbrev pub found_of_length : LocalePlace → Found
-found_of_length place = if is_long_name place.locale then fault_at (at_locale place) cause.LongKey else nothing_found
+found_of_length place = if is_long_name place.locale then document_fault_at (at_locale place) cause.LongKey else nothing_found
 
 -- and so is one with `_`, which CLDR writes where documents have a hyphen
 abbrev pub found_of_underscore : LocalePlace → Found
-found_of_underscore place = if has_underscore place.locale then fault_at (at_locale place) cause.KeyWithUnderscore else nothing_found
+found_of_underscore place = if has_underscore place.locale then document_fault_at (at_locale place) cause.KeyWithUnderscore else nothing_found
 
 abbrev pub found_of_key : LocalePlace → Found
 found_of_key place = together (found_of_length place) (found_of_underscore place)
@@ -62,7 +61,7 @@ abbrev pub found_under : LocalePlace → PluralCategory → Option Data → Foun
 found_under place category None = nothing_found
 found_under place category (Some value) =
     if is_some (as_null value) then nothing_found
-    else (if is_some (as_str value) then one_rule else fault_at (at_text place category) cause.NoText)
+    else (if is_some (as_str value) then one_rule else document_fault_at (at_text place category) cause.NoText)
 
 -- the faults of one category's text
 abbrev pub faults_of : PluralCategory → List Fault → List Fault
@@ -110,7 +109,7 @@ abbrev pub lacks_other : Data → Bool
 lacks_other value = is_absent (get (name_of Other) value)
 
 abbrev pub found_of_other : LocalePlace → Data → Found
-found_of_other place value = if lacks_other value then fault_at (at_locale place) cause.NoOther else nothing_found
+found_of_other place value = if lacks_other value then document_fault_at (at_locale place) cause.NoOther else nothing_found
 
 -- the key names a category
 abbrev pub IsCategoryName : List ℕ → Type 0
@@ -120,7 +119,7 @@ IsCategoryName key = (category : PluralCategory) × (key ≡ name_of category)
 abbrev pub IsFoundInKey : LocalePlace → List ℕ → Data → Found → Type 0
 IsFoundInKey place key value found =
     (IsCategoryName key × (found ≡ nothing_found))
-    ⊎ ((¬ (IsCategoryName key)) × (found ≡ fault_at (at_key place key) cause.NotACategory))
+    ⊎ ((¬ (IsCategoryName key)) × (found ≡ document_fault_at (at_key place key) cause.NotACategory))
 
 -- what is found in the rules of a locale: first in its key, then that it has no other; then
 -- category by category that the value is no text, or the faults of the text; then the keys that
@@ -128,7 +127,7 @@ IsFoundInKey place key value found =
 abbrev pub IsFoundInLanguage : LocalePlace → Data → Found → Type 0
 IsFoundInLanguage place value found =
     (checked : Checked) × (others : Found) × AreFindingsOf (all_texts_in value) checked
-    × IsFoundInMembers (IsFoundInKey place) (members_or_none (as_object value)) others
+    × IsFoundInDocumentMembers (IsFoundInKey place) (members_or_none (as_object value)) others
     × (found ≡ together (found_of_key place) (together (found_of_other place value) (together (found_by_check place value checked) others)))
 
 abbrev pub IsFoundInRules : Part → List ℕ → Data → Found → Type 0
@@ -173,7 +172,7 @@ HasEntryFault texts key value fault =
 
 abbrev pub found_of_entry : LocalePlace → List ℕ → Option EntryFault → Found
 found_of_entry place key None = nothing_found
-found_of_entry place key (Some fault) = fault_at (at_key place key) (cause.Entry fault)
+found_of_entry place key (Some fault) = document_fault_at (at_key place key) (cause.Entry fault)
 
 abbrev pub IsFoundInEntry : SixTexts → LocalePlace → List ℕ → Data → Found → Type 0
 IsFoundInEntry texts place key value found =
@@ -181,14 +180,14 @@ IsFoundInEntry texts place key value found =
 
 -- a locale without cardinal rules is a fault
 abbrev pub found_of_rules : LocalePlace → Option Data → Found
-found_of_rules place None = fault_at (at_locale place) cause.NoCardinalRules
+found_of_rules place None = document_fault_at (at_locale place) cause.NoCardinalRules
 found_of_rules place (Some rules) = nothing_found
 
 -- what is found in the ranges of a locale: first in its key, then that it has no cardinal rules,
 -- then the faults of its entries
 abbrev pub IsFoundInTable : LocalePlace → Option Data → Data → Found → Type 0
 IsFoundInTable place rules value found =
-    (entries : Found) × IsFoundInMembers (IsFoundInEntry (texts_at rules) place) (members_or_none (table_in value)) entries
+    (entries : Found) × IsFoundInDocumentMembers (IsFoundInEntry (texts_at rules) place) (members_or_none (table_in value)) entries
     × (found ≡ together (found_of_key place) (together (found_of_rules place rules) entries))
 
 abbrev pub IsFoundInRanges : Data → List ℕ → Data → Found → Type 0
@@ -223,23 +222,23 @@ is_part_name key =
 
 -- any other is a fault, and its value isn't looked at
 abbrev pub found_of_part : List ℕ → Found
-found_of_part key = if is_part_name key then nothing_found else fault_at (at_part key) cause.NotAPart
+found_of_part key = if is_part_name key then nothing_found else document_fault_at (at_part key) cause.NotAPart
 
 abbrev pub IsFoundInPartKey : List ℕ → Data → Found → Type 0
 IsFoundInPartKey key value found = found ≡ found_of_part key
 
 -- a document without locales is a fault
 abbrev pub found_of_count : ℕ → Found
-found_of_count locales = if locales == 0 then fault_at at_document cause.NoLocale else nothing_found
+found_of_count locales = if locales == 0 then document_fault_at at_document cause.NoLocale else nothing_found
 
 -- what is found in the keys of the parts, in all three parts, and in the parents
 abbrev pub IsFoundInDocument : Data → Found → Type 0
 IsFoundInDocument document found =
     (keys cardinal ordinal ranges parents : Found)
-    × IsFoundInMembers IsFoundInPartKey (members_or_none (as_object document)) keys
-    × IsFoundInMembers (IsFoundInRules Cardinal) (members_at Cardinal document) cardinal
-    × IsFoundInMembers (IsFoundInRules Ordinal) (members_at Ordinal document) ordinal
-    × IsFoundInMembers (IsFoundInRanges document) (members_at Ranges document) ranges
+    × IsFoundInDocumentMembers IsFoundInPartKey (members_or_none (as_object document)) keys
+    × IsFoundInDocumentMembers (IsFoundInRules Cardinal) (members_at Cardinal document) cardinal
+    × IsFoundInDocumentMembers (IsFoundInRules Ordinal) (members_at Ordinal document) ordinal
+    × IsFoundInDocumentMembers (IsFoundInRanges document) (members_at Ranges document) ranges
     × IsFoundInParents document parents
     × (found ≡ together keys (together cardinal (together ordinal (together ranges parents))))
 

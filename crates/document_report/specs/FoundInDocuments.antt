@@ -1,14 +1,14 @@
 -- What is found in a document: findings, and how many faults there are, rule texts that were
 -- checked, and numbers of these. A fault has a finding, unless too many of its place come before it.
 --     nothing_found      no finding, and no count
---     fault_at place cause      a fault and its finding
+--     document_fault_at place cause      a fault and its finding
 --     together a b      both, in this order
---     HasGrownBy Is old new      something of this kind was added
---     IsFoundInMembers Is members found      what is found in each member
+--     HasGrownInDocument Is old new      something of this kind was added
+--     IsFoundInDocumentMembers Is members found      what is found in each member
 use Rattle.std.specs.Prelude.{ℕ, ◌+◌, ◌-◌, nat_lt, List, [], ◌∷◌, ◌++◌, if◌then◌else◌}
 use Rattle.serde_json.specs.Data.{Data, Members}
-use Rattle.plural_documents.specs.FirstLines.{most_told}
-use Rattle.plural_documents.specs.FoundMembers as members
+use Rattle.plural_documents.specs.PrintedKeys.{most_told}
+use Rattle.plural_documents.specs.Steps as members
 use Rattle.document_report.specs.DocumentFindings.{Finding}
 use Rattle.document_report.specs.DocumentPlaces.{FindingPlace}
 use Rattle.document_report.specs.declared.cause.Cause.{Cause}
@@ -46,8 +46,8 @@ finding_at place cause = record { place = place; cause = cause }
 abbrev pub one_fault : Finding → Found
 one_fault finding = record { findings = finding ∷ []; faults = 1; checked = 0; cases = 0 }
 
-abbrev pub fault_at : FindingPlace → Cause → Found
-fault_at place cause = one_fault (finding_at place cause)
+abbrev pub document_fault_at : FindingPlace → Cause → Found
+document_fault_at place cause = one_fault (finding_at place cause)
 
 -- The first ten faults of a place have a finding, and one more counts the others, if there are any.
 abbrev pub rest_of : FindingPlace → ℕ → List Finding
@@ -63,9 +63,9 @@ together a b = record {
 }
 
 -- what was found has grown by something of this kind
-abbrev pub HasGrownBy : (Found → Type 0) → Found → Found → Type 0
-HasGrownBy = members.HasGrownBy together
+abbrev pub HasGrownInDocument : (Found → Type 0) → Found → Found → Type 0
+HasGrownInDocument = members.HasGrownBy together
 
 -- what is found in each member, together, in the order of the keys' bytes
-abbrev pub IsFoundInMembers : (List ℕ → Data → Found → Type 0) → Members → Found → Type 0
-IsFoundInMembers = members.IsFoundInMembers nothing_found together
+abbrev pub IsFoundInDocumentMembers : (List ℕ → Data → Found → Type 0) → Members → Found → Type 0
+IsFoundInDocumentMembers = members.IsFoundInMembers nothing_found together

@@ -1,3 +1,2 @@
 -- No definitions of the subject: words of private contracts.
 pub mod CheckCalls
-pub mod DocumentSums

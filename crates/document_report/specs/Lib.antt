@@ -1,8 +1,6 @@
-pub mod Names
 pub mod CheckedDocument
 -- findings
 pub mod DocumentPlaces
-pub mod DocumentCauses
 pub mod DocumentFindings
 pub mod FoundInDocuments
 -- the report

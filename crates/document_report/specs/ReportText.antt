@@ -2,7 +2,7 @@
 use Rattle.std.specs.Prelude.{ℕ, List, ◌++◌, codes}
 use Rattle.std.specs.Fmt.{decimal}
 use Rattle.std.specs.List.{flat_map}
-use Rattle.plural_documents.specs.FirstLines.{ended_line}
+use Rattle.plural_documents.specs.PrintedKeys.{ended_line}
 use Rattle.document_report.specs.DocumentFindings.{Finding, finding_line}
 use Rattle.document_report.specs.declared.counts.Counts.{Counts}
 use Rattle.document_report.specs.declared.report.Report.{Report}

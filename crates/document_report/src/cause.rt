@@ -1,7 +1,7 @@
 //! What is wrong at a place.
 
 ghost use Rattle.std.specs.Prelude.{Some};
-ghost use Rattle.document_report.specs.DocumentCauses.{cause_text};
+ghost use Rattle.document_report.specs.DocumentFindings.{document_cause_text};
 
 use crate::entry::EntryFault;
 use plural_checker::TextFault;
@@ -41,7 +41,7 @@ pub enum Cause {
 }
 
 impl fmt::Display for Cause {
-    ghost output = { λ cause. Some (cause_text cause) };
+    ghost output = { λ cause. Some (document_cause_text cause) };
 
     fn fmt<W: fmt::Write>(&self, f: &mut fmt::Formatter<W>) -> fmt::Result {
         match self {

@@ -6,8 +6,8 @@ ghost use Rattle.serde_json.specs.Find.{as_object, get};
 ghost use Rattle.serde_json.specs.View.{members_view, view};
 ghost use Rattle.document_report.specs.CheckAnswer.{check_origin};
 ghost use Rattle.document_report.specs.CheckedDocument.{members_or_none, document_of_bytes};
-ghost use Rattle.document_report.specs.FoundInDocuments.{HasGrownBy, IsFoundInMembers};
-ghost use Rattle.plural_documents.specs.Steps.{or_fault};
+ghost use Rattle.document_report.specs.FoundInDocuments.{HasGrownInDocument, IsFoundInDocumentMembers};
+ghost use Rattle.plural_documents.specs.Steps.{value_or_fault};
 ghost use Rattle.document_report.specs.Inner.CheckCalls.{GivesOnly};
 ghost use Rattle.plural_fallback.specs.LocalesJson.{part_name};
 ghost use Rattle.document_report.specs.declared.error.CheckError.TheVariants.{Json};
@@ -36,7 +36,7 @@ pub fn value_of(alloc: Global, bytes: &[u8]) -> Result<Value, CheckError>
 
 // The JSON value that the bytes write.
 fn json_of(alloc: Global, bytes: &[u8]) -> Result<Value, CheckError>
-    ensures { GivesOnly view (or_fault Json (json_of bytes.now)) result }
+    ensures { GivesOnly view (value_or_fault Json (json_of bytes.now)) result }
 {
     match json_value(alloc, bytes) {
         Ok(value) => Ok(value),
@@ -68,8 +68,8 @@ pub(crate) fn add_members_of<'a, C: MemberCheck<'a, Found<'a>>>(
     members: Option<&'a Map<String, Value>>,
     found: &mut Found<'a>,
 ) -> Result<(), AllocError>
-    ensures { OnOk result (HasGrownBy
-        (IsFoundInMembers (C.finds check.now) (members_or_none (option_map (λ m. members_view m.now.entries) members.entry)))
+    ensures { OnOk result (HasGrownInDocument
+        (IsFoundInDocumentMembers (C.finds check.now) (members_or_none (option_map (λ m. members_view m.now.entries) members.entry)))
         found.old found.new) }
 {
     match members {

@@ -2,7 +2,7 @@
 
 ghost use Rattle.std.specs.Prelude.{◌≡◌, ◌/◌, ◌%◌, Some};
 ghost use Rattle.plural_checker.specs.LanguageTexts.{six_texts};
-ghost use Rattle.document_report.specs.DocumentCauses.{entry_fault_text};
+ghost use Rattle.document_report.specs.DocumentFindings.{entry_fault_text};
 ghost use Rattle.document_report.specs.DocumentReport.{HasEntryFault, HasRangeFault, HasValueFault};
 ghost use Rattle.document_report.specs.Inner.CheckCalls.{category_numbered};
 ghost use Rattle.serde_json.specs.View.{view};

@@ -1,11 +1,10 @@
 //! The lines of findings.
 
 ghost use Rattle.std.specs.Prelude.{◌≡◌, ◌++◌, codes, OnOk, string_bytes};
-ghost use Rattle.document_report.specs.DocumentCauses.{cause_text};
-ghost use Rattle.document_report.specs.DocumentFindings.{finding_view};
+ghost use Rattle.document_report.specs.DocumentFindings.{document_cause_text, finding_view};
 ghost use Rattle.document_report.specs.DocumentFindings as listed;
 ghost use Rattle.document_report.specs.ReportText.{printed_finding};
-ghost use Rattle.plural_documents.specs.FirstLines.{ended_line};
+ghost use Rattle.plural_documents.specs.PrintedKeys.{ended_line};
 
 use crate::cause::Cause;
 use crate::finding::Finding;
@@ -40,7 +39,7 @@ impl<'a> LinePrinter<Finding<'a>> for FindingLines<'a> {
 
 // Appends the line of a cause, given what is printed for the place, and a newline.
 fn push_line(text: &mut String, place: &str, cause: &Cause) -> Result<(), AllocError>
-    ensures { OnOk result (string_bytes text.new ≡ string_bytes text.old ++ ended_line (place.now ++ (codes ": " ++ cause_text cause.now))) }
+    ensures { OnOk result (string_bytes text.new ≡ string_bytes text.old ++ ended_line (place.now ++ (codes ": " ++ document_cause_text cause.now))) }
 {
     match write!(text, "{place}: {cause}\n") {
         Ok(()) => Ok(()),

@@ -7,7 +7,7 @@ ghost use Rattle.serde_json.specs.Find.{as_object, get};
 ghost use Rattle.serde_json.specs.View.{members_view, view};
 ghost use Rattle.document_report.specs.CheckedDocument.{document_formed, has_part_form, locales_formed, part_formed};
 ghost use Rattle.document_report.specs.CheckedDocument.{parts_formed, table_in};
-ghost use Rattle.document_report.specs.Inner.CheckCalls.{GivesFault, GivesOnly};
+ghost use Rattle.document_report.specs.Inner.CheckCalls.{GivesCheckFault, GivesOnly};
 ghost use Rattle.plural_documents.specs.PrintedKeys.{name_text};
 ghost use Rattle.plural_fallback.specs.LocalesJson.{part_name};
 ghost use Rattle.document_report.specs.declared.error.CheckError.TheVariants.{NoObject};
@@ -96,7 +96,7 @@ pub(crate) fn table_in(value: &Value) -> Option<&Map<String, Value>>
 
 // The error for a locale.
 fn no_object(alloc: Global, part: Part, locale: &str) -> CheckError
-    ensures { GivesFault (λ fault. fault ≡ NoObject (place.Locale part (name_text locale.now))) result }
+    ensures { GivesCheckFault (λ fault. fault ≡ NoObject (place.Locale part (name_text locale.now))) result }
 {
     match Locale::from_str(alloc, locale) {
         Ok(locale) => CheckError::NoObject(Place::Locale(part, locale)),

@@ -3,7 +3,7 @@
 ghost use Rattle.std.specs.Prelude.{◌≡◌, ◌∷◌, [], OnOk, map};
 ghost use Rattle.document_report.specs.DocumentFindings.{finding_view};
 ghost use Rattle.document_report.specs.DocumentPlaces.{finding_place_view};
-ghost use Rattle.document_report.specs.FoundInDocuments.{cases_alone, checked_alone, fault_at, faults_alone, finding_at, findings_alone};
+ghost use Rattle.document_report.specs.FoundInDocuments.{cases_alone, checked_alone, document_fault_at, faults_alone, finding_at, findings_alone};
 ghost use Rattle.document_report.specs.FoundInDocuments.{rest_of, together};
 
 use crate::cause::Cause;
@@ -39,7 +39,7 @@ impl<'a> Model for Found<'a> {
 }
 
 impl<'a> Findings for Found<'a> {
-    ghost use Rattle.document_report.specs.Inner.DocumentSums.{together-nothing, together_assoc};
+    ghost use Rattle.document_report.specs.Inner.CheckCalls.{together-nothing, together_assoc};
     ghost use Rattle.document_report.specs.FoundInDocuments as seen;
 
     ghost nothing = { seen.nothing_found };
@@ -108,7 +108,7 @@ impl<'a> Found<'a> {
         place: FindingPlace<'a>,
         cause: Cause,
     ) -> Result<(), AllocError>
-        ensures { OnOk result (self.new ≡ together self.old (fault_at (finding_place_view place.entry) cause)) }
+        ensures { OnOk result (self.new ≡ together self.old (document_fault_at (finding_place_view place.entry) cause)) }
     {
         self.faults = sum(self.faults, 1)?;
         self.add_finding(place, cause)

@@ -5,7 +5,7 @@ ghost use Rattle.document_report.specs.CheckedDocument.{members_or_none};
 ghost use Rattle.document_report.specs.DocumentPlaces.{locale_place_view};
 ghost use Rattle.document_report.specs.DocumentReport.{found_of_key, found_of_length, found_of_underscore};
 ghost use Rattle.document_report.specs.DocumentReport.{found_of_part, is_part_name, IsFoundInKey, IsFoundInPartKey};
-ghost use Rattle.document_report.specs.FoundInDocuments.{together, HasGrownBy, IsFoundInMembers};
+ghost use Rattle.document_report.specs.FoundInDocuments.{together, HasGrownInDocument, IsFoundInDocumentMembers};
 ghost use Rattle.serde_json.specs.View.{members_view};
 
 use crate::cause::Cause;
@@ -54,7 +54,7 @@ pub(crate) fn add_categories<'a>(
     members: Option<&'a Map<String, Value>>,
     found: &mut Found<'a>,
 ) -> Result<(), AllocError>
-    ensures { OnOk result (HasGrownBy (IsFoundInMembers (IsFoundInKey (locale_place_view place.entry))
+    ensures { OnOk result (HasGrownInDocument (IsFoundInDocumentMembers (IsFoundInKey (locale_place_view place.entry))
         (members_or_none (option_map (λ m. members_view m.now.entries) members.entry))) found.old found.new) }
 {
     add_members_of(alloc, &CategoryCheck { place }, members, found)

@@ -8,7 +8,7 @@ ghost use Rattle.plural_checker.specs.TextChecks.{AreFindingsOf};
 ghost use Rattle.document_report.specs.DocumentPlaces.{locale_place_view};
 ghost use Rattle.document_report.specs.DocumentReport.{all_texts_in, faults_of, found_of_other, found_told};
 ghost use Rattle.document_report.specs.DocumentReport.{found_under, found_under_all, lacks_other, text_order, IsFoundInLanguage, IsFoundInRules};
-ghost use Rattle.document_report.specs.FoundInDocuments.{findings_alone, together, HasGrownBy};
+ghost use Rattle.document_report.specs.FoundInDocuments.{findings_alone, together, HasGrownInDocument};
 ghost use Rattle.document_report.specs.Inner.CheckCalls.{told_after};
 ghost use Rattle.serde_json.specs.View.{view};
 
@@ -66,7 +66,7 @@ fn add_language<'a>(
     value: &'a Value,
     found: &mut Found<'a>,
 ) -> Result<(), AllocError>
-    ensures { OnOk result (HasGrownBy (IsFoundInLanguage (locale_place_view place.entry) (view value.now)) found.old found.new) }
+    ensures { OnOk result (HasGrownInDocument (IsFoundInLanguage (locale_place_view place.entry) (view value.now)) found.old found.new) }
 {
     match check_texts(alloc, &texts_of(value)) {
         Ok(checked) => {
@@ -87,7 +87,7 @@ fn add_checked<'a>(
     found: &mut Found<'a>,
 ) -> Result<(), AllocError>
     requires { AreFindingsOf (all_texts_in (view value.now)) checked.now }
-    ensures { OnOk result (HasGrownBy (IsFoundInLanguage (locale_place_view place.entry) (view value.now)) found.old found.new) }
+    ensures { OnOk result (HasGrownInDocument (IsFoundInLanguage (locale_place_view place.entry) (view value.now)) found.old found.new) }
 {
     add_key(place, found)?;
     add_other(place, value, found)?;

@@ -2,7 +2,7 @@
 
 ghost use Rattle.std.specs.Prelude.{◌≡◌, codes, Some, OnOk, option_map};
 ghost use Rattle.std.specs.Option.{option_and_then, option_copied};
-ghost use Rattle.document_report.specs.FoundInDocuments.{together, HasGrownBy, IsFoundInMembers};
+ghost use Rattle.document_report.specs.FoundInDocuments.{together, HasGrownInDocument, IsFoundInDocumentMembers};
 ghost use Rattle.document_members.specs.ChainSteps.{AreKnown, short_next};
 ghost use Rattle.document_members.specs.ParentRows.{named_parent, parent_among};
 ghost use Rattle.document_report.specs.ParentFaults.{found_of_chain, found_of_child, found_of_parent, found_of_shape};
@@ -23,7 +23,7 @@ pub(crate) fn add_parents<'a>(
     document: &'a Value,
     found: &mut Found<'a>,
 ) -> Result<(), AllocError>
-    ensures { OnOk result (HasGrownBy (IsFoundInParents (view document.now)) found.old found.new) }
+    ensures { OnOk result (HasGrownInDocument (IsFoundInParents (view document.now)) found.old found.new) }
 {
     add_shape(document.get("parents"), found)?;
     match parents_of(document) {
@@ -66,7 +66,7 @@ fn add_named<'a>(
     members: &'a Map<String, Value>,
     found: &mut Found<'a>,
 ) -> Result<(), AllocError>
-    ensures { OnOk result (HasGrownBy (IsFoundInMembers (IsFoundInParent (parent_among (members_view members.now.entries)))
+    ensures { OnOk result (HasGrownInDocument (IsFoundInDocumentMembers (IsFoundInParent (parent_among (members_view members.now.entries)))
         (members_view members.now.entries)) found.old found.new) }
 {
     let parents = Parents::of(alloc, members)?;
@@ -80,7 +80,7 @@ fn add_all<'p, 'a: 'p>(
     members: &'a Map<String, Value>,
     found: &mut Found<'a>,
 ) -> Result<(), AllocError>
-    ensures { OnOk result (HasGrownBy (IsFoundInMembers (IsFoundInParent (named_parent parents.now))
+    ensures { OnOk result (HasGrownInDocument (IsFoundInDocumentMembers (IsFoundInParent (named_parent parents.now))
         (members_view members.now.entries)) found.old found.new) }
 {
     let mut chains = KnownChains::new(alloc, members.len())?;
@@ -100,7 +100,7 @@ fn add_member<'p, 'a: 'p>(
     found: &mut Found<'a>,
 ) -> Result<(), AllocError>
     requires { AreKnown (short_next (named_parent parents.now)) chains.old }
-    ensures found { OnOk result (HasGrownBy (IsFoundInParent (named_parent parents.now) key.now (view value.now))
+    ensures found { OnOk result (HasGrownInDocument (IsFoundInParent (named_parent parents.now) key.now (view value.now))
         found.old found.new) }
     ensures known { OnOk result (AreKnown (short_next (named_parent parents.now)) chains.new) }
 {

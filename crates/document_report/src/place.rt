@@ -2,7 +2,7 @@
 
 ghost use Rattle.std.specs.Prelude.{◌≡◌, Some, IfOk};
 ghost use Rattle.plural_documents.specs.PrintedKeys.{name_text};
-ghost use Rattle.document_report.specs.Names.{place_text};
+ghost use Rattle.document_report.specs.CheckedDocument.{place_text};
 
 use plural_documents::name_text;
 use plural_fallback::Part;

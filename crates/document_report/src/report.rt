@@ -6,7 +6,7 @@ ghost use Rattle.document_report.specs.CheckAnswer.{verdict_of_report, report_st
 ghost use Rattle.document_report.specs.CheckedDocument.{members_at};
 ghost use Rattle.document_report.specs.DocumentFindings.{finding_view};
 ghost use Rattle.document_report.specs.DocumentReport.{found_of_count, IsFoundInDocument, IsFoundInRanges, IsFoundInRules, IsReportOf};
-ghost use Rattle.document_report.specs.FoundInDocuments.{nothing_found, together, HasGrownBy, IsFoundInMembers};
+ghost use Rattle.document_report.specs.FoundInDocuments.{nothing_found, together, HasGrownInDocument, IsFoundInDocumentMembers};
 ghost use Rattle.document_report.specs.ReportText.{counts_in, counts_line, counts_of, findings_in, printed_finding, report_text};
 ghost use Rattle.plural_fallback.specs.declared.locales.Part.TheVariants.{Ranges};
 ghost use Rattle.serde_json.specs.View.{view};
@@ -116,7 +116,7 @@ fn add_rules<'a>(
     part: Part,
     found: &mut Found<'a>,
 ) -> Result<(), AllocError>
-    ensures { OnOk result (HasGrownBy (IsFoundInMembers (IsFoundInRules part) (members_at part (view document.now))) found.old found.new) }
+    ensures { OnOk result (HasGrownInDocument (IsFoundInDocumentMembers (IsFoundInRules part) (members_at part (view document.now))) found.old found.new) }
 {
     let members = members_of(document, part);
     add_members_of(alloc, &LanguageCheck { part }, members, found)
@@ -128,8 +128,8 @@ fn add_ranges<'a>(
     document: &'a Value,
     found: &mut Found<'a>,
 ) -> Result<(), AllocError>
-    ensures { OnOk result (HasGrownBy
-        (IsFoundInMembers (IsFoundInRanges (view document.now)) (members_at Ranges (view document.now))) found.old found.new) }
+    ensures { OnOk result (HasGrownInDocument
+        (IsFoundInDocumentMembers (IsFoundInRanges (view document.now)) (members_at Ranges (view document.now))) found.old found.new) }
 {
     let members = members_of(document, Part::Ranges);
     add_members_of(alloc, &TableCheck { document }, members, found)

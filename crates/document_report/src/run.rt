@@ -1,11 +1,11 @@
 //! Reads an input and writes the answer to it.
 
 ghost use Rattle.std.specs.Prelude.{◌≡◌, ◌≢◌, Ok, Err, IfErr, List, ℕ, IsFalse, IsTrue};
-ghost use Rattle.document_report.specs.CheckAnswer.{AnswersDocument, AnswersInput, AnswersInputAs, IsCheckAnswered, answer_with, check_origin};
-ghost use Rattle.document_report.specs.CheckedDocument.{value_in, document_of_bytes};
+ghost use Rattle.document_report.specs.CheckAnswer.{AnswersDocument, AnswersInputAsText, AnswersInputAs, IsCheckAnswered, answer_with, check_origin};
+ghost use Rattle.document_report.specs.CheckedDocument.{document_of_input, document_of_bytes};
 ghost use Rattle.document_report.specs.Inner.CheckCalls.{Gives, GivesAfterReading, GivesOnly, answer_view};
 ghost use Rattle.document_report.specs.declared.error.CheckError.TheVariants.{Usage};
-ghost use Rattle.plural_documents.specs.Inputs.{IsInput, IsRead};
+ghost use Rattle.plural_documents.specs.Inputs.{IsInput, IsReadAfterResult};
 ghost use Rattle.serde_json.specs.View.{view};
 
 use crate::document::value_of;
@@ -47,8 +47,8 @@ pub fn run<R: Read, W: Write>(
 ) -> Result<Verdict, CheckError>
     // The answer is that of some input: what remained in the reader, if that is known.
     ensures answers { (input : List ℕ) × IsInput (R.remaining reader.old) input
-        × IsCheckAnswered (AnswersInput has_words input) (W.contents writer.old) (W.contents writer.new) result }
-    ensures reads { IsFalse has_words → IsRead check_origin (R.remaining reader.old) (R.remaining reader.new) result }
+        × IsCheckAnswered (AnswersInputAsText has_words input) (W.contents writer.old) (W.contents writer.new) result }
+    ensures reads { IsFalse has_words → IsReadAfterResult check_origin (R.remaining reader.old) (R.remaining reader.new) result }
     ensures reads_nothing { IsTrue has_words → (reader.new ≡ reader.old) × (result ≡ Err Usage) }
     ensures writes_nothing { IfErr result (λ e. e ≢ CheckError.Write → writer.new ≡ writer.old) }
 {
@@ -65,7 +65,7 @@ pub fn run_as<P: ReportPrinter, R: Read, W: Write>(
 ) -> Result<Verdict, CheckError>
     ensures answers { (input : List ℕ) × IsInput (R.remaining reader.old) input
         × IsCheckAnswered (AnswersInputAs (P.text_of printer.now) has_words input) (W.contents writer.old) (W.contents writer.new) result }
-    ensures reads { IsFalse has_words → IsRead check_origin (R.remaining reader.old) (R.remaining reader.new) result }
+    ensures reads { IsFalse has_words → IsReadAfterResult check_origin (R.remaining reader.old) (R.remaining reader.new) result }
     ensures reads_nothing { IsTrue has_words → (reader.new ≡ reader.old) × (result ≡ Err Usage) }
     ensures writes_nothing { IfErr result (λ e. e ≢ CheckError.Write → writer.new ≡ writer.old) }
 {
@@ -86,8 +86,8 @@ fn answer_to_reader<P: ReportPrinter, R: Read>(
     reader: &mut R,
 ) -> Result<Answer, CheckError>
     ensures answers { (input : List ℕ) × IsInput (R.remaining reader.old) input
-        × GivesAfterReading (AnswersDocument (P.text_of printer.now) (value_in input)) result }
-    ensures reads { IsRead check_origin (R.remaining reader.old) (R.remaining reader.new) result }
+        × GivesAfterReading (AnswersDocument (P.text_of printer.now) (document_of_input input)) result }
+    ensures reads { IsReadAfterResult check_origin (R.remaining reader.old) (R.remaining reader.new) result }
 {
     let input = read_input(alloc, reader)?;
     answer_to(alloc, printer, input.as_slice())

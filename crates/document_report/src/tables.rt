@@ -5,7 +5,7 @@ ghost use Rattle.plural_checker.specs.LanguageTexts.{six_texts};
 ghost use Rattle.document_report.specs.CheckedDocument.{members_or_none};
 ghost use Rattle.document_report.specs.DocumentPlaces.{locale_place_view};
 ghost use Rattle.document_report.specs.DocumentReport.{found_of_rules, texts_at, IsFoundInEntry, IsFoundInRanges, IsFoundInTable};
-ghost use Rattle.document_report.specs.FoundInDocuments.{together, HasGrownBy, IsFoundInMembers};
+ghost use Rattle.document_report.specs.FoundInDocuments.{together, HasGrownInDocument, IsFoundInDocumentMembers};
 ghost use Rattle.serde_json.specs.View.{members_view, view};
 
 use crate::cause::Cause;
@@ -55,7 +55,7 @@ fn add_table<'a>(
     value: &'a Value,
     found: &mut Found<'a>,
 ) -> Result<(), AllocError>
-    ensures { OnOk result (HasGrownBy (IsFoundInTable (locale_place_view place.entry) (option_map (λ v. view v.now) rules.entry)
+    ensures { OnOk result (HasGrownInDocument (IsFoundInTable (locale_place_view place.entry) (option_map (λ v. view v.now) rules.entry)
         (view value.now)) found.old found.new) }
 {
     add_key(place, found)?;
@@ -71,8 +71,8 @@ fn add_entries<'a>(
     members: Option<&'a Map<String, Value>>,
     found: &mut Found<'a>,
 ) -> Result<(), AllocError>
-    ensures { OnOk result (HasGrownBy
-        (IsFoundInMembers (IsFoundInEntry (texts_at (option_map (λ v. view v.now) rules.entry)) (locale_place_view place.entry))
+    ensures { OnOk result (HasGrownInDocument
+        (IsFoundInDocumentMembers (IsFoundInEntry (texts_at (option_map (λ v. view v.now) rules.entry)) (locale_place_view place.entry))
         (members_or_none (option_map (λ m. members_view m.now.entries) members.entry))) found.old found.new) }
 {
     let texts = texts_at(rules);

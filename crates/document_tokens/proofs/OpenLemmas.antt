@@ -4,7 +4,7 @@ use Rattle.std.specs.Prelude.{max}
 use Rattle.json.specs.Json.{Json, null, boolean, number, string, array, object, Items, no_items, item, Members, no_members, member}
 use Rattle.json.specs.Token.{Token}
 use Rattle.json.specs.Tree.{depth, items_depth, items_tokens, json_tokens, members_depth, members_tokens}
-use Rattle.document_tokens.specs.Inner.OpenBrackets.{Comes, Completes}
+use Rattle.document_tokens.specs.Inner.OpenBrackets.{Comes, CompletesOpen}
 
 -- ---- Lists
 
@@ -30,15 +30,15 @@ joined (t ∷ one) two three = ap (λ ts. t ∷ ts) (joined one two three)
 module _ (most : ℕ) (rest : List Token) where
   -- where a value is due
   abbrev pub FollowsDue : List Bool → Token → List Token → Type 0
-  FollowsDue opened Token.begin_object ts = (length opened < most) × Completes most rest (true ∷ opened) ts
-  FollowsDue opened Token.begin_array ts = (length opened < most) × Completes most rest (false ∷ opened) ts
+  FollowsDue opened Token.begin_object ts = (length opened < most) × CompletesOpen most rest (true ∷ opened) ts
+  FollowsDue opened Token.begin_array ts = (length opened < most) × CompletesOpen most rest (false ∷ opened) ts
   FollowsDue opened Token.end_object ts = ⊥
   FollowsDue opened Token.end_array ts = ⊥
   FollowsDue opened (Token.key k) ts = ⊥
-  FollowsDue opened (Token.string s) ts = Completes most rest opened ts
-  FollowsDue opened (Token.number s) ts = Completes most rest opened ts
-  FollowsDue opened (Token.boolean b) ts = Completes most rest opened ts
-  FollowsDue opened Token.null ts = Completes most rest opened ts
+  FollowsDue opened (Token.string s) ts = CompletesOpen most rest opened ts
+  FollowsDue opened (Token.number s) ts = CompletesOpen most rest opened ts
+  FollowsDue opened (Token.boolean b) ts = CompletesOpen most rest opened ts
+  FollowsDue opened Token.null ts = CompletesOpen most rest opened ts
   FollowsDue opened Token.bad ts = ⊥
 
   -- in an array
@@ -46,19 +46,19 @@ module _ (most : ℕ) (rest : List Token) where
   FollowsItem opened Token.begin_object ts = FollowsDue (false ∷ opened) Token.begin_object ts
   FollowsItem opened Token.begin_array ts = FollowsDue (false ∷ opened) Token.begin_array ts
   FollowsItem opened Token.end_object ts = ⊥
-  FollowsItem opened Token.end_array ts = Completes most rest opened ts
+  FollowsItem opened Token.end_array ts = CompletesOpen most rest opened ts
   FollowsItem opened (Token.key k) ts = ⊥
-  FollowsItem opened (Token.string s) ts = Completes most rest (false ∷ opened) ts
-  FollowsItem opened (Token.number s) ts = Completes most rest (false ∷ opened) ts
-  FollowsItem opened (Token.boolean b) ts = Completes most rest (false ∷ opened) ts
-  FollowsItem opened Token.null ts = Completes most rest (false ∷ opened) ts
+  FollowsItem opened (Token.string s) ts = CompletesOpen most rest (false ∷ opened) ts
+  FollowsItem opened (Token.number s) ts = CompletesOpen most rest (false ∷ opened) ts
+  FollowsItem opened (Token.boolean b) ts = CompletesOpen most rest (false ∷ opened) ts
+  FollowsItem opened Token.null ts = CompletesOpen most rest (false ∷ opened) ts
   FollowsItem opened Token.bad ts = ⊥
 
   -- in an object
   abbrev pub FollowsMember : List Bool → Token → List Token → Type 0
   FollowsMember opened Token.begin_object ts = ⊥
   FollowsMember opened Token.begin_array ts = ⊥
-  FollowsMember opened Token.end_object ts = Completes most rest opened ts
+  FollowsMember opened Token.end_object ts = CompletesOpen most rest opened ts
   FollowsMember opened Token.end_array ts = ⊥
   FollowsMember opened (Token.key k) ts = Comes most rest true (true ∷ opened) ts
   FollowsMember opened (Token.string s) ts = ⊥
@@ -87,7 +87,7 @@ module _ (most : ℕ) (rest : List Token) where
   nothing n = omega arith
 
   after_value : (j : Json) (opened : List Bool) (t : Token) (ts after : List Token) → t ∷ ts ≡ json_tokens j ++ after
-      → depth j ≤ most - length opened → Completes most rest opened after → Follows true opened t ts
+      → depth j ≤ most - length opened → CompletesOpen most rest opened after → Follows true opened t ts
   after_value null opened t ts after is nests done = by_first (FollowsDue opened) t Token.null ts after is done
   after_value (boolean b) opened t ts after is nests done = by_first (FollowsDue opened) t (Token.boolean b) ts after is done
   after_value (number s) opened t ts after is nests done = by_first (FollowsDue opened) t (Token.number s) ts after is done
@@ -119,7 +119,7 @@ module _ (most : ℕ) (rest : List Token) where
   either one two n first second = grind arith
 
   after_items : (js : Items) (opened : List Bool) (t : Token) (ts after : List Token) → t ∷ ts ≡ items_tokens js ++ after
-      → items_depth js ≤ most - suc (length opened) → Completes most rest opened after → Follows false (false ∷ opened) t ts
+      → items_depth js ≤ most - suc (length opened) → CompletesOpen most rest opened after → Follows false (false ∷ opened) t ts
   after_items no_items opened t ts after is nests done =
       by_first (FollowsItem opened) t Token.end_array ts after is done
   after_items (item j js) opened t ts after is nests done =
@@ -129,7 +129,7 @@ module _ (most : ℕ) (rest : List Token) where
       (js, after, refl, deep.1, done))
 
   after_members : (ms : Members) (opened : List Bool) (t : Token) (ts after : List Token) → t ∷ ts ≡ members_tokens ms ++ after
-      → members_depth ms ≤ most - suc (length opened) → Completes most rest opened after → Follows false (true ∷ opened) t ts
+      → members_depth ms ≤ most - suc (length opened) → CompletesOpen most rest opened after → Follows false (true ∷ opened) t ts
   after_members no_members opened t ts after is nests done =
       by_first (FollowsMember opened) t Token.end_object ts after is done
   after_members (member k j ms) opened t ts after is nests done =

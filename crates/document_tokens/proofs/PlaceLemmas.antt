@@ -3,7 +3,7 @@ use Rattle.std.proofs.Common.{◌≡◌, ℕ, suc, ◌-◌, ◌<◌, ◌≤◌, 
 use Rattle.std.specs.Prelude.{drop}
 use Rattle.json.specs.Token.{Token}
 use Rattle.document_tokens.specs.HeldTokens.{held_of, opened_after}
-use Rattle.document_tokens.specs.Inner.OpenBrackets.{Comes, Completes, beginning, ending, goes_on, is_scalar, may_have_value}
+use Rattle.document_tokens.specs.Inner.OpenBrackets.{Comes, CompletesOpen, beginning, ending, goes_on, is_scalar, may_have_value}
 use Rattle.document_tokens.proofs.OpenLemmas.{Follows, follows, leads}
 
 nothing_left : (t : Token) (ts : List Token) → t ∷ ts ≡ [] → ⊥
@@ -69,7 +69,7 @@ module _ (most : ℕ) where
   -- ---- A value begins
 
   begun : (k : Bool) (opened : List Bool) (ts : List Token) → length opened < most
-      → Same (Follows most [] true opened (beginning k) ts) (Completes most [] (k ∷ opened) ts)
+      → Same (Follows most [] true opened (beginning k) ts) (CompletesOpen most [] (k ∷ opened) ts)
   begun true opened ts in_most = (λ is. is.1, λ is. (in_most, is))
   begun false opened ts in_most = (λ is. is.1, λ is. (in_most, is))
 
@@ -134,7 +134,7 @@ module _ (most : ℕ) where
   -- ---- A value of one token
 
   scalar : (t : Token) (opened : List Bool) (ts : List Token) → is_scalar t ≡ true
-      → Same (Follows most [] true opened t ts) (Completes most [] opened ts)
+      → Same (Follows most [] true opened t ts) (CompletesOpen most [] opened ts)
   scalar Token.begin_object opened ts is = absurd (true≢false (cc))
   scalar Token.end_object opened ts is = absurd (true≢false (cc))
   scalar Token.begin_array opened ts is = absurd (true≢false (cc))
@@ -147,7 +147,7 @@ module _ (most : ℕ) where
   scalar Token.bad opened ts is = absurd (true≢false (cc))
 
   in_array : (t : Token) (opened : List Bool) (ts : List Token) → is_scalar t ≡ true
-      → Same (Follows most [] false (false ∷ opened) t ts) (Completes most [] (false ∷ opened) ts)
+      → Same (Follows most [] false (false ∷ opened) t ts) (CompletesOpen most [] (false ∷ opened) ts)
   in_array Token.begin_object opened ts is = absurd (true≢false (cc))
   in_array Token.end_object opened ts is = absurd (true≢false (cc))
   in_array Token.begin_array opened ts is = absurd (true≢false (cc))

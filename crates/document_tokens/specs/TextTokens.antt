@@ -18,19 +18,19 @@ use Rattle.serde_json.specs.Read.{max_depth, of_json, read}
 
 -- ---- Names
 
-abbrev pub names_view : List (Bor (List ℕ)) → List (List ℕ)
-names_view names = map (λ name. name.now) names
+abbrev pub key_names_view : List (Bor (List ℕ)) → List (List ℕ)
+key_names_view names = map (λ name. name.now) names
 
 abbrev pub given_names : Option (Bor (List (Bor (List ℕ)))) → Option (List (List ℕ))
-given_names names = option_map (λ these. names_view these.now) names
+given_names names = option_map (λ these. key_names_view these.now) names
 
-abbrev pub is_named : List (List ℕ) → List ℕ → Bool
-is_named names key = list_any (λ name. bytes_eq key name) names
+abbrev pub is_among_names : List (List ℕ) → List ℕ → Bool
+is_among_names names key = list_any (λ name. bytes_eq key name) names
 
 -- any, if no names are given
 abbrev pub is_held_name : Option (List (List ℕ)) → List ℕ → Bool
 is_held_name None key = true
-is_held_name (Some names) key = is_named names key
+is_held_name (Some names) key = is_among_names names key
 
 -- ---- Values
 
@@ -52,13 +52,13 @@ json_part test (json.object members) = json.object (members_part test members)
 -- ---- Texts
 
 -- the value that a text writes, with every member of each object
-abbrev pub value_of : List ℕ → Option json.Json
-value_of text = option_and_then (λ p. json.if_last p.0 p.1) (json.value max_depth (tokens text))
+abbrev pub json_value_of : List ℕ → Option json.Json
+json_value_of text = option_and_then (λ p. json.if_last p.0 p.1) (json.value max_depth (tokens text))
 
 -- these are held of the value, whose numbers aren't too large
 abbrev pub AreHeldTokens : Option (List (List ℕ)) → List ℕ → List Held → Type 0
 AreHeldTokens names text held =
-    (value : json.Json) × (whole : Data) × (value_of text ≡ Some value) × (of_json value ≡ Some whole)
+    (value : json.Json) × (whole : Data) × (json_value_of text ≡ Some value) × (of_json value ≡ Some whole)
     × (held ≡ held_tokens (json_part (is_held_name names) value))
 
 -- so it is; or the text writes no value, or memory ran out, which needs a byte

@@ -2,7 +2,7 @@
 
 ghost use Rattle.std.specs.Prelude.{◌≡◌, ◌<◌, ◌≤◌, [], ◌∷◌, drop, length};
 ghost use Rattle.std.specs.Bool.{MatchBool};
-ghost use Rattle.document_tokens.specs.Inner.OpenKinds.{innermost, is_in};
+ghost use Rattle.document_tokens.specs.Inner.OpenKinds.{innermost, is_innermost_kind};
 
 use std::marker::Model;
 
@@ -51,7 +51,7 @@ impl Nesting {
     // Whether the innermost is an object, if this is true, or an array.
     #[inline(always)]
     pub(crate) fn is_in(&self, is_object: bool) -> bool
-        ensures { result ≡ is_in is_object self.now }
+        ensures { result ≡ is_innermost_kind is_object self.now }
     {
         if is_object {
             self.objects % 2 == 1

@@ -2,7 +2,7 @@
 
 ghost use Rattle.std.specs.Prelude.{◌≡◌, ◌==◌, ◌<◌, ◌++◌, [], ◌∷◌, Err, IfOk, OnOk, length, map, if◌then◌else◌};
 ghost use Rattle.document_tokens.specs.HeldTokens.{held_token};
-ghost use Rattle.document_tokens.specs.TextTokens.{GivesHeldTokens, given_names, is_held_name, is_named, names_view};
+ghost use Rattle.document_tokens.specs.TextTokens.{GivesHeldTokens, given_names, is_held_name, is_among_names, key_names_view};
 ghost use Rattle.document_tokens.specs.Inner.HeldParts.{AreHeld, AreNoTokens, is_held_after};
 
 use crate::error::JsonTextError;
@@ -104,7 +104,7 @@ fn is_held_name(names: Option<&[&str]>, key: &str) -> bool
 
 // Whether a key is among the names.
 fn is_named(names: &[&str], key: &str) -> bool
-    ensures { result ≡ is_named (names_view names.now) key.now }
+    ensures { result ≡ is_among_names (key_names_view names.now) key.now }
 {
     let mut rest = names;
     while let [name, after @ ..] = rest {

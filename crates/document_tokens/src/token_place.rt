@@ -3,7 +3,7 @@
 ghost use Rattle.std.specs.Bool.{MatchBool};
 ghost use Rattle.std.specs.Prelude.{◌≡◌, [], length, true};
 ghost use Rattle.json.specs.Token.{key};
-ghost use Rattle.document_tokens.specs.Inner.OpenBrackets.{GoesByScalar, IsAfter, IsRefused, Passes, beginning, ending, goes_on, may_have_value};
+ghost use Rattle.document_tokens.specs.Inner.OpenBrackets.{GoesByScalar, IsAfter, IsRefusedToken, PassesToken, beginning, ending, goes_on, may_have_value};
 
 use crate::nesting::Nesting;
 
@@ -57,7 +57,7 @@ impl TokenPlace {
 
     // Goes on in an object or an array. It may not come here if this is false.
     pub(crate) fn begin(&mut self, is_object: bool) -> bool
-        ensures { MatchBool result (Passes self.old (beginning is_object) self.new) (IsRefused self.old (beginning is_object)) }
+        ensures { MatchBool result (PassesToken self.old (beginning is_object) self.new) (IsRefusedToken self.old (beginning is_object)) }
     {
         if !self.may_have_value() {
             return false;
@@ -68,7 +68,7 @@ impl TokenPlace {
 
     // Goes on behind an object or an array, unless it is false.
     pub(crate) fn end(&mut self, is_object: bool) -> bool
-        ensures { MatchBool result (Passes self.old (ending is_object) self.new) (IsRefused self.old (ending is_object)) }
+        ensures { MatchBool result (PassesToken self.old (ending is_object) self.new) (IsRefusedToken self.old (ending is_object)) }
     {
         if !self.goes_on(is_object) {
             return false;
@@ -79,7 +79,7 @@ impl TokenPlace {
 
     // Goes on behind a key, unless it is false.
     pub(crate) fn pass_key(&mut self, name: &str) -> bool
-        ensures { MatchBool result (Passes self.old (key name.now) self.new) (IsRefused self.old (key name.now)) }
+        ensures { MatchBool result (PassesToken self.old (key name.now) self.new) (IsRefusedToken self.old (key name.now)) }
     {
         if !self.goes_on(true) {
             return false;

@@ -7,7 +7,7 @@ use Rattle.icu_plurals.specs.PackedElements.{PackedElements, PackedValue, elemen
 use Rattle.icu_plurals.specs.Places.{Places}
 use Rattle.icu_plurals.specs.Written.{CompactNumber}
 use Rattle.plural_message.specs.Messages.{IsFilling, IsMessageOf, IsMessageWith}
-use Rattle.example_callers.specs.PackedTexts.{AreTextsOf}
+use Rattle.example_callers.specs.PackedTexts.{AreTextsOfPacked}
 
 -- the statement of the law `packed_elements_answer`
 abbrev pub PackedElementsAnswer : Type 0
@@ -16,7 +16,7 @@ PackedElementsAnswer =
     → element_at (elements_of (packed_of e)) op rules ≡ element_at e op rules
 
 -- packed texts give every number the same text as the texts that they stand for
-pub answered_alike : PackedElementsAnswer → (packed : PackedElements) (texts : Elements PackedValue) → AreTextsOf packed texts
+pub answered_alike : PackedElementsAnswer → (packed : PackedElements) (texts : Elements PackedValue) → AreTextsOfPacked packed texts
     → (op : Operands) (rules : FiveRules) → element_at (elements_of packed) op rules ≡ element_at texts op rules
 answered_alike law packed texts (inl held) op rules = ap (λ (e : Elements PackedValue). element_at e op rules) held
 answered_alike law packed texts (inr source) op rules =
@@ -24,7 +24,7 @@ answered_alike law packed texts (inr source) op rules =
 
 -- so the kept operands choose the same message among packed texts as among the texts that they
 -- stand for
-pub kept_message : PackedElementsAnswer → (packed : PackedElements) (texts : Elements PackedValue) → AreTextsOf packed texts
+pub kept_message : PackedElementsAnswer → (packed : PackedElements) (texts : Elements PackedValue) → AreTextsOfPacked packed texts
     → (rules : FiveRules) (number message : List ℕ)
     → IsMessageOf (IsKeptElement (elements_of packed) rules) number message → IsMessageOf (IsKeptElement texts rules) number message
 kept_message law packed texts are rules number message m =

@@ -9,8 +9,8 @@ use Rattle.plural_message.specs.Messages.{IsMessageOf}
 use Rattle.example_callers.specs.declared.formatter.Formatter.{Formatter}
 
 -- the texts that they hold, or those that they were packed from
-abbrev pub AreTextsOf : PackedElements → Elements PackedValue → Type 0
-AreTextsOf packed texts = (elements_of packed ≡ texts) ⊎ (packed ≡ packed_of texts)
+abbrev pub AreTextsOfPacked : PackedElements → Elements PackedValue → Type 0
+AreTextsOfPacked packed texts = (elements_of packed ≡ texts) ⊎ (packed ≡ packed_of texts)
 
 -- How a text is chosen by rules, for digits and an exponent: `IsKeptElement`, by what is kept of
 -- the number, or `IsExactElement`, within the bound, by the number itself.
@@ -21,5 +21,5 @@ TextChoice = Elements PackedValue → FiveRules → Places → ℕ → PackedVal
 -- the text that this number has among them, with the number's text in place of each `{}`.
 abbrev pub IsFormatted : TextChoice → Formatter → List ℕ → List ℕ → Type 0
 IsFormatted IsChosen formatter number message =
-    (texts : Elements PackedValue) → AreTextsOf formatter.texts texts
+    (texts : Elements PackedValue) → AreTextsOfPacked formatter.texts texts
     → IsMessageOf (IsChosen texts formatter.rules) number message

@@ -7,7 +7,7 @@ use Rattle.icu_plurals.specs.FiveRules.{FiveRules, five}
 use Rattle.icu_plurals.specs.PackedElements.{ElementsBytes, PackedValue}
 use Rattle.icu_plurals.specs.PackedRelations.{PackedRelation, RuleBytes}
 use Rattle.icu_plurals.specs.Written.{CompactNumber}
-use Rattle.example_callers.specs.PackedTexts.{AreTextsOf, TextChoice}
+use Rattle.example_callers.specs.PackedTexts.{AreTextsOfPacked, TextChoice}
 use Rattle.example_callers.specs.declared.store.Store.{Store}
 
 -- the rules with a rule for `one` only
@@ -23,6 +23,6 @@ pub record IsStoredIn (store : Store) (one texts : List ℕ) : Type 0 where
 -- For all texts that the store may hold: the text is the one that the number has among them.
 abbrev pub IsTextFor : TextChoice → Store → CompactNumber → List ℕ → Type 0
 IsTextFor IsChosen store number text =
-    (texts : Elements PackedValue) → AreTextsOf store.texts texts
+    (texts : Elements PackedValue) → AreTextsOfPacked store.texts texts
     → (value : PackedValue) × IsChosen texts store.rules number.significand.absolute number.exponent value
     × (text ≡ value.text)

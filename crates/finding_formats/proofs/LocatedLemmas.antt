@@ -5,7 +5,7 @@ use Rattle.std.specs.Prelude.{map}
 use Rattle.std.proofs.lemmas.Grind.{flat_map-append}
 use Rattle.std.proofs.lemmas.List.{append-nil}
 use Rattle.std.proofs.lemmas.List.Elements.{All-append, All-cons, All-head, All-nil, All-tail}
-use Rattle.message_report.specs.MessageFindings.{Finding}
+use Rattle.message_report.specs.MessageFindings.{MessageFinding}
 use Rattle.serde_json.specs.Data.{Data, object}
 use Rattle.serde_json.specs.Find.{get}
 use Rattle.finding_formats.specs.FindingObjects.{finding_members}
@@ -20,7 +20,7 @@ use Rattle.finding_formats.proofs.ObjectLemmas.{cause_part, place_part}
 use Rattle.finding_formats.proofs.PlainData.{IsLineValue}
 use Rattle.finding_formats.proofs.ReadLocated.{located_object_tells}
 
-finding_value : (line : Option ℕ) (placeholder : Option (List ℕ)) (f : Finding) (words : List ℕ) → Fits64If line → HasTexts f
+finding_value : (line : Option ℕ) (placeholder : Option (List ℕ)) (f : MessageFinding) (words : List ℕ) → Fits64If line → HasTexts f
     → IsLineValue (object (with_placeholder placeholder (with_line line (finding_members f words))))
 finding_value None None f words k h =
     let cause = cause_part f.cause h.cause in

@@ -5,8 +5,8 @@ use Rattle.serde_json.specs.Data.{Data, object}
 use Rattle.serde_json.specs.View.{items_of}
 use Rattle.serde_json.specs.Written.{has_float, items_have_float}
 use Rattle.message_pattern.specs.PatternParts.{Exactly, Keyword}
-use Rattle.message_report.specs.MessageFindings.{Finding}
-use Rattle.message_report.specs.MessagePlaces.{Place}
+use Rattle.message_report.specs.MessageFindings.{MessageFinding}
+use Rattle.message_report.specs.MessagePlaces.{FilePlace}
 use Rattle.message_report.specs.MessagePlaces.{at_document, at_locale, at_key, at_sources, at_source, at_messages, at_message, at_form}
 use Rattle.message_report.specs.MessagePlaces.{at_other_key, at_patterns, at_pattern, at_argument, at_branch}
 use Rattle.message_report.specs.declared.branch_fault.BranchFault.{BranchFault}
@@ -20,7 +20,7 @@ use Rattle.finding_formats.specs.LocatedFindings.{Located, Notice, Told, told_fi
 use Rattle.finding_formats.specs.LocatedLog.{told_result}
 use Rattle.finding_formats.specs.LocatedObjects.{located_data, notice_members, told_members, with_line, with_placeholder}
 
-place_without : (place : Place) → has_float (place_data place) ≡ false
+place_without : (place : FilePlace) → has_float (place_data place) ≡ false
 place_without (at_document file) = refl
 place_without (at_locale l) = refl
 place_without (at_key l key) = refl
@@ -72,18 +72,18 @@ cause_without (cause.Branch fault) = branch_without fault
 cause_without (cause.More count) = refl
 
 -- the members of an object behind the first ones, which are no floats
-object_without : (f : Finding)
+object_without : (f : MessageFinding)
     → (has_float (cause_data f.cause) || (false || (has_float (place_data f.place) || (false || (false || false))))) ≡ false
 object_without f =
     ap (λ found. found || (false || (has_float (place_data f.place) || false))) (cause_without f.cause)
     ∙ ap (λ found. found || false) (place_without f.place)
 
-pub finding_without : (f : Finding) → has_float (finding_data f) ≡ false
+pub finding_without : (f : MessageFinding) → has_float (finding_data f) ≡ false
 finding_without f = object_without f
 
 -- ---- With lines
 
-finding_told_without : (line : Option ℕ) (placeholder : Option (List ℕ)) (f : Finding) (words : List ℕ)
+finding_told_without : (line : Option ℕ) (placeholder : Option (List ℕ)) (f : MessageFinding) (words : List ℕ)
     → has_float (object (with_placeholder placeholder (with_line line (finding_members f words)))) ≡ false
 finding_told_without None None f words = object_without f
 finding_told_without None (Some placeholder) f words = object_without f

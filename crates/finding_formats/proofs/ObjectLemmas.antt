@@ -5,9 +5,9 @@ use Rattle.std.specs.Prelude.{map}
 use Rattle.std.proofs.lemmas.List.Elements.{All-append, All-cons, All-head, All-nil, All-tail}
 use Rattle.json.specs.Tree as tree
 use Rattle.message_pattern.specs.PatternParts.{Exactly, Keyword}
-use Rattle.message_report.specs.FoundInMessages.{Found}
-use Rattle.message_report.specs.MessageFindings.{Finding}
-use Rattle.message_report.specs.MessagePlaces.{Place}
+use Rattle.message_report.specs.FoundInMessages.{MessageFound}
+use Rattle.message_report.specs.MessageFindings.{MessageFinding}
+use Rattle.message_report.specs.MessagePlaces.{FilePlace}
 use Rattle.message_report.specs.MessagePlaces.{at_document, at_locale, at_key, at_sources, at_source, at_messages, at_message, at_form}
 use Rattle.message_report.specs.MessagePlaces.{at_other_key, at_patterns, at_pattern, at_argument, at_branch}
 use Rattle.message_report.specs.MessagesReportText.{counts_found}
@@ -33,7 +33,7 @@ pub record IsPart (d : Data) : Type 0 where
   pub plain : IsPlain d
   pub shallow : tree.depth (outline d) ≤ 2
 
-pub place_part : (place : Place) → IsPart (place_data place)
+pub place_part : (place : FilePlace) → IsPart (place_data place)
 place_part (at_document file) = record { plain = (tt, tt); shallow = lit≤ tt }
 place_part (at_locale l) = record { plain = (tt, (tt, tt)); shallow = lit≤ tt }
 place_part (at_key l key) = record { plain = (tt, (tt, (tt, tt))); shallow = lit≤ tt }
@@ -87,7 +87,7 @@ cause_part (cause.NoPattern kind byte) h = record { plain = (h, (tt, (tt, tt)));
 cause_part (cause.Branch f) h = branch_part f h
 cause_part (cause.More count) h = record { plain = (tt, (h, tt)); shallow = lit≤ tt }
 
-finding_line_value : (f : Finding) → HasTexts f → IsLineValue (finding_data f)
+finding_line_value : (f : MessageFinding) → HasTexts f → IsLineValue (finding_data f)
 finding_line_value f h =
     let cause = cause_part f.cause h.cause in
     let place = place_part f.place in
@@ -96,7 +96,7 @@ finding_line_value f h =
       shallow = omega (arith, cause.shallow, place.shallow);
     }
 
-findings_line_values : (fs : List Finding) → All HasTexts fs → All IsLineValue (map finding_data fs)
+findings_line_values : (fs : List MessageFinding) → All HasTexts fs → All IsLineValue (map finding_data fs)
 findings_line_values [] h = All-nil IsLineValue
 findings_line_values (f ∷ fs) h =
     All-cons IsLineValue (finding_data f) (map finding_data fs) (finding_line_value f (All-head HasTexts f fs h))
@@ -106,7 +106,7 @@ counts_line_value : (counts : Counts) → counts.faults < 2 ^ 64 → counts.form
     → IsLineValue (counts_data counts)
 counts_line_value counts h k l m = record { plain = ((h, (k, (l, (m, tt)))), tt); shallow = lit≤ tt }
 
-found_line_values : (found : Found) → AllHaveTexts found → All IsLineValue (found_data found)
+found_line_values : (found : MessageFound) → AllHaveTexts found → All IsLineValue (found_data found)
 found_line_values found h =
     All-append IsLineValue (map finding_data found.findings) (counts_data (counts_found found) ∷ [])
     (findings_line_values found.findings h.findings)
@@ -116,14 +116,14 @@ found_line_values found h =
 -- ---- The objects tell what is found
 
 -- an object of a finding has a cause, and one of counts has none
-not_counts : (f : Finding) (counts : Counts) → finding_data f ≡ counts_data counts → ⊥
+not_counts : (f : MessageFinding) (counts : Counts) → finding_data f ≡ counts_data counts → ⊥
 not_counts f counts same = let found = ap (get (codes "cause")) same in cc
 
 none_left : {A : Type 0} (x : A) (xs : List A) → xs ++ (x ∷ []) ≡ [] → ⊥
 none_left x [] same = cc
 none_left x (y ∷ ys) same = cc
 
-record SameFound (fs gs : List Finding) (c d : Counts) : Type 0 where
+record SameFound (fs gs : List MessageFinding) (c d : Counts) : Type 0 where
   findings : fs ≡ gs
   counts : c ≡ d
 
@@ -139,7 +139,7 @@ counts_tell c d same =
     ap (λ (n : ℕ). counts_of n c.forms c.faults c.notes) messages ∙ ap (λ (n : ℕ). counts_of d.messages n c.faults c.notes) forms
     ∙ ap (λ (n : ℕ). counts_of d.messages d.forms n c.notes) faults ∙ ap (λ (n : ℕ). counts_of d.messages d.forms d.faults n) notes
 
-objects_tell : (fs gs : List Finding) (c d : Counts) → All HasTexts fs → All HasTexts gs
+objects_tell : (fs gs : List MessageFinding) (c d : Counts) → All HasTexts fs → All HasTexts gs
     → map finding_data fs ++ (counts_data c ∷ []) ≡ map finding_data gs ++ (counts_data d ∷ []) → SameFound fs gs c d
 objects_tell [] [] c d h k same = let last : counts_data c ≡ counts_data d = cc in record { findings = refl; counts = counts_tell c d last }
 objects_tell [] (g ∷ gs) c d h k same = let first : finding_data g ≡ counts_data c = cc in absurd (not_counts g c first)
@@ -152,7 +152,7 @@ objects_tell (f ∷ fs) (g ∷ gs) c d h k same =
     let findings : fs ≡ gs = others.findings in
     record { findings = cc; counts = others.counts }
 
-abbrev found_of : List Finding → Counts → Found
+abbrev found_of : List MessageFinding → Counts → MessageFound
 found_of findings counts = record {
   findings = findings;
   faults = counts.faults;
@@ -165,5 +165,5 @@ pub lines_tell_findings : LinesTellFindings
 lines_tell_findings a b h k same =
     let objects = lines_tell (found_data a) (found_data b) (found_line_values a h) (found_line_values b k) same in
     let found = objects_tell a.findings b.findings (counts_found a) (counts_found b) h.findings k.findings objects in
-    ap (λ (fs : List Finding). found_of fs (counts_found a)) found.findings
+    ap (λ (fs : List MessageFinding). found_of fs (counts_found a)) found.findings
     ∙ ap (λ (c : Counts). found_of b.findings c) found.counts

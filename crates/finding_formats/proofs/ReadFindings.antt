@@ -11,11 +11,11 @@ use Rattle.icu_plurals.specs.declared.PluralRuleType.TheVariants.{Cardinal, Ordi
 use Rattle.message_pattern.specs.PatternParts.{Selector, Exactly, Keyword}
 use Rattle.message_pattern.specs.declared.error.FaultKind.{FaultKind}
 use Rattle.message_pattern.specs.declared.error.FaultKind.TheVariants as kind
-use Rattle.plural_checker.specs.FirstSamples.{kept_sample, sample_text}
+use Rattle.plural_checker.specs.FirstSamples.{kept_sample, kept_sample_text}
 use Rattle.plural_checker.specs.declared.Sample.{Sample}
-use Rattle.message_report.specs.MessageFindings.{Finding}
+use Rattle.message_report.specs.MessageFindings.{MessageFinding}
 use Rattle.message_report.specs.MessageForms.{form_name}
-use Rattle.message_report.specs.MessagePlaces.{ArgumentPlace, LocalePlace, MessagePlace, PatternPlace, Place, file_of, type_name}
+use Rattle.message_report.specs.MessagePlaces.{ArgumentPlace, FileLocalePlace, MessagePlace, FilePatternPlace, FilePlace, file_of, type_name}
 use Rattle.message_report.specs.MessagePlaces.{at_document, at_locale, at_key, at_sources, at_source, at_messages, at_message, at_form}
 use Rattle.message_report.specs.MessagePlaces.{at_other_key, at_patterns, at_pattern, at_argument, at_branch}
 use Rattle.message_report.specs.declared.branch_fault.BranchFault.{BranchFault}
@@ -129,7 +129,7 @@ kind_again kind.TooDeep = refl
 
 -- ---- Places
 
-abbrev locale_in : List ℕ → Data → LocalePlace
+abbrev locale_in : List ℕ → Data → FileLocalePlace
 locale_in file d = record { file = file; locale = text_at (codes "locale") d }
 
 abbrev message_in : List ℕ → Data → MessagePlace
@@ -139,7 +139,7 @@ message_in file d = record {
   key = text_at (codes "message") d;
 }
 
-abbrev pattern_in : List ℕ → Data → PatternPlace
+abbrev pattern_in : List ℕ → Data → FilePatternPlace
 pattern_in file d = record { locale = locale_in file d; key = text_at (codes "pattern") d }
 
 abbrev argument_in : List ℕ → Data → ArgumentPlace
@@ -149,7 +149,7 @@ abbrev selector_in : Data → Selector
 selector_in d =
     if is_some (get (codes "exactly") d) then Exactly (text_at (codes "exactly") d) else Keyword (text_at (codes "keyword") d)
 
-abbrev place_of_kind : List ℕ → List ℕ → Data → Place
+abbrev place_of_kind : List ℕ → List ℕ → Data → FilePlace
 place_of_kind word file d =
     if bytes_eq word (codes "locale") then at_locale (locale_in file d)
     else if bytes_eq word (codes "key") then at_key (locale_in file d) (text_at (codes "key") d)
@@ -165,7 +165,7 @@ place_of_kind word file d =
     else if bytes_eq word (codes "branch") then at_branch (argument_in file d) (selector_in d)
     else at_document file
 
-pub place_in : List ℕ → Data → Place
+pub place_in : List ℕ → Data → FilePlace
 place_in file d = place_of_kind (text_at (codes "kind") d) file d
 
 shown_again : (bytes : List ℕ) → IsUtf8 bytes → shown_bytes bytes ≡ bytes
@@ -203,7 +203,7 @@ key_again : (m : MessagePlace) (key : List ℕ) → place_in m.locale.file (plac
 unfolding place_in
 key_again m key = ap (λ (type : PluralRuleType). at_other_key (record m { type = type }) key) (type_again m.type)
 
-place_again : (place : Place) → PlaceHasTexts place → place_in (file_of place) (place_data place) ≡ place
+place_again : (place : FilePlace) → PlaceHasTexts place → place_in (file_of place) (place_data place) ≡ place
 unfolding place_in
 place_again (at_document file) h = refl
 place_again (at_locale l) h = refl
@@ -324,15 +324,15 @@ form_fault_again (fault.Missing category first (Some second)) h =
 form_fault_again (fault.MissingRare category None None) h =
     ap (λ (c : PluralCategory). cause.Form (fault.MissingRare c None None)) (category_again category)
 form_fault_again (fault.MissingRare category None (Some second)) h =
-    ap (λ (c : PluralCategory). cause.Form (fault.MissingRare c None (Some (kept_sample (sample_text second))))) (category_again category)
+    ap (λ (c : PluralCategory). cause.Form (fault.MissingRare c None (Some (kept_sample (kept_sample_text second))))) (category_again category)
     ∙ ap (λ (s : Sample). cause.Form (fault.MissingRare category None (Some s))) h.1
 form_fault_again (fault.MissingRare category (Some first) None) h =
-    ap (λ (c : PluralCategory). cause.Form (fault.MissingRare c (Some (kept_sample (sample_text first))) None)) (category_again category)
+    ap (λ (c : PluralCategory). cause.Form (fault.MissingRare c (Some (kept_sample (kept_sample_text first))) None)) (category_again category)
     ∙ ap (λ (s : Sample). cause.Form (fault.MissingRare category (Some s) None)) h.0
 form_fault_again (fault.MissingRare category (Some first) (Some second)) h =
     ap (λ (c : PluralCategory). cause.Form
-    (fault.MissingRare c (Some (kept_sample (sample_text first))) (Some (kept_sample (sample_text second))))) (category_again category)
-    ∙ ap (λ (s : Sample). cause.Form (fault.MissingRare category (Some s) (Some (kept_sample (sample_text second))))) h.0
+    (fault.MissingRare c (Some (kept_sample (kept_sample_text first))) (Some (kept_sample (kept_sample_text second))))) (category_again category)
+    ∙ ap (λ (s : Sample). cause.Form (fault.MissingRare category (Some s) (Some (kept_sample (kept_sample_text second))))) h.0
     ∙ ap (λ (s : Sample). cause.Form (fault.MissingRare category (Some first) (Some s))) h.1
 
 branch_fault_again : (f : BranchFault) → BranchFits f → cause_in (cause_data (cause.Branch f)) ≡ cause.Branch f
@@ -349,16 +349,16 @@ branch_fault_again (branch.Missing category first (Some second)) h =
 branch_fault_again (branch.MissingRare category None None) h =
     ap (λ (c : PluralCategory). cause.Branch (branch.MissingRare c None None)) (category_again category)
 branch_fault_again (branch.MissingRare category None (Some second)) h =
-    ap (λ (c : PluralCategory). cause.Branch (branch.MissingRare c None (Some (kept_sample (sample_text second)))))
+    ap (λ (c : PluralCategory). cause.Branch (branch.MissingRare c None (Some (kept_sample (kept_sample_text second)))))
     (category_again category)
     ∙ ap (λ (s : Sample). cause.Branch (branch.MissingRare category None (Some s))) h.1
 branch_fault_again (branch.MissingRare category (Some first) None) h =
-    ap (λ (c : PluralCategory). cause.Branch (branch.MissingRare c (Some (kept_sample (sample_text first))) None)) (category_again category)
+    ap (λ (c : PluralCategory). cause.Branch (branch.MissingRare c (Some (kept_sample (kept_sample_text first))) None)) (category_again category)
     ∙ ap (λ (s : Sample). cause.Branch (branch.MissingRare category (Some s) None)) h.0
 branch_fault_again (branch.MissingRare category (Some first) (Some second)) h =
     ap (λ (c : PluralCategory). cause.Branch
-    (branch.MissingRare c (Some (kept_sample (sample_text first))) (Some (kept_sample (sample_text second))))) (category_again category)
-    ∙ ap (λ (s : Sample). cause.Branch (branch.MissingRare category (Some s) (Some (kept_sample (sample_text second))))) h.0
+    (branch.MissingRare c (Some (kept_sample (kept_sample_text first))) (Some (kept_sample (kept_sample_text second))))) (category_again category)
+    ∙ ap (λ (s : Sample). cause.Branch (branch.MissingRare category (Some s) (Some (kept_sample (kept_sample_text second))))) h.0
     ∙ ap (λ (s : Sample). cause.Branch (branch.MissingRare category (Some first) (Some s))) h.1
 
 cause_again : (c : Cause) → CauseFits c → cause_in (cause_data c) ≡ c
@@ -376,18 +376,18 @@ cause_again (cause.More count) h = refl
 
 -- ---- Findings
 
-abbrev pub finding_in : Data → Finding
+abbrev pub finding_in : Data → MessageFinding
 finding_in d = record {
   place = place_in (text_at (codes "file") d) (value_at (codes "place") d);
   cause = cause_in (value_at (codes "cause") d);
 }
 
-pub finding_again : (f : Finding) → HasTexts f → finding_in (finding_data f) ≡ f
+pub finding_again : (f : MessageFinding) → HasTexts f → finding_in (finding_data f) ≡ f
 finding_again f h =
-    ap (λ (place : Place). let found : Finding = record { place = place; cause = cause_in (cause_data f.cause) } in found)
+    ap (λ (place : FilePlace). let found : MessageFinding = record { place = place; cause = cause_in (cause_data f.cause) } in found)
     (place_again f.place h.place)
-    ∙ ap (λ (c : Cause). let found : Finding = record { place = f.place; cause = c } in found) (cause_again f.cause h.cause)
+    ∙ ap (λ (c : Cause). let found : MessageFinding = record { place = f.place; cause = c } in found) (cause_again f.cause h.cause)
 
 -- so the object tells the finding
-pub object_tells : (f g : Finding) → HasTexts f → HasTexts g → finding_data f ≡ finding_data g → f ≡ g
+pub object_tells : (f g : MessageFinding) → HasTexts f → HasTexts g → finding_data f ≡ finding_data g → f ≡ g
 object_tells f g h k same = sym (finding_again f h) ∙ ap finding_in same ∙ finding_again g k

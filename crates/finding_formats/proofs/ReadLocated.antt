@@ -1,7 +1,7 @@
 -- What is told is read again from its object, with its line and what says the number.
 use Rattle.std.proofs.Common.{◌≡◌, ℕ, List, Option, Some, None, refl, sym, ap, ◌∙◌, codes}
 use Rattle.std.specs.Prelude.{bytes_eq, if◌then◌else◌, is_some}
-use Rattle.message_report.specs.MessageFindings.{Finding}
+use Rattle.message_report.specs.MessageFindings.{MessageFinding}
 use Rattle.message_report.specs.declared.severity.Severity.{Severity}
 use Rattle.message_report.specs.declared.severity.Severity.TheVariants.{Error, Note}
 use Rattle.serde_json.specs.Data.{Data}
@@ -47,14 +47,14 @@ severity_again Note = refl
 abbrev notice_of : Notice → Severity → Told
 notice_of n severity = told_notice (record n { severity = severity })
 
-finding_told_again : (line : Option ℕ) (placeholder : Option (List ℕ)) (f : Finding) → HasTexts f
+finding_told_again : (line : Option ℕ) (placeholder : Option (List ℕ)) (f : MessageFinding) → HasTexts f
     → located_in (located_data (located_of line placeholder (told_finding f))) ≡ located_of line placeholder (told_finding f)
-finding_told_again None None f h = ap (λ (g : Finding). located_of None None (told_finding g)) (finding_again f h)
+finding_told_again None None f h = ap (λ (g : MessageFinding). located_of None None (told_finding g)) (finding_again f h)
 finding_told_again None (Some placeholder) f h =
-    ap (λ (g : Finding). located_of None (Some placeholder) (told_finding g)) (finding_again f h)
-finding_told_again (Some line) None f h = ap (λ (g : Finding). located_of (Some line) None (told_finding g)) (finding_again f h)
+    ap (λ (g : MessageFinding). located_of None (Some placeholder) (told_finding g)) (finding_again f h)
+finding_told_again (Some line) None f h = ap (λ (g : MessageFinding). located_of (Some line) None (told_finding g)) (finding_again f h)
 finding_told_again (Some line) (Some placeholder) f h =
-    ap (λ (g : Finding). located_of (Some line) (Some placeholder) (told_finding g)) (finding_again f h)
+    ap (λ (g : MessageFinding). located_of (Some line) (Some placeholder) (told_finding g)) (finding_again f h)
 
 notice_told_again : (line : Option ℕ) (placeholder : Option (List ℕ)) (n : Notice)
     → located_in (located_data (located_of line placeholder (told_notice n))) ≡ located_of line placeholder (told_notice n)

@@ -6,12 +6,12 @@ use Rattle.std.specs.List.{flat_map, list_any}
 use Rattle.percent_encoding.specs.Percent.{percent_encode_byte}
 
 -- the byte is at least the first and at most the last
-abbrev pub is_between : ℕ → ℕ → ℕ → Bool
-is_between first last byte = nat_le first byte && nat_le byte last
+abbrev pub is_byte_between : ℕ → ℕ → ℕ → Bool
+is_byte_between first last byte = nat_le first byte && nat_le byte last
 
 -- a letter or a digit of ASCII
 abbrev pub is_alphanumeric : ℕ → Bool
-is_alphanumeric byte = is_between 48 57 byte || is_between 65 90 byte || is_between 97 122 byte
+is_alphanumeric byte = is_byte_between 48 57 byte || is_byte_between 65 90 byte || is_byte_between 97 122 byte
 
 -- what else stands in a path for itself: the other unreserved characters, the delimiters within a
 -- segment, `@`, and `/` between segments; `:` does so too, but not in a first segment

@@ -2,7 +2,7 @@
 --     format_named word      the format of a word
 --     printed_as format found      what is found, as text in a format
 use Rattle.std.specs.Prelude.{ℕ, List, bytes_eq, codes, Option, Some, None, if◌then◌else◌}
-use Rattle.message_report.specs.FoundInMessages.{Found}
+use Rattle.message_report.specs.FoundInMessages.{MessageFound}
 use Rattle.message_report.specs.MessagesReportText.{messages_report_text}
 use Rattle.finding_formats.specs.JsonLines.{json_lines}
 use Rattle.finding_formats.specs.SarifLog.{sarif_text}
@@ -24,7 +24,7 @@ format_named word =
     else if bytes_eq word (format_name GitHub) then Some GitHub
     else None
 
-abbrev pub printed_as : Format → Found → List ℕ
+abbrev pub printed_as : Format → MessageFound → List ℕ
 printed_as Text found = messages_report_text found
 printed_as Json found = json_lines found
 printed_as Sarif found = sarif_text found

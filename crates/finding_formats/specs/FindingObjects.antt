@@ -10,13 +10,13 @@ use Rattle.message_pattern.specs.PatternParts.{Selector, Exactly, Keyword}
 use Rattle.message_pattern.specs.declared.error.FaultKind.{FaultKind}
 use Rattle.message_pattern.specs.declared.error.FaultKind.TheVariants as kind
 use Rattle.plural_documents.specs.PrintedKeys.{length_text}
-use Rattle.message_report.specs.FindingCauses.{cause_text, severity_of}
-use Rattle.message_report.specs.MessageFindings.{Finding}
+use Rattle.message_report.specs.FindingCauses.{message_cause_text, severity_of}
+use Rattle.message_report.specs.MessageFindings.{MessageFinding}
 use Rattle.message_report.specs.MessageForms.{form_name}
-use Rattle.message_report.specs.MessagePlaces.{ArgumentPlace, LocalePlace, MessagePlace, PatternPlace, Place, file_of, place_text, type_name}
+use Rattle.message_report.specs.MessagePlaces.{ArgumentPlace, FileLocalePlace, MessagePlace, FilePatternPlace, FilePlace, file_of, file_place_text, type_name}
 use Rattle.message_report.specs.MessagePlaces.{at_document, at_locale, at_key, at_sources, at_source, at_messages, at_message, at_form}
 use Rattle.message_report.specs.MessagePlaces.{at_other_key, at_patterns, at_pattern, at_argument, at_branch}
-use Rattle.plural_checker.specs.FirstSamples.{sample_text}
+use Rattle.plural_checker.specs.FirstSamples.{kept_sample_text}
 use Rattle.plural_checker.specs.declared.Sample.{Sample}
 use Rattle.message_report.specs.declared.branch_fault.BranchFault.{BranchFault}
 use Rattle.message_report.specs.declared.branch_fault.BranchFault.TheVariants as branch
@@ -28,11 +28,11 @@ use Rattle.message_report.specs.declared.fault.FormFault.TheVariants as form
 use Rattle.finding_formats.specs.FindingCodes.{code_name, code_of, severity_word}
 
 -- the members with a text under a key; an object has its keys in the order of their bytes
-abbrev pub with_text : List ℕ → List ℕ → Members → Members
-with_text key text members = put key (string text) members
+abbrev pub with_text_under : List ℕ → List ℕ → Members → Members
+with_text_under key text members = put key (string text) members
 
-abbrev pub with_number : List ℕ → ℕ → Members → Members
-with_number key n members = put key (number (unsigned n)) members
+abbrev pub with_number_under : List ℕ → ℕ → Members → Members
+with_number_under key n members = put key (number (unsigned n)) members
 
 -- bytes of a pattern, which is a text: `\(3 bytes)` in place of bytes that cut a character
 abbrev pub shown_bytes : List ℕ → List ℕ
@@ -40,25 +40,25 @@ shown_bytes bytes = if is_utf8 bytes then bytes else length_text bytes
 
 -- ---- A place
 
-abbrev pub with_locale : LocalePlace → Members → Members
-with_locale l members = with_text (codes "locale") l.locale members
+abbrev pub with_locale_place : FileLocalePlace → Members → Members
+with_locale_place l members = with_text_under (codes "locale") l.locale members
 
 abbrev pub with_message : MessagePlace → Members → Members
 with_message m members =
-    with_text (codes "message") m.key (with_text (codes "type") (type_name m.type) (with_locale m.locale members))
+    with_text_under (codes "message") m.key (with_text_under (codes "type") (type_name m.type) (with_locale_place m.locale members))
 
-abbrev pub with_pattern : PatternPlace → Members → Members
-with_pattern p members = with_text (codes "pattern") p.key (with_locale p.locale members)
+abbrev pub with_pattern : FilePatternPlace → Members → Members
+with_pattern p members = with_text_under (codes "pattern") p.key (with_locale_place p.locale members)
 
 abbrev pub with_argument : ArgumentPlace → Members → Members
-with_argument a members = with_text (codes "argument") (shown_bytes a.name) (with_pattern a.pattern members)
+with_argument a members = with_text_under (codes "argument") (shown_bytes a.name) (with_pattern a.pattern members)
 
 -- a branch for a number has the number as it is written
 abbrev pub with_selector : Selector → Members → Members
-with_selector (Exactly n) members = with_text (codes "exactly") (shown_bytes n) members
-with_selector (Keyword word) members = with_text (codes "keyword") (shown_bytes word) members
+with_selector (Exactly n) members = with_text_under (codes "exactly") (shown_bytes n) members
+with_selector (Keyword word) members = with_text_under (codes "keyword") (shown_bytes word) members
 
-abbrev pub place_kind : Place → List ℕ
+abbrev pub place_kind : FilePlace → List ℕ
 place_kind (at_document file) = codes "document"
 place_kind (at_locale l) = codes "locale"
 place_kind (at_key l key) = codes "key"
@@ -74,24 +74,24 @@ place_kind (at_argument a) = codes "argument"
 place_kind (at_branch a selector) = codes "branch"
 
 -- what a place has, but for its file
-abbrev pub with_place : Place → Members → Members
+abbrev pub with_place : FilePlace → Members → Members
 with_place (at_document file) members = members
-with_place (at_locale l) members = with_locale l members
-with_place (at_key l key) members = with_text (codes "key") key (with_locale l members)
-with_place (at_sources l) members = with_locale l members
-with_place (at_source l key) members = with_text (codes "message") key (with_locale l members)
-with_place (at_messages l type) members = with_text (codes "type") (type_name type) (with_locale l members)
+with_place (at_locale l) members = with_locale_place l members
+with_place (at_key l key) members = with_text_under (codes "key") key (with_locale_place l members)
+with_place (at_sources l) members = with_locale_place l members
+with_place (at_source l key) members = with_text_under (codes "message") key (with_locale_place l members)
+with_place (at_messages l type) members = with_text_under (codes "type") (type_name type) (with_locale_place l members)
 with_place (at_message m) members = with_message m members
-with_place (at_form m form) members = with_text (codes "form") (form_name form) (with_message m members)
-with_place (at_other_key m key) members = with_text (codes "key") key (with_message m members)
-with_place (at_patterns l) members = with_locale l members
+with_place (at_form m form) members = with_text_under (codes "form") (form_name form) (with_message m members)
+with_place (at_other_key m key) members = with_text_under (codes "key") key (with_message m members)
+with_place (at_patterns l) members = with_locale_place l members
 with_place (at_pattern p) members = with_pattern p members
 with_place (at_argument a) members = with_argument a members
 with_place (at_branch a selector) members = with_selector selector (with_argument a members)
 
 -- `{"kind":"message","locale":"ru","message":"files","type":"cardinal"}`
-abbrev pub place_data : Place → Data
-place_data place = object (with_text (codes "kind") (place_kind place) (with_place place no_members))
+abbrev pub place_data : FilePlace → Data
+place_data place = object (with_text_under (codes "kind") (place_kind place) (with_place place no_members))
 
 -- ---- A cause
 
@@ -121,7 +121,7 @@ known_numbers (Some first) None = items_with first no_items
 known_numbers (Some first) (Some second) = items_with first (items_with second no_items)
 
 abbrev pub samples_with : Sample → Items → Items
-samples_with sample items = item (string (sample_text sample)) items
+samples_with sample items = item (string (kept_sample_text sample)) items
 
 -- the samples that are known, in order
 abbrev pub known_samples : Option Sample → Option Sample → Items
@@ -133,61 +133,61 @@ known_samples (Some first) (Some second) = samples_with first (samples_with seco
 -- a category, and numbers of it
 abbrev pub with_numbers : PluralCategory → Option ℕ → Option ℕ → Members → Members
 with_numbers category first second members =
-    put (codes "numbers") (array (known_numbers first second)) (with_text (codes "category") (name_of category) members)
+    put (codes "numbers") (array (known_numbers first second)) (with_text_under (codes "category") (name_of category) members)
 
 -- a category, and samples of it
-abbrev pub with_samples : PluralCategory → Option Sample → Option Sample → Members → Members
-with_samples category first second members =
-    put (codes "samples") (array (known_samples first second)) (with_text (codes "category") (name_of category) members)
+abbrev pub with_category_samples : PluralCategory → Option Sample → Option Sample → Members → Members
+with_category_samples category first second members =
+    put (codes "samples") (array (known_samples first second)) (with_text_under (codes "category") (name_of category) members)
 
 abbrev pub with_form_fault : FormFault → Members → Members
 with_form_fault form.NoText members = members
-with_form_fault (form.Unused category) members = with_text (codes "category") (name_of category) members
+with_form_fault (form.Unused category) members = with_text_under (codes "category") (name_of category) members
 with_form_fault (form.NoNumber category first second) members = with_numbers category (Some first) (Some second) members
 with_form_fault (form.Missing category first second) members = with_numbers category (Some first) second members
-with_form_fault (form.MissingRare category first second) members = with_samples category first second members
+with_form_fault (form.MissingRare category first second) members = with_category_samples category first second members
 
 abbrev pub with_branch_fault : BranchFault → Members → Members
 with_branch_fault branch.NoCategory members = members
 with_branch_fault branch.Twice members = members
-with_branch_fault (branch.Unused category) members = with_text (codes "category") (name_of category) members
+with_branch_fault (branch.Unused category) members = with_text_under (codes "category") (name_of category) members
 with_branch_fault (branch.NoHash category first second) members = with_numbers category (Some first) (Some second) members
 with_branch_fault (branch.Missing category first second) members = with_numbers category (Some first) second members
-with_branch_fault (branch.MissingRare category first second) members = with_samples category first second members
+with_branch_fault (branch.MissingRare category first second) members = with_category_samples category first second members
 
 -- what a cause has: of what it is, where others have the same code, and its values
 abbrev pub with_cause : Cause → Members → Members
 with_cause cause.NoObject members = members
 with_cause cause.NotAPart members = members
 with_cause cause.NoTextList members = members
-with_cause (cause.NoRules type) members = with_text (codes "type") (type_name type) members
-with_cause (cause.Form fault) members = with_form_fault fault (with_text (codes "of") (codes "form") members)
+with_cause (cause.NoRules type) members = with_text_under (codes "type") (type_name type) members
+with_cause (cause.Form fault) members = with_form_fault fault (with_text_under (codes "of") (codes "form") members)
 with_cause cause.NotAForm members = members
-with_cause cause.NoText members = with_text (codes "of") (codes "pattern") members
+with_cause cause.NoText members = with_text_under (codes "of") (codes "pattern") members
 with_cause (cause.NoPattern kind byte) members =
-    with_number (codes "byte") byte (with_text (codes "fault") (fault_kind_name kind) members)
-with_cause (cause.Branch fault) members = with_branch_fault fault (with_text (codes "of") (codes "branch") members)
-with_cause (cause.More count) members = with_number (codes "count") count members
+    with_number_under (codes "byte") byte (with_text_under (codes "fault") (fault_kind_name kind) members)
+with_cause (cause.Branch fault) members = with_branch_fault fault (with_text_under (codes "of") (codes "branch") members)
+with_cause (cause.More count) members = with_number_under (codes "count") count members
 
 -- `{"category":"many","code":"missing","numbers":[0,5],"of":"form"}`
 abbrev pub cause_data : Cause → Data
-cause_data cause = object (with_text (codes "code") (code_name (code_of cause)) (with_cause cause no_members))
+cause_data cause = object (with_text_under (codes "code") (code_name (code_of cause)) (with_cause cause no_members))
 
 -- ---- A finding
 
 -- what is printed of it after the name of its file: `ru files many: missing, but 0 and 5 are many`
-abbrev pub finding_text : Finding → List ℕ
-finding_text f = place_text f.place ++ (codes ": " ++ cause_text f.cause)
+abbrev pub finding_text : MessageFinding → List ℕ
+finding_text f = file_place_text f.place ++ (codes ": " ++ message_cause_text f.cause)
 
 -- the members of its object, given what is printed of it
-abbrev pub finding_members : Finding → List ℕ → Members
+abbrev pub finding_members : MessageFinding → List ℕ → Members
 finding_members f text =
     member (codes "cause") (cause_data f.cause) (member (codes "file") (string (file_of f.place))
     (member (codes "place") (place_data f.place) (member (codes "severity") (string (severity_word (severity_of f.cause)))
     (member (codes "text") (string text) no_members))))
 
 -- `{"cause":{..},"file":"ru.json","place":{..},"severity":"fault","text":"ru files many: .."}`
-abbrev pub finding_data : Finding → Data
+abbrev pub finding_data : MessageFinding → Data
 finding_data f = object (finding_members f (finding_text f))
 
 -- `{"counts":{"faults":3,"forms":40,"messages":12,"notes":1}}`

@@ -5,11 +5,11 @@
 use Rattle.std.specs.Prelude.{◌≡◌, ℕ, ◌<◌, ◌^◌, All, Option, Some, None}
 use Rattle.std.specs.Str.{IsUtf8}
 use Rattle.message_pattern.specs.PatternParts.{Selector, Exactly, Keyword}
-use Rattle.plural_checker.specs.FirstSamples.{kept_sample, sample_text}
+use Rattle.plural_checker.specs.FirstSamples.{kept_sample, kept_sample_text}
 use Rattle.plural_checker.specs.declared.Sample.{Sample}
-use Rattle.message_report.specs.FoundInMessages.{Found}
-use Rattle.message_report.specs.MessageFindings.{Finding}
-use Rattle.message_report.specs.MessagePlaces.{Place}
+use Rattle.message_report.specs.FoundInMessages.{MessageFound}
+use Rattle.message_report.specs.MessageFindings.{MessageFinding}
+use Rattle.message_report.specs.MessagePlaces.{FilePlace}
 use Rattle.message_report.specs.MessagePlaces.{at_document, at_locale, at_key, at_sources, at_source, at_messages, at_message, at_form}
 use Rattle.message_report.specs.MessagePlaces.{at_other_key, at_patterns, at_pattern, at_argument, at_branch}
 use Rattle.message_report.specs.declared.branch_fault.BranchFault.{BranchFault}
@@ -32,7 +32,7 @@ SelectorIsText (Exactly n) = IsUtf8 n
 SelectorIsText (Keyword word) = IsUtf8 word
 
 -- only these are bytes of a pattern
-abbrev pub PlaceHasTexts : Place → Type 0
+abbrev pub PlaceHasTexts : FilePlace → Type 0
 PlaceHasTexts (at_document file) = Unit {0}
 PlaceHasTexts (at_locale l) = Unit {0}
 PlaceHasTexts (at_key l key) = Unit {0}
@@ -50,7 +50,7 @@ PlaceHasTexts (at_branch a selector) = IsUtf8 a.name × SelectorIsText selector
 -- a sample as it is kept of its text: the bytes behind that are zeros
 abbrev pub IsKeptIf : Option Sample → Type 0
 IsKeptIf None = Unit {0}
-IsKeptIf (Some sample) = kept_sample (sample_text sample) ≡ sample
+IsKeptIf (Some sample) = kept_sample (kept_sample_text sample) ≡ sample
 
 abbrev pub FormFits : FormFault → Type 0
 FormFits form.NoText = Unit {0}
@@ -80,11 +80,11 @@ CauseFits (cause.NoPattern kind byte) = Fits64 byte
 CauseFits (cause.Branch fault) = BranchFits fault
 CauseFits (cause.More count) = Fits64 count
 
-pub record HasTexts (f : Finding) : Type 0 where
+pub record HasTexts (f : MessageFinding) : Type 0 where
   pub place : PlaceHasTexts f.place
   pub cause : CauseFits f.cause
 
-pub record AllHaveTexts (found : Found) : Type 0 where
+pub record AllHaveTexts (found : MessageFound) : Type 0 where
   pub findings : All HasTexts found.findings
   pub faults : Fits64 found.faults
   pub notes : Fits64 found.notes
@@ -93,4 +93,4 @@ pub record AllHaveTexts (found : Found) : Type 0 where
 
 -- the same lines are printed only for the same findings, in the same order, and the same counts
 abbrev pub LinesTellFindings : Type 0
-LinesTellFindings = (a b : Found) → AllHaveTexts a → AllHaveTexts b → json_lines a ≡ json_lines b → a ≡ b
+LinesTellFindings = (a b : MessageFound) → AllHaveTexts a → AllHaveTexts b → json_lines a ≡ json_lines b → a ≡ b

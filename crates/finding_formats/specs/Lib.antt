@@ -4,7 +4,6 @@ pub mod JsonLines
 pub mod FileReferences
 pub mod Logs
 pub mod SarifLog
-pub mod LineMarks
 pub mod WorkflowCommands
 pub mod FindingFormats
 pub mod JsonLineLaws
@@ -13,6 +12,4 @@ pub mod LocatedFindings
 pub mod LocatedReport
 pub mod LocatedObjects
 pub mod LocatedLog
-pub mod LocatedCommands
-pub mod PrintedLocated
 pub mod LocatedLineLaws

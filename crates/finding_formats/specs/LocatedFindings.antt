@@ -5,10 +5,10 @@
 use Rattle.std.specs.Prelude.{ℕ, ◌==◌, List, ◌++◌, codes, Option, Some, None, option_map, if◌then◌else◌}
 use Rattle.std.specs.Borrow.{Bor}
 use Rattle.plural_documents.specs.PrintedKeys.{name_text}
-use Rattle.message_report.specs.FindingCauses.{cause_text, severity_of}
+use Rattle.message_report.specs.FindingCauses.{message_cause_text, severity_of}
 use Rattle.message_report.specs.FormFaults.{are_text, form_fault_text}
-use Rattle.message_report.specs.MessageFindings.{Finding, finding_view}
-use Rattle.message_report.specs.MessagePlaces.{file_of, place_text}
+use Rattle.message_report.specs.MessageFindings.{MessageFinding, message_finding_view}
+use Rattle.message_report.specs.MessagePlaces.{file_of, file_place_text}
 use Rattle.message_report.specs.declared.cause.Cause.{Cause}
 use Rattle.message_report.specs.declared.cause.Cause.TheVariants as cause
 use Rattle.message_report.specs.declared.fault.FormFault.{FormFault}
@@ -29,7 +29,7 @@ pub record Notice : Type 0 where
   pub text : List ℕ
 
 pub data Told : Type 0 where
-  told_finding : Finding → Told
+  told_finding : MessageFinding → Told
   told_notice : Notice → Told
 
 -- the line, and what says the number in the file's texts (`%d`)
@@ -59,12 +59,12 @@ form_words shown fault = form_fault_text fault
 
 abbrev pub cause_words : List ℕ → Cause → List ℕ
 cause_words shown (cause.Form fault) = form_words shown fault
-cause_words shown c = cause_text c
+cause_words shown c = message_cause_text c
 
 -- what says the number is printed as a name is; without it `{}` stands there
-abbrev pub finding_words : Option (List ℕ) → Finding → List ℕ
+abbrev pub finding_words : Option (List ℕ) → MessageFinding → List ℕ
 finding_words None f = finding_text f
-finding_words (Some placeholder) f = place_text f.place ++ (codes ": " ++ cause_words (name_text placeholder) f.cause)
+finding_words (Some placeholder) f = file_place_text f.place ++ (codes ": " ++ cause_words (name_text placeholder) f.cause)
 
 abbrev pub told_words : Option (List ℕ) → Told → List ℕ
 told_words placeholder (told_finding f) = finding_words placeholder f
@@ -87,7 +87,7 @@ abbrev pub notice_view : notices.Notice → Notice
 notice_view n = record { file = n.file.now; severity = n.severity; code = n.code.now; text = n.text.now }
 
 abbrev pub told_view : tolds.Told → Told
-told_view (told.Finding finding) = told_finding (finding_view finding)
+told_view (told.Finding finding) = told_finding (message_finding_view finding)
 told_view (told.Notice notice) = told_notice (notice_view notice)
 
 abbrev pub located_view : locateds.Located → Located

@@ -4,7 +4,7 @@ use Rattle.std.specs.Prelude.{ℕ, List, ◌++◌, codes, map, Option, Some, Non
 use Rattle.std.specs.List.{flat_map}
 use Rattle.serde_json.specs.Data.{Data, number, unsigned, string, object, Members, no_members, member}
 use Rattle.finding_formats.specs.FindingCodes.{severity_word}
-use Rattle.finding_formats.specs.FindingObjects.{finding_members, with_number, with_text}
+use Rattle.finding_formats.specs.FindingObjects.{finding_members, with_number_under, with_text_under}
 use Rattle.finding_formats.specs.JsonLines.{json_line}
 use Rattle.finding_formats.specs.LocatedFindings.{Located, Notice, Told, told_finding, told_notice, located_words}
 use Rattle.finding_formats.specs.declared.totals.Totals.{Totals}
@@ -22,11 +22,11 @@ told_members (told_notice n) words = notice_members n words
 -- the line, and what says the number, where they are known
 abbrev pub with_line : Option ℕ → Members → Members
 with_line None members = members
-with_line (Some line) members = with_number (codes "line") line members
+with_line (Some line) members = with_number_under (codes "line") line members
 
 abbrev pub with_placeholder : Option (List ℕ) → Members → Members
 with_placeholder None members = members
-with_placeholder (Some placeholder) members = with_text (codes "placeholder") placeholder members
+with_placeholder (Some placeholder) members = with_text_under (codes "placeholder") placeholder members
 
 -- `{"cause":{..},"file":"ru.po","line":12,"place":{..},"placeholder":"%d","severity":"fault","text":".."}`
 abbrev pub located_data : Located → Data

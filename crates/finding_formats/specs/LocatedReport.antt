@@ -2,10 +2,14 @@
 use Rattle.std.specs.Prelude.{ℕ, List, ◌++◌, codes}
 use Rattle.std.specs.Fmt.{decimal}
 use Rattle.std.specs.List.{flat_map}
-use Rattle.message_report.specs.Severities.{severity_name}
-use Rattle.finding_formats.specs.LineMarks.{line_mark}
+use Rattle.message_report.specs.FindingCauses.{severity_name}
+use Rattle.finding_formats.specs.WorkflowCommands.{line_mark, located_commands}
 use Rattle.finding_formats.specs.LocatedFindings.{Located, code_told, file_told, located_words, severity_told}
 use Rattle.finding_formats.specs.declared.totals.Totals.{Totals}
+use Rattle.finding_formats.specs.LocatedLog.{located_log}
+use Rattle.finding_formats.specs.LocatedObjects.{located_lines}
+use Rattle.finding_formats.specs.declared.format.Format.{Format}
+use Rattle.finding_formats.specs.declared.format.Format.TheVariants.{Text, Json, Sarif, GitHub}
 
 -- `ru.po:12: error [no-number] ru files one: no %d, but 1 and 21 are one`
 abbrev pub report_line : Located → List ℕ
@@ -22,3 +26,11 @@ totals_line t =
 
 abbrev pub located_report : List Located → Totals → List ℕ
 located_report ls totals = flat_map report_line ls ++ totals_line totals
+
+-- ---- what is told of files, printed in a format
+
+abbrev pub located_text : Format → List Located → Totals → List ℕ
+located_text Text ls totals = located_report ls totals
+located_text Json ls totals = located_lines ls totals
+located_text Sarif ls totals = located_log ls
+located_text GitHub ls totals = located_commands ls

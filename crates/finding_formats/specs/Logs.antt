@@ -4,19 +4,19 @@ use Rattle.std.specs.Prelude.{ℕ, List, Option, Some, None, codes}
 use Rattle.serde_json.specs.Data.{Data, number, unsigned, string, array, object, no_items, item, no_members, member}
 use Rattle.serde_json.specs.View.{items_of}
 use Rattle.serde_json.specs.Written.{compact_text}
-use Rattle.plural_documents.specs.FirstLines.{ended_line}
+use Rattle.plural_documents.specs.PrintedKeys.{ended_line}
 use Rattle.finding_formats.specs.FileReferences.{file_reference}
 
 -- an object with one member, and a list of one
-abbrev pub only : List ℕ → Data → Data
-only key value = object (member key value no_members)
+abbrev pub one_member : List ℕ → Data → Data
+one_member key value = object (member key value no_members)
 
 abbrev pub one_item : Data → Data
 one_item value = array (item value no_items)
 
 -- a message: `{"text":".."}`
 abbrev pub message_data : List ℕ → Data
-message_data text = only (codes "text") (string text)
+message_data text = one_member (codes "text") (string text)
 
 -- ---- Rules
 
@@ -28,25 +28,25 @@ rule_data code meaning =
 -- a tool by its name, with its rules
 abbrev pub tool_data : List ℕ → List Data → Data
 tool_data tool rules =
-    only (codes "driver") (object (member (codes "name") (string tool) (member (codes "rules") (array (items_of rules)) no_members)))
+    one_member (codes "driver") (object (member (codes "name") (string tool) (member (codes "rules") (array (items_of rules)) no_members)))
 
 -- ---- Results
 
 -- a line: `{"startLine":12}`
 abbrev pub region_data : ℕ → Data
-region_data line = only (codes "startLine") (number (unsigned line))
+region_data line = one_member (codes "startLine") (number (unsigned line))
 
 -- a file, with a line if it is known
 abbrev pub physical_data : Option ℕ → List ℕ → Data
-physical_data None file = only (codes "artifactLocation") (only (codes "uri") (string (file_reference file)))
+physical_data None file = one_member (codes "artifactLocation") (one_member (codes "uri") (string (file_reference file)))
 physical_data (Some line) file =
-    object (member (codes "artifactLocation") (only (codes "uri") (string (file_reference file)))
+    object (member (codes "artifactLocation") (one_member (codes "uri") (string (file_reference file)))
     (member (codes "region") (region_data line) no_members))
 
 -- the file, and the place in it by its name
 abbrev pub location_data : List ℕ → Option ℕ → List ℕ → Data
 location_data file line name =
-    object (member (codes "logicalLocations") (one_item (only (codes "fullyQualifiedName") (string name)))
+    object (member (codes "logicalLocations") (one_item (one_member (codes "fullyQualifiedName") (string name)))
     (member (codes "physicalLocation") (physical_data line file) no_members))
 
 -- a result: its level, its location, what is printed of it, and its rule by its code and its place in the list

@@ -2,7 +2,7 @@
 
 ghost use Rattle.std.specs.Prelude.{◌≡◌, codes, IfOk, OnOk};
 ghost use Rattle.finding_formats.specs.FindingObjects.{cause_data, fault_kind_name, known_numbers, known_samples, with_branch_fault, with_cause};
-ghost use Rattle.finding_formats.specs.FindingObjects.{with_form_fault, with_number, with_numbers, with_samples, with_text};
+ghost use Rattle.finding_formats.specs.FindingObjects.{with_form_fault, with_number_under, with_numbers, with_category_samples, with_text_under};
 ghost use Rattle.icu_plurals.specs.Categories.{name_of};
 ghost use Rattle.serde_json.specs.Data.{array};
 ghost use Rattle.serde_json.specs.View.{members_view, view};
@@ -57,7 +57,7 @@ fn put_pattern_fault(
     byte: usize,
 ) -> Result<(), AllocError>
     ensures { OnOk result (members_view members.new.entries
-        ≡ with_number (codes "byte") byte (with_text (codes "fault") (fault_kind_name kind) (members_view members.old.entries))) }
+        ≡ with_number_under (codes "byte") byte (with_text_under (codes "fault") (fault_kind_name kind) (members_view members.old.entries))) }
 {
     put_text(alloc, members, "fault", fault_kind_name(kind))?;
     put_number(alloc, members, "byte", byte as u64)
@@ -91,7 +91,7 @@ fn put_form_fault(
     fault: FormFault,
 ) -> Result<(), AllocError>
     ensures { OnOk result (members_view members.new.entries
-        ≡ with_form_fault fault (with_text (codes "of") (codes "form") (members_view members.old.entries))) }
+        ≡ with_form_fault fault (with_text_under (codes "of") (codes "form") (members_view members.old.entries))) }
 {
     put_text(alloc, members, "of", "form")?;
     match fault {
@@ -116,7 +116,7 @@ fn put_branch_fault(
     fault: BranchFault,
 ) -> Result<(), AllocError>
     ensures { OnOk result (members_view members.new.entries
-        ≡ with_branch_fault fault (with_text (codes "of") (codes "branch") (members_view members.old.entries))) }
+        ≡ with_branch_fault fault (with_text_under (codes "of") (codes "branch") (members_view members.old.entries))) }
 {
     put_text(alloc, members, "of", "branch")?;
     match fault {
@@ -141,7 +141,7 @@ fn put_category(
     members: &mut Map<String, Value>,
     category: PluralCategory,
 ) -> Result<(), AllocError>
-    ensures { OnOk result (members_view members.new.entries ≡ with_text (codes "category") (name_of category) (members_view members.old.entries)) }
+    ensures { OnOk result (members_view members.new.entries ≡ with_text_under (codes "category") (name_of category) (members_view members.old.entries)) }
 {
     put_text(
         alloc,
@@ -174,7 +174,7 @@ fn put_samples(
     first: Option<Sample>,
     second: Option<Sample>,
 ) -> Result<(), AllocError>
-    ensures { OnOk result (members_view members.new.entries ≡ with_samples category first second (members_view members.old.entries)) }
+    ensures { OnOk result (members_view members.new.entries ≡ with_category_samples category first second (members_view members.old.entries)) }
 {
     put_category(alloc, members, category)?;
     let samples = samples_value(alloc, first, second)?;

@@ -2,8 +2,8 @@
 
 ghost use Rattle.std.specs.Prelude.{◌≡◌, ◌++◌, codes, IfOk, string_bytes};
 ghost use Rattle.finding_formats.specs.FindingObjects.{counts_data, finding_data, finding_members, finding_text};
-ghost use Rattle.message_report.specs.FindingCauses.{cause_text};
-ghost use Rattle.message_report.specs.MessageFindings.{finding_view};
+ghost use Rattle.message_report.specs.FindingCauses.{message_cause_text};
+ghost use Rattle.message_report.specs.MessageFindings.{message_finding_view};
 ghost use Rattle.serde_json.specs.View.{members_view, view};
 
 use crate::cause_object::cause_value;
@@ -16,7 +16,7 @@ use std::alloc::{AllocError, Global};
 
 // The object of a finding.
 pub(crate) fn finding_value(alloc: Global, finding: &Finding<'_>) -> Result<Value, AllocError>
-    ensures { IfOk result (λ value. view value ≡ finding_data (finding_view finding.now)) }
+    ensures { IfOk result (λ value. view value ≡ finding_data (message_finding_view finding.now)) }
 {
     let text = finding_text(alloc, finding)?;
     let members = finding_members(alloc, finding, text.as_str())?;
@@ -29,7 +29,7 @@ pub(crate) fn finding_members(
     finding: &Finding<'_>,
     text: &str,
 ) -> Result<Map<String, Value>, AllocError>
-    ensures { IfOk result (λ members. members_view members.entries ≡ finding_members (finding_view finding.now) text.now) }
+    ensures { IfOk result (λ members. members_view members.entries ≡ finding_members (message_finding_view finding.now) text.now) }
 {
     let mut members = Map::new(alloc);
     let cause = cause_value(alloc, finding.cause)?;
@@ -45,7 +45,7 @@ pub(crate) fn finding_members(
 
 // What is printed of a finding, after the name of its file.
 pub(crate) fn finding_text(alloc: Global, finding: &Finding<'_>) -> Result<String, AllocError>
-    ensures { IfOk result (λ text. string_bytes text ≡ finding_text (finding_view finding.now)) }
+    ensures { IfOk result (λ text. string_bytes text ≡ finding_text (message_finding_view finding.now)) }
 {
     let place = finding.place.text(alloc)?;
     text_of(alloc, place.as_str(), finding.cause)
@@ -53,7 +53,7 @@ pub(crate) fn finding_text(alloc: Global, finding: &Finding<'_>) -> Result<Strin
 
 // The text of a cause, behind what is printed for its place.
 pub(crate) fn text_of(alloc: Global, place: &str, cause: Cause) -> Result<String, AllocError>
-    ensures { IfOk result (λ text. string_bytes text ≡ place.now ++ (codes ": " ++ cause_text cause)) }
+    ensures { IfOk result (λ text. string_bytes text ≡ place.now ++ (codes ": " ++ message_cause_text cause)) }
 {
     format!(in alloc; "{place}: {cause}")
 }

@@ -3,7 +3,7 @@
 ghost use Rattle.std.specs.Prelude.{◌≡◌, ◌++◌, false, IfOk, OnErr, OnOk, string_bytes};
 ghost use Rattle.finding_formats.specs.FindingObjects.{finding_data};
 ghost use Rattle.finding_formats.specs.JsonLines.{json_line, json_lines};
-ghost use Rattle.message_report.specs.MessageFindings.{finding_view};
+ghost use Rattle.message_report.specs.MessageFindings.{message_finding_view};
 ghost use Rattle.message_report.specs.MessageFindings as listed;
 ghost use Rattle.serde_json.specs.View.{view};
 ghost use Rattle.serde_json.specs.Written.{has_float};
@@ -30,9 +30,9 @@ pub(crate) fn json_lines(alloc: Global, found: &Found<'_>) -> Result<String, All
 struct FindingObjects;
 
 impl<'a> LinePrinter<Finding<'a>> for FindingObjects {
-    ghost Seen = { listed.Finding };
+    ghost Seen = { listed.MessageFinding };
 
-    ghost seen = { finding_view };
+    ghost seen = { message_finding_view };
 
     ghost line_of = { λ objects f. json_line (finding_data f) };
 

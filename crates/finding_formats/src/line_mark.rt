@@ -1,7 +1,7 @@
 //! The number of a line, behind a mark.
 
 ghost use Rattle.std.specs.Prelude.{◌≡◌, IfOk, string_bytes};
-ghost use Rattle.finding_formats.specs.LineMarks.{line_mark};
+ghost use Rattle.finding_formats.specs.WorkflowCommands.{line_mark};
 
 use std::alloc::{AllocError, Global};
 

@@ -1,7 +1,7 @@
 //! What is told, as commands of a workflow of GitHub Actions.
 
 ghost use Rattle.std.specs.Prelude.{◌≡◌, IfOk, map, string_bytes};
-ghost use Rattle.finding_formats.specs.LocatedCommands.{located_command, located_commands};
+ghost use Rattle.finding_formats.specs.WorkflowCommands.{located_command, located_commands};
 ghost use Rattle.finding_formats.specs.LocatedFindings.{located_view};
 ghost use Rattle.finding_formats.specs.LocatedFindings as listed;
 

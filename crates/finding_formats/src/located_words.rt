@@ -2,7 +2,7 @@
 
 ghost use Rattle.std.specs.Prelude.{◌≡◌, ◌++◌, codes, IfOk, string_bytes};
 ghost use Rattle.finding_formats.specs.LocatedFindings.{cause_words, finding_words, form_words, lent_text, located_view, located_words};
-ghost use Rattle.message_report.specs.MessageFindings.{finding_view};
+ghost use Rattle.message_report.specs.MessageFindings.{message_finding_view};
 
 use crate::finding_object::{finding_text, text_of};
 use crate::located::Located;
@@ -27,7 +27,7 @@ fn finding_words(
     finding: &Finding<'_>,
     placeholder: Option<&str>,
 ) -> Result<String, AllocError>
-    ensures { IfOk result (λ text. string_bytes text ≡ finding_words (lent_text placeholder.entry) (finding_view finding.now)) }
+    ensures { IfOk result (λ text. string_bytes text ≡ finding_words (lent_text placeholder.entry) (message_finding_view finding.now)) }
 {
     let Some(placeholder) = placeholder else {
         return finding_text(alloc, finding);

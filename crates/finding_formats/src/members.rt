@@ -1,7 +1,7 @@
 //! Members of JSON objects.
 
 ghost use Rattle.std.specs.Prelude.{◌≡◌, IfOk, OnOk, string_bytes};
-ghost use Rattle.finding_formats.specs.FindingObjects.{shown_bytes, with_number, with_text};
+ghost use Rattle.finding_formats.specs.FindingObjects.{shown_bytes, with_number_under, with_text_under};
 ghost use Rattle.plural_documents.specs.PrintedKeys.{length_text};
 ghost use Rattle.serde_json.specs.View.{members_view};
 
@@ -15,7 +15,7 @@ pub(crate) fn put_text(
     key: &str,
     text: &str,
 ) -> Result<(), AllocError>
-    ensures { OnOk result (members_view members.new.entries ≡ with_text key.now text.now (members_view members.old.entries)) }
+    ensures { OnOk result (members_view members.new.entries ≡ with_text_under key.now text.now (members_view members.old.entries)) }
 {
     let value = Value::try_from_str(alloc, text)?;
     put(members, alloc, key, value)
@@ -28,7 +28,7 @@ pub(crate) fn put_number(
     key: &str,
     number: u64,
 ) -> Result<(), AllocError>
-    ensures { OnOk result (members_view members.new.entries ≡ with_number key.now number (members_view members.old.entries)) }
+    ensures { OnOk result (members_view members.new.entries ≡ with_number_under key.now number (members_view members.old.entries)) }
 {
     put(members, alloc, key, Value::from(number))
 }
@@ -40,7 +40,7 @@ pub(crate) fn put_bytes(
     key: &str,
     bytes: &[u8],
 ) -> Result<(), AllocError>
-    ensures { OnOk result (members_view members.new.entries ≡ with_text key.now (shown_bytes bytes.now) (members_view members.old.entries)) }
+    ensures { OnOk result (members_view members.new.entries ≡ with_text_under key.now (shown_bytes bytes.now) (members_view members.old.entries)) }
 {
     match std::str::from_utf8(bytes) {
         Ok(text) => put_text(alloc, members, key, text),

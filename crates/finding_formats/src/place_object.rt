@@ -1,10 +1,10 @@
 //! Places as JSON objects.
 
 ghost use Rattle.std.specs.Prelude.{◌≡◌, IfOk, OnOk};
-ghost use Rattle.finding_formats.specs.FindingObjects.{place_data, place_kind, with_argument, with_locale, with_message, with_pattern};
-ghost use Rattle.finding_formats.specs.FindingObjects.{with_place, with_selector, with_text};
+ghost use Rattle.finding_formats.specs.FindingObjects.{place_data, place_kind, with_argument, with_locale_place, with_message, with_pattern};
+ghost use Rattle.finding_formats.specs.FindingObjects.{with_place, with_selector, with_text_under};
 ghost use Rattle.message_pattern.specs.PatternParts.{selector_view};
-ghost use Rattle.message_report.specs.MessagePlaces.{argument_place_view, locale_place_view, message_place_view};
+ghost use Rattle.message_report.specs.MessagePlaces.{argument_place_view, file_locale_place_view, message_place_view};
 ghost use Rattle.message_report.specs.MessagePlaces.{pattern_place_view, place_view, type_name};
 ghost use Rattle.serde_json.specs.View.{members_view, view};
 
@@ -79,7 +79,7 @@ fn put_locale(
     members: &mut Map<String, Value>,
     locale: LocalePlace<'_>,
 ) -> Result<(), AllocError>
-    ensures { OnOk result (members_view members.new.entries ≡ with_locale (locale_place_view locale.entry) (members_view members.old.entries)) }
+    ensures { OnOk result (members_view members.new.entries ≡ with_locale_place (file_locale_place_view locale.entry) (members_view members.old.entries)) }
 {
     put_text(alloc, members, "locale", locale.locale)
 }
@@ -93,7 +93,7 @@ fn put_named(
     name: &str,
 ) -> Result<(), AllocError>
     ensures { OnOk result (members_view members.new.entries
-        ≡ with_text key.now name.now (with_locale (locale_place_view locale.entry) (members_view members.old.entries))) }
+        ≡ with_text_under key.now name.now (with_locale_place (file_locale_place_view locale.entry) (members_view members.old.entries))) }
 {
     put_locale(alloc, members, locale)?;
     put_text(alloc, members, key, name)
@@ -126,7 +126,7 @@ fn put_part(
     name: &str,
 ) -> Result<(), AllocError>
     ensures { OnOk result (members_view members.new.entries
-        ≡ with_text key.now name.now (with_message (message_place_view message.entry) (members_view members.old.entries))) }
+        ≡ with_text_under key.now name.now (with_message (message_place_view message.entry) (members_view members.old.entries))) }
 {
     put_message(alloc, members, message)?;
     put_text(alloc, members, key, name)

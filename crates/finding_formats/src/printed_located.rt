@@ -2,7 +2,7 @@
 
 ghost use Rattle.std.specs.Prelude.{◌≡◌, IfOk, map, string_bytes};
 ghost use Rattle.finding_formats.specs.LocatedFindings.{located_view};
-ghost use Rattle.finding_formats.specs.PrintedLocated.{located_text};
+ghost use Rattle.finding_formats.specs.LocatedReport.{located_text};
 
 use crate::format::Format;
 use crate::located::Located;

@@ -5,7 +5,7 @@ ghost use Rattle.finding_formats.specs.FindingCodes.{code_meaning, code_name};
 ghost use Rattle.finding_formats.specs.Logs.{rule_data};
 ghost use Rattle.finding_formats.specs.SarifLog.{finding_result, forms_log, result_of, sarif_text};
 ghost use Rattle.finding_formats.specs.declared.code.Code as of_codes;
-ghost use Rattle.message_report.specs.MessageFindings.{finding_view};
+ghost use Rattle.message_report.specs.MessageFindings.{message_finding_view};
 ghost use Rattle.message_report.specs.MessageFindings as listed;
 ghost use Rattle.serde_json.specs.View.{items_of, view};
 ghost use Rattle.serde_json.specs.Written.{items_have_float};
@@ -56,9 +56,9 @@ impl ValueMaker<Code> for CodeRules {
 struct FindingResults;
 
 impl<'a> ValueMaker<Finding<'a>> for FindingResults {
-    ghost Seen = { listed.Finding };
+    ghost Seen = { listed.MessageFinding };
 
-    ghost seen = { finding_view };
+    ghost seen = { message_finding_view };
 
     ghost data_of = { λ results. result_of };
 
@@ -75,7 +75,7 @@ pub(crate) fn finding_result(
     line: Option<u64>,
     text: &str,
 ) -> Result<Value, AllocError>
-    ensures { IfOk result (λ value. view value ≡ finding_result line (finding_view finding.now) text.now) }
+    ensures { IfOk result (λ value. view value ≡ finding_result line (message_finding_view finding.now) text.now) }
 {
     let name = finding.place.text(alloc)?;
     let location = location_value(alloc, finding.place.file(), line, name.as_str())?;

@@ -4,7 +4,7 @@ ghost use Rattle.std.specs.Prelude.{◌≡◌, ◌++◌, IfOk, OnOk, string_byte
 ghost use Rattle.std.specs.Char.{encode_utf8};
 ghost use Rattle.std.specs.List.{flat_map};
 ghost use Rattle.finding_formats.specs.WorkflowCommands.{command_line, ends_message, needs_escape, slot_byte, slot_text, workflow_text};
-ghost use Rattle.message_report.specs.MessageFindings.{finding_view};
+ghost use Rattle.message_report.specs.MessageFindings.{message_finding_view};
 ghost use Rattle.message_report.specs.MessageFindings as listed;
 
 use crate::code::Code;
@@ -38,9 +38,9 @@ pub(crate) fn workflow_text(alloc: Global, found: &Found<'_>) -> Result<String, 
 struct FindingCommands;
 
 impl<'a> LinePrinter<Finding<'a>> for FindingCommands {
-    ghost Seen = { listed.Finding };
+    ghost Seen = { listed.MessageFinding };
 
-    ghost seen = { finding_view };
+    ghost seen = { message_finding_view };
 
     ghost line_of = { λ commands. command_line };
 
@@ -57,7 +57,7 @@ impl<'a> LinePrinter<Finding<'a>> for FindingCommands {
 
 // The command of a finding, with a newline.
 fn command_line(alloc: Global, finding: &Finding<'_>) -> Result<String, AllocError>
-    ensures { IfOk result (λ line. string_bytes line ≡ command_line (finding_view finding.now)) }
+    ensures { IfOk result (λ line. string_bytes line ≡ command_line (message_finding_view finding.now)) }
 {
     let text = finding_text(alloc, finding)?;
     let code = Code::of(finding.cause).as_str();

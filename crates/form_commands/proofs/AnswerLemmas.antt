@@ -7,7 +7,7 @@ use Rattle.icu_plurals.specs.DocumentJson.{document_of_json}
 use Rattle.icu_plurals.specs.Json.{IsRefusal}
 use Rattle.icu_plurals.specs.declared.JsonError.{JsonError}
 use Rattle.icu_plurals.specs.declared.JsonError.TheVariants as json
-use Rattle.message_report.specs.FoundInMessages.{Found}
+use Rattle.message_report.specs.FoundInMessages.{MessageFound}
 use Rattle.message_report.specs.declared.error.ReportError.TheVariants as report
 use Rattle.message_report.specs.declared.file.MessageFile.{MessageFile}
 use Rattle.plural_documents.specs.Inputs.{GivesInput, IsInput, most_bytes}
@@ -21,7 +21,7 @@ use Rattle.number_lines.specs.PrintedTexts.{PrintedText}
 use Rattle.form_commands.specs.FormsAnswers.{IsAnsweredLines, IsAnsweredText, IsCheckedAs, IsDocumentIn, IsStreamed}
 use Rattle.form_commands.specs.Inner.FormsInputFaults.{rules_input_fault, refused_rules}
 use Rattle.form_commands.specs.Inner.RunSteps.{AnswersLines, Checks, GivesDocument, GivesJsonValue, WritesAnswer, WritesText}
-use Rattle.form_commands.specs.Languages.{IsFoundFor, IsKnown}
+use Rattle.form_commands.specs.Languages.{IsFoundFor, IsKnownForPart}
 use Rattle.form_commands.specs.declared.error.FormsError.{FormsError}
 use Rattle.form_commands.specs.declared.error.FormsError.TheVariants.{Rules, TooLong, Json, Refused, Language, Numbers, Write, Memory}
 use Rattle.form_commands.specs.declared.error.LanguageError.{LanguageError}
@@ -104,7 +104,7 @@ no_lines part locale input before old Memory given = inl (Keeps-refl before, Kee
 -- the answers by the rules of a document by which the language is known
 pub lines_answered : (part : Part) (locale input : List ℕ) (document : Data) (before left old new : Option (List ℕ))
     (r : Result Verdict FormsError)
-    → IsDocumentIn input document → IsKnown document part locale → AnswersLines (IsFoundFor document part locale) before left old new r
+    → IsDocumentIn input document → IsKnownForPart document part locale → AnswersLines (IsFoundFor document part locale) before left old new r
     → IsAnsweredLines part locale input before left old new r
 unfolding IsAnsweredLines IsStreamed
 lines_answered part locale input document before left old new (Ok verdict) given known (inl by) =
@@ -127,7 +127,7 @@ lines_answered part locale input document before left old new r given known (inr
 -- ---- Files of messages
 
 -- without a document nothing is reported
-pub no_report : (text_of : Found → List ℕ) (files : List MessageFile) (input : List ℕ) (old : Option (List ℕ)) (error : FormsError)
+pub no_report : (text_of : MessageFound → List ℕ) (files : List MessageFile) (input : List ℕ) (old : Option (List ℕ)) (error : FormsError)
     → GivesDocument input (Err error) → IsCheckedAs text_of files input old old (Err error)
 unfolding IsCheckedAs
 no_report text_of files input old Rules given = Keeps-refl old
@@ -140,7 +140,7 @@ no_report text_of files input old Write given = absurd given
 no_report text_of files input old Memory given = Keeps-refl old
 
 -- the report under the rules of a document
-pub report_checked : (text_of : Found → List ℕ) (files : List MessageFile) (input : List ℕ) (value : Data) (old new : Option (List ℕ))
+pub report_checked : (text_of : MessageFound → List ℕ) (files : List MessageFile) (input : List ℕ) (value : Data) (old new : Option (List ℕ))
     (r : Result Verdict FormsError)
     → IsDocumentIn input value → Checks text_of value files old new r → IsCheckedAs text_of files input old new r
 unfolding IsCheckedAs
@@ -153,7 +153,7 @@ report_checked text_of files input value old new r given (inr (inl (error, is, s
 report_checked text_of files input value old new r given (inr (inr (same, kept))) = rw same kept
 
 -- rules that are refused
-pub no_rules : (text_of : Found → List ℕ) (value : Data) (files : List MessageFile) (old : Option (List ℕ)) (error : JsonError)
+pub no_rules : (text_of : MessageFound → List ℕ) (value : Data) (files : List MessageFile) (old : Option (List ℕ)) (error : JsonError)
     (fault : FormsError)
     → IsRefusal error (document_of_json value) → fault ≡ refused_rules error → Checks text_of value files old old (Err fault)
 no_rules text_of value files old json.Float fault is same = rw same (inr (inl (json.Float, is, refl, Keeps-refl old)))

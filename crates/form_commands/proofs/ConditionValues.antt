@@ -16,7 +16,7 @@ use Rattle.icu_plurals.specs.PackedTruth.{is_true_at, packed_truth}
 use Rattle.form_commands.specs.CExpressions.{Comparison, above, at_least, at_most, atom_value, below, bracketed, comparison_value}
 use Rattle.form_commands.specs.CExpressions.{compared, equal, unequal}
 use Rattle.form_commands.specs.RuleConditions.{ConditionsAreRules, comparison, atoms_of, atoms_of_group, atoms_under}
-use Rattle.form_commands.specs.RuleConditions.{conditions_of_groups, in_ranges, inside, is_of_number, is_possible, outside}
+use Rattle.form_commands.specs.RuleConditions.{conditions_of_groups, in_ranges, inside, is_whole_operand, is_possible, outside}
 
 -- ---- A range
 
@@ -126,8 +126,8 @@ meaning_by operand modulus operator ranges = record { operand = operand; modulus
 
 relation_value : (n : ℕ) (operand : Operand) (modulus : ℕ) (operator : Operator) (ranges : List (ℕ × ℕ))
     → relation_truth (of_whole n) (meaning_by operand modulus operator ranges)
-    ≡ ((is_of_number operand || under operator (is_in_ranges ranges 0))
-    && list_all (atom_value n) (if is_of_number operand then atoms_under operator modulus ranges else []))
+    ≡ ((is_whole_operand operand || under operator (is_in_ranges ranges 0))
+    && list_all (atom_value n) (if is_whole_operand operand then atoms_under operator modulus ranges else []))
 relation_value n N modulus operator ranges = sym (atoms_under_value n modulus operator ranges)
 relation_value n I modulus operator ranges = sym (atoms_under_value n modulus operator ranges)
 relation_value n V modulus operator ranges = of_others operator modulus ranges

@@ -7,8 +7,8 @@ use Rattle.std.specs.declared.alloc.AllocError.{AllocError}
 use Rattle.icu_plurals.specs.Categories.{name_of}
 use Rattle.icu_plurals.specs.RulesJson.{text_under}
 use Rattle.serde_json.specs.View.{view}
-use Rattle.form_commands.specs.FormLines.{AreForms, IsForm, IsSamplesOf, IsWholesText}
-use Rattle.form_commands.specs.Inner.PrintedSteps.{Grows}
+use Rattle.form_commands.specs.FormLines.{AreForms, IsFormLine, IsSamplesOf, IsWholesText}
+use Rattle.form_commands.specs.Inner.ConditionSteps.{Grows}
 use Rattle.form_commands.specs.declared.language.LanguageRules.{LanguageRules}
 
 -- what holds at Ok has a consequence there
@@ -27,7 +27,7 @@ none_yet language all text rest h = (rest, h, refl)
 
 -- one more has
 pub one_more : (language : LanguageRules) (category : PluralCategory) (all left after : List PluralCategory) (initial old new : List ℕ)
-    → left ≡ category ∷ after → Completes language all left initial old → Grows (IsForm language category) old new
+    → left ≡ category ∷ after → Completes language all left initial old → Grows (IsFormLine language category) old new
     → Completes language all after initial new
 one_more language category all left after initial old new is so_far grown rest h =
     let line = grown.0 in
@@ -52,7 +52,7 @@ five_parts old n k w s e = simp append_assoc
 pub form_grown : (language : LanguageRules) (category : PluralCategory) (old first second third fourth new : List ℕ)
     → first ≡ old ++ name_of category → second ≡ first ++ codes ": " → Grows (IsWholesText language.rules category) second third
     → Grows (IsSamplesOf (text_under category (view language.value.now))) third fourth → new ≡ fourth ++ codes "\n"
-    → Grows (IsForm language category) old new
+    → Grows (IsFormLine language category) old new
 form_grown language category old first second third fourth new a b w s e =
     let all : new ≡ ((((old ++ name_of category) ++ codes ": ") ++ w.0) ++ s.0) ++ codes "\n" =
     e ∙ ap (λ (t : List ℕ). t ++ codes "\n") (s.2 ∙ ap (λ (t : List ℕ). t ++ s.0) (w.2 ∙ ap (λ (t : List ℕ). t ++ w.0)

@@ -8,7 +8,7 @@ use Rattle.icu_plurals.specs.declared.provider.rules.reference.ParseError.{Parse
 use Rattle.plural_reference.specs.FaultPlaces.{TextFaultyAt}
 use Rattle.plural_reference.specs.declared.parser.fault.RuleFault.{RuleFault}
 use Rattle.serde_json.specs.Data.{Data}
-use Rattle.form_commands.specs.FaultBytes.{HasFaultAt}
+use Rattle.form_commands.specs.Languages.{HasFaultAt}
 
 -- the text has this fault, and no other
 abbrev pub IsFaultOfText : List ℕ → Option RuleFault → Type 0

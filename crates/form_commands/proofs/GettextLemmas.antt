@@ -19,7 +19,7 @@ use Rattle.plural_fallback.specs.declared.error.FallbackError.{FallbackError}
 use Rattle.plural_fallback.specs.declared.locales.Part.{Part}
 use Rattle.serde_json.specs.Data.{Data}
 use Rattle.serde_json.specs.View.{view}
-use Rattle.form_commands.specs.Inner.RunSteps.{IsFoundUnder}
+use Rattle.form_commands.specs.Inner.RunSteps.{IsFoundUnderKey}
 use Rattle.form_commands.specs.declared.language.LanguageRules.{LanguageRules}
 use Rattle.form_commands.specs.CExpressions.{c_condition_text, choice_text, choice_value, condition_value}
 use Rattle.form_commands.specs.GettextLines.{AreFormsOf, FormsAreChosen, HasForm, SomeHas, tried_powers, condition_if}
@@ -287,7 +287,7 @@ forms_chosen rules forms n are has =
 
 -- they are those of its value
 pub found_language : (document : Data) (part : Part) (locale : List ℕ) (first : Result (List ℕ) FallbackError) (language : LanguageRules)
-    → IsFoundUnder document part locale first (Ok language) → rules_of_json (view language.value.now) ≡ Ok language.rules
+    → IsFoundUnderKey document part locale first (Ok language) → rules_of_json (view language.value.now) ≡ Ok language.rules
 found_language document part locale (Ok key) language found = found.2
 found_language document part locale (Err reason) language found = absurd (cc found)
 

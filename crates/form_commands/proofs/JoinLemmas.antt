@@ -16,8 +16,8 @@ use Rattle.icu_plurals.specs.declared.provider.rules.runtime.ast.AndOr.{AndOr}
 use Rattle.icu_plurals.specs.declared.provider.rules.runtime.ast.AndOr.TheVariants.{And, Or}
 use Rattle.form_commands.specs.CExpressions.{Atom, Comparison, and_text, atom_text, bracketed, compared, comparison_text}
 use Rattle.form_commands.specs.RuleConditions.{atoms_of, atoms_of_group, atoms_under, conditions_of_groups, in_ranges, inside}
-use Rattle.form_commands.specs.RuleConditions.{is_of_number, is_possible}
-use Rattle.form_commands.specs.Inner.ConditionSteps.{AreCut, AreJoined, IsGroup, Joins, begun_before, ended_before, group_texts}
+use Rattle.form_commands.specs.RuleConditions.{is_whole_operand, is_possible}
+use Rattle.form_commands.specs.Inner.ConditionSteps.{AreCut, AreJoined, IsGroup, Joins, begun_before, groups_ended_before, group_texts}
 use Rattle.form_commands.specs.declared.c_condition.Group.{Group}
 use Rattle.form_commands.specs.declared.joined.Joined.{Joined}
 
@@ -121,14 +121,14 @@ and_true true = refl
 and_true false = refl
 
 -- a relation of the number
-pub of_number : (r : PackedRelation) (group : List PackedRelation) (old new : Group) → is_of_number r.meaning.operand ≡ true
+pub of_number : (r : PackedRelation) (group : List PackedRelation) (old new : Group) → is_whole_operand r.meaning.operand ≡ true
     → Joins (codes " && ") (map atom_text (atoms_under r.meaning.operator r.meaning.modulus r.meaning.ranges)) old.atoms new.atoms
     → new.is_possible ≡ old.is_possible → IsGroup group old → IsGroup (group ++ r ∷ []) new
 of_number r group old new number joins same is =
     group_more group r old new is (rw number joins) (same ∙ sym (rw number (and_true old.is_possible)))
 
 -- another one
-pub of_another : (r : PackedRelation) (group : List PackedRelation) (old new : Group) → is_of_number r.meaning.operand ≡ false
+pub of_another : (r : PackedRelation) (group : List PackedRelation) (old new : Group) → is_whole_operand r.meaning.operand ≡ false
     → new.atoms ≡ old.atoms → new.is_possible ≡ (old.is_possible && under r.meaning.operator (is_in_ranges r.meaning.ranges 0))
     → IsGroup group old → IsGroup (group ++ r ∷ []) new
 of_another r group old new other same possible is =
@@ -183,7 +183,7 @@ glued_more group r (first ∷ groups) = ap (λ (g : List PackedRelation). g ∷ 
 pub cut_further : (mark : AndOr) (done : List (List PackedRelation)) (group : List PackedRelation) (r : PackedRelation)
     (rest : List (List PackedRelation))
     → done ++ glued group (cut_before mark (at_front r rest))
-    ≡ ended_before mark done group ++ glued (begun_before mark group ++ r ∷ []) rest
+    ≡ groups_ended_before mark done group ++ glued (begun_before mark group ++ r ∷ []) rest
 cut_further And done group r rest = ap (λ (gs : List (List PackedRelation)). done ++ gs) (glued_more group r rest)
 cut_further Or done group r rest =
     ap (λ (g : List PackedRelation). done ++ g ∷ at_front r rest) (append-nil group)
@@ -211,13 +211,13 @@ pub one_more_taken : (relations left after : List PackedRelation) (r : PackedRel
     (current mid_current new_current : Group)
     → left ≡ r ∷ after → IsTaken relations left ended current
     → ((done : List (List PackedRelation)) (group : List PackedRelation) → AreCut done group ended current
-    → AreCut (ended_before r.and_or done group) (begun_before r.and_or group) new_ended mid_current)
+    → AreCut (groups_ended_before r.and_or done group) (begun_before r.and_or group) new_ended mid_current)
     → ((group : List PackedRelation) → IsGroup group mid_current → IsGroup (group ++ r ∷ []) new_current)
     → IsTaken relations after new_ended new_current
 one_more_taken relations left after r ended new_ended current mid_current new_current is t cuts adds =
     let c = cuts t.done t.group t.are in
     record {
-      done = ended_before r.and_or t.done t.group;
+      done = groups_ended_before r.and_or t.done t.group;
       group = begun_before r.and_or t.group ++ r ∷ [];
       cut = t.cut ∙ ap (λ (l : List PackedRelation). t.done ++ glued t.group (groups l)) is
           ∙ cut_further r.and_or t.done t.group r (groups after);

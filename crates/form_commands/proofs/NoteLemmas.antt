@@ -7,7 +7,7 @@ use Rattle.std.specs.Io.KnownBytes.{Appends}
 use Rattle.std.proofs.KnownBytes.{Keeps-refl}
 use Rattle.std.proofs.Math.Seq.{drop-cons}
 use Rattle.std.proofs.lemmas.List.{append-nil}
-use Rattle.message_report.specs.FoundInMessages.{Found}
+use Rattle.message_report.specs.FoundInMessages.{MessageFound}
 use Rattle.message_report.specs.declared.file.MessageFile.{MessageFile}
 use Rattle.plural_documents.specs.Inputs.{IsPartWritten}
 use Rattle.plural_fallback.specs.UnknownLanguages.{is_unknown}
@@ -17,15 +17,15 @@ use Rattle.serde_json.specs.Data.{Data, Members, no_members, member}
 use Rattle.serde_json.specs.View.{members_view}
 use Rattle.serde_json.specs.declared.Value.{Value}
 use Rattle.rules_outline.specs.LocaleKeys.{IsKeyOf}
-use Rattle.number_lines.specs.InputLines.{lines_of}
+use Rattle.number_lines.specs.InputLines.{input_lines_of}
 use Rattle.number_lines.specs.PrintedTexts.{PrintedText}
 use Rattle.form_commands.specs.FormsAnswers.{IsAnsweredLines, IsAnsweredText, IsCheckedAs, IsDocumentIn, IsStreamed}
 use Rattle.form_commands.specs.Inner.NoteSteps.{Notes, NotesAfter, Writes}
 use Rattle.form_commands.specs.Inner.RunSteps.{AnswersLines, Checks}
-use Rattle.form_commands.specs.Inner.PrintedSteps.{Grows}
+use Rattle.form_commands.specs.Inner.ConditionSteps.{Grows}
 use Rattle.form_commands.specs.KeyNotes.{AreFileNotes, AreLocaleNotes, AreMemberNotes, AreNoted, IsFileNote, IsKeyNote, IsNote}
-use Rattle.form_commands.specs.KeyNotes.{IsNoted, IsNoteIf, has_members, is_asked, note_text}
-use Rattle.form_commands.specs.Languages.{IsFoundFor, IsKnown, IsKnownIn}
+use Rattle.form_commands.specs.KeyNotes.{IsNoted, IsNoteIf, has_any_member, is_asked, key_note_text}
+use Rattle.form_commands.specs.Languages.{IsFoundFor, IsKnownForPart, IsKnownIn}
 use Rattle.form_commands.specs.declared.error.FormsError.{FormsError}
 use Rattle.form_commands.specs.declared.error.FormsError.TheVariants.{Memory}
 use Rattle.form_commands.specs.declared.error.LanguageError.{LanguageError}
@@ -36,7 +36,7 @@ use Rattle.form_commands.proofs.AnswerLemmas.{document_answered, lines_answered,
 
 -- a first key that isn't `root`, or another one, is known
 pub known_key : (document : Data) (part : Part) (locale key : List ℕ) → IsKeyOf document part locale key
-    → (is_unknown locale key ≡ false) ⊎ IsKnownIn document locale → IsKnown document part locale
+    → (is_unknown locale key ≡ false) ⊎ IsKnownIn document locale → IsKnownForPart document part locale
 known_key document part locale key first (inl another) = inl (inl (key, first, another))
 known_key document part locale key first (inr known) = inr known
 
@@ -44,7 +44,7 @@ known_key document part locale key first (inr known) = inr known
 
 -- whether an object has members
 pub some_there : (entries : List (String Global × Value)) (is_empty : Bool) → (length entries ≡ 0 → is_empty ≡ true)
-    → (is_empty ≡ true → length entries ≡ 0) → not is_empty ≡ has_members (Some (members_view entries))
+    → (is_empty ≡ true → length entries ≡ 0) → not is_empty ≡ has_any_member (Some (members_view entries))
 some_there [] is_empty from to = rw (from refl) refl
 some_there (entry ∷ entries) true from to = absurd (omega (arith, to refl))
 some_there (entry ∷ entries) false from to = refl
@@ -152,11 +152,11 @@ lines_noted part locale input notes taken left old new before after (Ok verdict)
       a.1,
       a.2,
       a.3,
-      (s.0, lines_of s.0, [], s.1, s.2, sym (append-nil (lines_of s.0)), s.4, whole_part old new s.1.text s.6),
+      (s.0, input_lines_of s.0, [], s.1, s.2, sym (append-nil (input_lines_of s.0)), s.4, whole_part old new s.1.text s.6),
     )
 lines_noted part locale input notes taken left old new before after (Err error) result a w = rw w.0 a
 
-pub check_noted : (text_of : Found → List ℕ) (files : List MessageFile) (input notes : List ℕ) (old new before after : Option (List ℕ))
+pub check_noted : (text_of : MessageFound → List ℕ) (files : List MessageFile) (input notes : List ℕ) (old new before after : Option (List ℕ))
     (answer result : Result Verdict FormsError) → IsCheckedAs text_of files input old new answer → Notes answer notes before after result
     → IsCheckedAs text_of files input old new result
 unfolding IsCheckedAs
@@ -185,7 +185,7 @@ printed_noted IsAnswer AreNotes input document old new before after result given
 
 pub lines_noted_by : (part : Part) (locale : List ℕ) (AreNotes : Data → List ℕ → Type 0) (input : List ℕ) (document : Data)
     (taken left old new before after : Option (List ℕ)) (result : Result Verdict FormsError) → IsDocumentIn input document
-    → IsKnown document part locale
+    → IsKnownForPart document part locale
     → NotesAfter (AnswersLines (IsFoundFor document part locale) taken left old new) (AreNotes document) before after result
     → IsNoted AreNotes (IsAnsweredLines part locale input taken left old new) input before after result
 unfolding AreNoted
@@ -200,7 +200,7 @@ lines_noted_by part locale AreNotes input document taken left old new before aft
   rw n.1 (inl n.2),
 )
 
-pub report_noted : (text_of : Found → List ℕ) (files : List MessageFile) (AreNotes : Data → List ℕ → Type 0) (input : List ℕ)
+pub report_noted : (text_of : MessageFound → List ℕ) (files : List MessageFile) (AreNotes : Data → List ℕ → Type 0) (input : List ℕ)
     (document : Data)
     (old new before after : Option (List ℕ)) (result : Result Verdict FormsError) → IsDocumentIn input document
     → NotesAfter (Checks text_of document files old new) (AreNotes document) before after result

@@ -10,15 +10,14 @@ use Rattle.plural_fallback.specs.declared.locales.Part.{Part}
 use Rattle.serde_json.specs.Data.{Data}
 use Rattle.serde_json.specs.View.{view}
 use Rattle.rules_outline.specs.KeptRules.{Serves, ServesAt, key_by}
-use Rattle.rules_outline.specs.LocaleKeys.{value_at}
+use Rattle.rules_outline.specs.LocaleKeys.{value_at_key}
 use Rattle.rules_outline.specs.declared.outline.KeptRules.{KeptRules}
 use Rattle.number_lines.specs.PrintedTexts.{PrintedText}
 use Rattle.form_commands.specs.FormsAnswers.{Answers, IsAnsweredLines, IsAnsweredText}
 use Rattle.form_commands.specs.Inner.NoteSteps.{IsKeptNote, NotesAfter, Writes, note_of_key}
-use Rattle.form_commands.specs.Inner.RunSteps.{AnswersFirst, AnswersLines, GivesRules, GivesRulesIn, IsFoundBy, IsFoundUnder}
+use Rattle.form_commands.specs.Inner.RunSteps.{AnswersFirst, AnswersLines, GivesRules, GivesRulesIn, IsFoundBy, IsFoundUnderKey}
 use Rattle.form_commands.specs.KeyNotes.{IsKeyNote, IsNote}
-use Rattle.form_commands.specs.Languages.{IsFoundAt, IsFoundFor, IsKnown}
-use Rattle.form_commands.specs.FaultBytes.{IsFaultByte}
+use Rattle.form_commands.specs.Languages.{IsFoundAt, IsFoundFor, IsKnownForPart, IsFaultByte}
 use Rattle.form_commands.specs.declared.error.FormsError.{FormsError}
 use Rattle.form_commands.specs.declared.error.FormsError.TheVariants.{Memory}
 use Rattle.form_commands.specs.declared.error.LanguageError.{LanguageError}
@@ -54,8 +53,8 @@ unknown_lines part locale input before old error (inr (whole, given, (unknown, i
 -- ---- The answers
 
 module _ (part : Part) (locale : List ℕ) (kept : KeptRules) (whole : Data) (serves : Serves part locale kept whole)
-    (known : IsKnown whole part locale) where
-  found_at : (key : List ℕ) (answer : Result code.LanguageRules LanguageError) → value_at (view kept.document) part key ≡ value_at whole part key
+    (known : IsKnownForPart whole part locale) where
+  found_at : (key : List ℕ) (answer : Result code.LanguageRules LanguageError) → value_at_key (view kept.document) part key ≡ value_at_key whole part key
       → IsFoundAt (view kept.document) part key answer → IsFoundAt whole part key answer
   found_at key (Ok language) alike at = (at.0, sym alike ∙ at.1, at.2)
   found_at key (Err error) alike at =
@@ -65,7 +64,7 @@ module _ (part : Part) (locale : List ℕ) (kept : KeptRules) (whole : Data) (se
   found_by answer = by (key_by string_bytes kept.key) serves
     where
       by : (first : Result (List ℕ) FallbackError) → ServesAt part locale (view kept.document) whole first
-          → IsFoundUnder (view kept.document) part locale first answer → IsFoundFor whole part locale answer
+          → IsFoundUnderKey (view kept.document) part locale first answer → IsFoundFor whole part locale answer
       by (Ok key) served at = inl (key, served.0, found_at key answer served.1 at)
       by (Err reason) served is = inr (reason, served, is)
 

@@ -6,7 +6,7 @@ use Rattle.std.specs.List.{list_any}
 use Rattle.std.proofs.Math.Bool.{and-false, and-true, or-false}
 use Rattle.std.proofs.Math.Dec.{eqb, eqb-suc-suc, eqb-suc-zero}
 use Rattle.plural_fallback.specs.LocaleNames.{folded, is_same}
-use Rattle.form_commands.specs.Inner.SimilarSteps.{is_like, names_of, told_in}
+use Rattle.form_commands.specs.Inner.SimilarSteps.{is_like, similar_key_list, told_in}
 use Rattle.form_commands.specs.SimilarKeys.{first_three, is_one_edit, is_one_longer, is_one_replaced, is_one_shorter, without_one}
 use Rattle.form_commands.specs.declared.similar_keys.Likeness.{Likeness}
 use Rattle.form_commands.specs.declared.similar_keys.SimilarKeys.{SimilarKeys}
@@ -181,13 +181,13 @@ module _ (ones others : List ℕ) (some : 1 ≤ length ones) (more : 1 ≤ lengt
 -- ---- The first three of a list
 
 -- the first three, and what comes after all of them
-pub three_of : (keys more : List (List ℕ)) → first_three (names_of (first_three keys) ++ more) ≡ first_three (keys ++ more)
+pub three_of : (keys more : List (List ℕ)) → first_three (similar_key_list (first_three keys) ++ more) ≡ first_three (keys ++ more)
 three_of [] more = refl
 three_of (first ∷ []) more = refl
 three_of (first ∷ second ∷ []) more = refl
 three_of (first ∷ second ∷ third ∷ keys) more = refl
 
-pub all_told : (similar : SimilarKeys) → first_three (names_of similar ++ []) ≡ similar
+pub all_told : (similar : SimilarKeys) → first_three (similar_key_list similar ++ []) ≡ similar
 all_told Nothing = refl
 all_told (One first) = refl
 all_told (Two first second) = refl
@@ -195,7 +195,7 @@ all_told (Three first second third) = refl
 
 -- one key more
 pub one_added : (similar : SimilarKeys) (key : List ℕ) (more : List (List ℕ))
-    → first_three (names_of (first_three (names_of similar ++ key ∷ [])) ++ more) ≡ first_three (names_of similar ++ key ∷ more)
+    → first_three (similar_key_list (first_three (similar_key_list similar ++ key ∷ [])) ++ more) ≡ first_three (similar_key_list similar ++ key ∷ more)
 one_added Nothing key more = refl
 one_added (One first) key more = refl
 one_added (Two first second) key more = refl
@@ -203,11 +203,11 @@ one_added (Three first second third) key more = refl
 
 -- a key that is like the language is told, and another one isn't
 pub like_told : (likeness : Likeness) (language : List ℕ) (now next : SimilarKeys) (key : List ℕ) (keys : List (List ℕ))
-    → is_like likeness language key ≡ true → next ≡ first_three (names_of now ++ key ∷ [])
+    → is_like likeness language key ≡ true → next ≡ first_three (similar_key_list now ++ key ∷ [])
     → told_in likeness language now (key ∷ keys) ≡ told_in likeness language next keys
 like_told likeness language now next key keys like added =
     ap (λ (b : Bool). first_three
-    (names_of now ++ (if b then key ∷ filter (is_like likeness language) keys else filter (is_like likeness language) keys)))
+    (similar_key_list now ++ (if b then key ∷ filter (is_like likeness language) keys else filter (is_like likeness language) keys)))
     like
     ∙ sym (one_added now key (filter (is_like likeness language) keys))
     ∙ ap (λ (s : SimilarKeys). told_in likeness language s keys) (sym added)
@@ -216,5 +216,5 @@ pub other_told : (likeness : Likeness) (language : List ℕ) (now : SimilarKeys)
     → is_like likeness language key ≡ false → told_in likeness language now (key ∷ keys) ≡ told_in likeness language now keys
 other_told likeness language now key keys differs =
     ap (λ (b : Bool). first_three
-    (names_of now ++ (if b then key ∷ filter (is_like likeness language) keys else filter (is_like likeness language) keys)))
+    (similar_key_list now ++ (if b then key ∷ filter (is_like likeness language) keys else filter (is_like likeness language) keys)))
     differs

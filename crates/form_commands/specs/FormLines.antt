@@ -48,8 +48,8 @@ IsSamplesOf (Some rule) text = IsSamplesText rule text
 -- ---- The line of a form
 
 -- the category, its whole numbers and the samples of its text
-abbrev pub IsForm : LanguageRules → PluralCategory → List ℕ → Type 0
-IsForm language category line =
+abbrev pub IsFormLine : LanguageRules → PluralCategory → List ℕ → Type 0
+IsFormLine language category line =
     (wholes samples : List ℕ) × IsWholesText language.rules category wholes
     × IsSamplesOf (text_under category (view language.value.now)) samples
     × (line ≡ name_of category ++ codes ": " ++ wholes ++ samples ++ codes "\n")
@@ -58,7 +58,7 @@ IsForm language category line =
 abbrev pub AreForms : LanguageRules → List PluralCategory → List ℕ → Type 0
 AreForms language [] text = text ≡ []
 AreForms language (category ∷ categories) text =
-    (first rest : List ℕ) × IsForm language category first × AreForms language categories rest × (text ≡ first ++ rest)
+    (first rest : List ℕ) × IsFormLine language category first × AreForms language categories rest × (text ≡ first ++ rest)
 
 -- ---- All lines
 

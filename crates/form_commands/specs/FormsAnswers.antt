@@ -12,7 +12,7 @@ use Rattle.std.specs.Prelude.{◌≡◌, ◌⊎◌, ℕ, ◌<◌, ◌≤◌, ◌
 use Rattle.std.specs.Io.KnownBytes.{Appends, Consumes, IsAtEnd, Keeps}
 use Rattle.icu_plurals.specs.DocumentJson.{Document, document_of_json, found}
 use Rattle.icu_plurals.specs.FiveRules.{FiveRules}
-use Rattle.message_report.specs.FoundInMessages.{Found}
+use Rattle.message_report.specs.FoundInMessages.{MessageFound}
 use Rattle.message_report.specs.MessagesReportText.{messages_report_text}
 use Rattle.message_report.specs.MessagesRun.{IsReportedAs}
 use Rattle.message_report.specs.RulesSource.{RulesSource, source_of, text_in}
@@ -26,7 +26,7 @@ use Rattle.plural_fallback.specs.LocalesJson.{keys_under, parent_in, part_name}
 use Rattle.plural_fallback.specs.declared.locales.Part.{Part}
 use Rattle.serde_json.specs.Data.{Data}
 use Rattle.number_lines.specs.AnsweredInputs.{IsAnsweredInPart, IsCutOff}
-use Rattle.number_lines.specs.InputLines.{lines_of}
+use Rattle.number_lines.specs.InputLines.{input_lines_of}
 use Rattle.number_lines.specs.NumberAnswers.{AreLineAnswers, AreNumberAnswers}
 use Rattle.number_lines.specs.PrintedTexts.{PrintedText, only_text}
 use Rattle.form_commands.specs.FormLines.{IsFormList}
@@ -97,7 +97,7 @@ IsAnsweredText IsAnswer input old new (Err Memory) = Keeps old new
 unfoldable pub IsStreamed : FiveRules → Option (List ℕ) → Option (List ℕ) → Option (List ℕ) → Option (List ℕ) → Result Verdict FormsError → Type 0
 IsStreamed rules before left old new (Ok verdict) =
     (numbers : List ℕ) × (printed : PrintedText) × Consumes before left numbers × IsAtEnd left
-    × AreLineAnswers rules (lines_of numbers) printed × (verdict ≡ verdict_of printed) × Appends old new printed.text
+    × AreLineAnswers rules (input_lines_of numbers) printed × (verdict ≡ verdict_of printed) × Appends old new printed.text
 IsStreamed rules before left old new (Err Rules) = ⊥
 IsStreamed rules before left old new (Err TooLong) = ⊥
 IsStreamed rules before left old new (Err Json) = ⊥
@@ -141,7 +141,7 @@ rules_source value document =
     (λ part. keys_under (part_name part) value) (parent_in value)
 
 -- the report under the rules that an input writes
-abbrev pub IsReportedBy : (Found → List ℕ) → List MessageFile → List ℕ → Option (List ℕ) → Option (List ℕ) → Result Counts ReportError → Type 0
+abbrev pub IsReportedBy : (MessageFound → List ℕ) → List MessageFile → List ℕ → Option (List ℕ) → Option (List ℕ) → Result Counts ReportError → Type 0
 IsReportedBy text_of files input old new result =
     (value : Data) × (document : Document) × IsDocumentIn input value × (document_of_json value ≡ Ok document)
     × IsReportedAs text_of (rules_source value document) files old new result
@@ -150,7 +150,7 @@ abbrev pub verdict_of_counts : Counts → Verdict
 verdict_of_counts counts = if counts.faults == 0 then (if counts.notes == 0 then Complete else Noted) else Faults
 
 -- the report, or a beginning of it; or a fault, and nothing at all
-unfoldable pub IsCheckedAs : (Found → List ℕ) → List MessageFile → List ℕ → Option (List ℕ) → Option (List ℕ)
+unfoldable pub IsCheckedAs : (MessageFound → List ℕ) → List MessageFile → List ℕ → Option (List ℕ) → Option (List ℕ)
     → Result Verdict FormsError → Type 0
 IsCheckedAs text_of files input old new (Ok verdict) =
     (counts : Counts) × IsReportedBy text_of files input old new (Ok counts) × (verdict ≡ verdict_of_counts counts)

@@ -13,7 +13,7 @@ use Rattle.icu_plurals.specs.declared.PluralCategory.{PluralCategory}
 use Rattle.icu_plurals.specs.declared.PluralCategory.TheVariants.{Zero, One, Two, Few, Many, Other}
 use Rattle.number_categories.specs.WholeNumbers.{HasWhole, whole_limit}
 use Rattle.form_commands.specs.CExpressions.{Atom, choice_text, choice_value}
-use Rattle.form_commands.specs.RuleConditions.{condition_of}
+use Rattle.form_commands.specs.RuleConditions.{rule_condition_of}
 
 -- ---- The forms
 
@@ -51,7 +51,7 @@ rule_for rules Other = None
 -- no whole number has a rule that isn't there
 abbrev pub condition_if : Option (List PackedRelation) → List (List Atom)
 condition_if None = []
-condition_if (Some relations) = condition_of relations
+condition_if (Some relations) = rule_condition_of relations
 
 -- of each form but the last, which has all numbers that are left
 abbrev pub conditions_of : FiveRules → List PluralCategory → List (List (List Atom))

@@ -1,9 +1,7 @@
 -- Not definitions of the subject: views of private values, and steps of private calls.
 pub mod QuestionViews
 pub mod FormsInputFaults
-pub mod PrintedSteps
 pub mod RunSteps
 pub mod SimilarSteps
 pub mod NoteSteps
 pub mod ConditionSteps
-pub mod TranslationSteps

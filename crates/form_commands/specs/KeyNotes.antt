@@ -1,6 +1,6 @@
 -- The notes of the keys under which rules are found, where these aren't the locales that are asked
 -- for.
---     note_text place part locale key      the note of a key
+--     key_note_text place part locale key      the note of a key
 --     IsKeyNote document place part locale note      that of a locale's first key, if it has one
 --     IsNote document place part locale note      the same, if the language is known
 --     AreFileNotes document files notes      those of the locales of files of messages
@@ -20,7 +20,7 @@ use Rattle.serde_json.specs.Find.{get, as_object}
 use Rattle.serde_json.specs.View.{view}
 use Rattle.rules_outline.specs.LocaleKeys.{HasNoKey, IsKeyOf}
 use Rattle.form_commands.specs.FormsAnswers.{IsDocumentIn}
-use Rattle.form_commands.specs.Languages.{IsKnown, IsUnknown}
+use Rattle.form_commands.specs.Languages.{IsKnownForPart, IsUnknownForPart}
 use Rattle.form_commands.specs.declared.error.FormsError.{FormsError}
 use Rattle.form_commands.specs.declared.error.Verdict.{Verdict}
 
@@ -28,32 +28,32 @@ use Rattle.form_commands.specs.declared.error.Verdict.{Verdict}
 
 -- `plural_forms: pt-AO: cardinal rules of pt-PT`; of a key that is the locale, nothing. Before the
 -- locale is the place, if there is one.
-abbrev pub note_text : List ℕ → Part → List ℕ → List ℕ → List ℕ
-note_text place part locale key =
+abbrev pub key_note_text : List ℕ → Part → List ℕ → List ℕ → List ℕ
+key_note_text place part locale key =
     if bytes_eq key locale then []
     else (codes "plural_forms: " ++ (place ++ (locale ++ (codes ": " ++ (part_name part ++ (codes " rules of " ++ (key ++ codes "\n")))))))
 
 -- that of the first key of the locale's chain, if there is one
 abbrev pub IsKeyNote : Data → List ℕ → Part → List ℕ → List ℕ → Type 0
 IsKeyNote document place part locale note =
-    ((key : List ℕ) × IsKeyOf document part locale key × (note ≡ note_text place part locale key))
+    ((key : List ℕ) × IsKeyOf document part locale key × (note ≡ key_note_text place part locale key))
     ⊎ ((reason : FallbackError) × HasNoKey document part locale reason × (note ≡ []))
 
 -- an unknown language has no rules, and so no note
 abbrev pub IsNote : Data → List ℕ → Part → List ℕ → List ℕ → Type 0
 IsNote document place part locale note =
-    (IsKnown document part locale × IsKeyNote document place part locale note) ⊎ (IsUnknown document part locale × (note ≡ []))
+    (IsKnownForPart document part locale × IsKeyNote document place part locale note) ⊎ (IsUnknownForPart document part locale × (note ≡ []))
 
 -- ---- Files of messages
 
 -- there is something under a key
-abbrev pub has_members : Option Members → Bool
-has_members None = false
-has_members (Some no_members) = false
-has_members (Some (member key value others)) = true
+abbrev pub has_any_member : Option Members → Bool
+has_any_member None = false
+has_any_member (Some no_members) = false
+has_any_member (Some (member key value others)) = true
 
 abbrev pub has_some : List ℕ → Data → Bool
-has_some name value = has_members (option_and_then as_object (get name value))
+has_some name value = has_any_member (option_and_then as_object (get name value))
 
 -- a locale has messages of the part, or patterns
 abbrev pub is_asked : Part → Data → Bool
@@ -77,13 +77,13 @@ AreMemberNotes document place (member locale value members) notes =
     × (notes ≡ first ++ rest)
 
 -- of a document of messages; one that is no object has no locales
-abbrev pub AreNotesOf : Data → List ℕ → Option Members → List ℕ → Type 0
-AreNotesOf document place None notes = notes ≡ []
-AreNotesOf document place (Some locales) notes = AreMemberNotes document place locales notes
+abbrev pub AreMessageNotes : Data → List ℕ → Option Members → List ℕ → Type 0
+AreMessageNotes document place None notes = notes ≡ []
+AreMessageNotes document place (Some locales) notes = AreMemberNotes document place locales notes
 
 -- of a file: its name is the place
 abbrev pub IsFileNote : Data → MessageFile → List ℕ → Type 0
-IsFileNote document file notes = AreNotesOf document (file.name.now ++ codes ": ") (as_object (view file.document.now)) notes
+IsFileNote document file notes = AreMessageNotes document (file.name.now ++ codes ": ") (as_object (view file.document.now)) notes
 
 -- of files, in their order
 abbrev pub AreFileNotes : Data → List MessageFile → List ℕ → Type 0

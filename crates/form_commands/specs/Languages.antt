@@ -1,17 +1,17 @@
 -- The rules that a document has for a locale: those of the first key along the locale's chain,
 -- unless the language is unknown.
 --     IsFoundFor document part locale answer      the rules of the first key, or why there are none
---     IsUnknown document part locale      the first key is `root`, which wasn't asked for, and the
+--     IsUnknownForPart document part locale      the first key is `root`, which wasn't asked for, and the
 --         document has no other one for cardinal or ordinal numbers
 --     IsLanguageFor document part locale answer      the rules, or why there are none
-use Rattle.std.specs.Prelude.{◌≡◌, ◌⊎◌, ℕ, List, true, false, Option, Some, None, Result, Ok, Err}
+use Rattle.std.specs.Prelude.{◌≡◌, ◌⊎◌, ℕ, List, true, false, Option, Some, None, Result, Ok, Err, ◌↔◌}
 use Rattle.serde_json.specs.Data.{Data}
 use Rattle.serde_json.specs.View.{view}
 use Rattle.icu_plurals.specs.FiveRules.{FiveRules}
 use Rattle.icu_plurals.specs.Json.{Stands}
-use Rattle.icu_plurals.specs.RulesJson.{rules_of_json}
+use Rattle.icu_plurals.specs.RulesJson.{rules_of_json, text_under}
 use Rattle.icu_plurals.specs.declared.JsonError.{JsonError}
-use Rattle.icu_plurals.specs.declared.JsonError.TheVariants.{Shape}
+use Rattle.icu_plurals.specs.declared.JsonError.TheVariants.{Shape, Rule}
 use Rattle.plural_fallback.specs.Chain.{next_of}
 use Rattle.plural_fallback.specs.LocaleNames.{language}
 use Rattle.plural_fallback.specs.LocalesJson.{keys_under, parent_in, part_name}
@@ -19,12 +19,28 @@ use Rattle.plural_fallback.specs.UnknownLanguages.{IsKnownLanguage, IsUnknownLan
 use Rattle.plural_fallback.specs.declared.error.FallbackError.{FallbackError}
 use Rattle.plural_fallback.specs.declared.locales.Part.{Part}
 use Rattle.plural_fallback.specs.declared.locales.Part.TheVariants.{Cardinal, Ordinal}
-use Rattle.rules_outline.specs.LocaleKeys.{HasNoKey, IsKeyOf, value_at}
+use Rattle.rules_outline.specs.LocaleKeys.{HasNoKey, IsKeyOf, value_at_key}
 use Rattle.form_commands.specs.declared.error.LanguageError.{LanguageError}
-use Rattle.form_commands.specs.FaultBytes.{IsFaultByte}
 use Rattle.form_commands.specs.SimilarKeys.{similar_keys}
 use Rattle.form_commands.specs.declared.error.LanguageError.TheVariants.{NotFound, Refused, Unknown}
 use Rattle.form_commands.specs.declared.language.LanguageRules.{LanguageRules}
+use Rattle.std.specs.Option.{option_and_then}
+use Rattle.icu_plurals.specs.declared.PluralCategory.{PluralCategory}
+use Rattle.plural_reference.specs.FaultPlaces.{TextFaultyAt}
+use Rattle.icu_plurals.specs.declared.provider.rules.reference.ParseError.{ParseError}
+use Rattle.icu_plurals.specs.declared.provider.rules.runtime.ast.RuleError.TheVariants.{Parse}
+
+-- ---- where the text of a rule that is refused has its fault (docs/CONDITIONS.md)
+
+-- the text of a category has this fault at this byte
+abbrev pub HasFaultAt : Option Data → PluralCategory → ParseError → ℕ → Type 0
+HasFaultAt value category kind byte =
+    (text : List ℕ) × (option_and_then (text_under category) value ≡ Some text) × TextFaultyAt text kind byte
+
+-- the byte of a text that isn't read; the other reasons have none
+abbrev pub IsFaultByte : Option Data → JsonError → Option ℕ → Type 0
+IsFaultByte value (Rule (Some category) (Parse kind)) found = (byte : ℕ) → (found ≡ Some byte) ↔ HasFaultAt value category kind byte
+IsFaultByte value reason found = found ≡ None
 
 -- ---- The rules of a key
 
@@ -36,11 +52,11 @@ rules_in (Some value) = rules_of_json value
 -- the value under the key and its rules, or why it is refused, and where
 abbrev pub IsFoundAt : Data → Part → List ℕ → Result LanguageRules LanguageError → Type 0
 IsFoundAt document part key (Ok language) =
-    (language.key.now ≡ key) × (value_at document part key ≡ Some (view language.value.now))
+    (language.key.now ≡ key) × (value_at_key document part key ≡ Some (view language.value.now))
     × (rules_of_json (view language.value.now) ≡ Ok language.rules)
 IsFoundAt document part key (Err error) =
-    (reason : JsonError) × (byte : Option ℕ) × (rules_in (value_at document part key) ≡ Err reason)
-    × IsFaultByte (value_at document part key) reason byte × (error ≡ Refused part key reason byte)
+    (reason : JsonError) × (byte : Option ℕ) × (rules_in (value_at_key document part key) ≡ Err reason)
+    × IsFaultByte (value_at_key document part key) reason byte × (error ≡ Refused part key reason byte)
 
 -- ---- The rules of a locale
 
@@ -72,11 +88,11 @@ IsUnknownIn document locale =
     IsUnknownLanguage (keys_under (part_name Cardinal) document) (keys_under (part_name Ordinal) document) (next_of (parent_in document)) locale
 
 -- the key of the part is that of `root`, and none is found for other numbers
-abbrev pub IsUnknown : Data → Part → List ℕ → Type 0
-IsUnknown document part locale = HasRootsKey document part locale × IsUnknownIn document locale
+abbrev pub IsUnknownForPart : Data → Part → List ℕ → Type 0
+IsUnknownForPart document part locale = HasRootsKey document part locale × IsUnknownIn document locale
 
-abbrev pub IsKnown : Data → Part → List ℕ → Type 0
-IsKnown document part locale = HasAnotherKey document part locale ⊎ IsKnownIn document locale
+abbrev pub IsKnownForPart : Data → Part → List ℕ → Type 0
+IsKnownForPart document part locale = HasAnotherKey document part locale ⊎ IsKnownIn document locale
 
 -- of an unknown language the error that names the keys of the part which are similar to it
 abbrev pub unknown_error : Data → Part → List ℕ → LanguageError
@@ -86,5 +102,5 @@ unknown_error document part locale =
 -- the rules of a known language, or why there are none
 abbrev pub IsLanguageFor : Data → Part → List ℕ → Result LanguageRules LanguageError → Type 0
 IsLanguageFor document part locale answer =
-    (IsUnknown document part locale × (answer ≡ Err (unknown_error document part locale)))
-    ⊎ (IsKnown document part locale × IsFoundFor document part locale answer)
+    (IsUnknownForPart document part locale × (answer ≡ Err (unknown_error document part locale)))
+    ⊎ (IsKnownForPart document part locale × IsFoundFor document part locale answer)

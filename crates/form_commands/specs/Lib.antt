@@ -2,7 +2,6 @@
 pub mod Questions
 -- the rules of a locale, and what is printed of them
 pub mod SimilarKeys
-pub mod FaultBytes
 pub mod Languages
 pub mod FormLines
 -- the line for gettext

@@ -46,10 +46,10 @@ pub record FileAndRest : Type 0 where
 abbrev pub with_file : Option (List ℕ) → List (List ℕ) → FileAndRest
 with_file file rest = record { file = file; rest = rest }
 
-abbrev pub file_of : List (List ℕ) → FileAndRest
-file_of (first ∷ file ∷ rest) =
+abbrev pub rules_file_of : List (List ℕ) → FileAndRest
+rules_file_of (first ∷ file ∷ rest) =
     if bytes_eq first (codes "--rules") then with_file (Some file) rest else with_file None (first ∷ file ∷ rest)
-file_of words = with_file None words
+rules_file_of words = with_file None words
 
 -- the format that `--format` at the front names, lines without it, and the words after it
 pub record FormatAndRest : Type 0 where
@@ -60,11 +60,11 @@ abbrev pub with_format : Format → List (List ℕ) → FormatAndRest
 with_format format rest = record { format = format; rest = rest }
 
 -- none, if it names no format
-abbrev pub format_of : List (List ℕ) → Option FormatAndRest
-format_of (first ∷ word ∷ rest) =
+abbrev pub report_format_of : List (List ℕ) → Option FormatAndRest
+report_format_of (first ∷ word ∷ rest) =
     if bytes_eq first (codes "--format") then option_map (λ format. with_format format rest) (format_named word)
     else Some (with_format Text (first ∷ word ∷ rest))
-format_of words = Some (with_format Text words)
+report_format_of words = Some (with_format Text words)
 
 -- the options at the front, and the words after them
 pub record Options : Type 0 where
@@ -82,16 +82,16 @@ options_after Ordinal found = options_with found.file (in_part Ordinal found.res
 options_after part found = options_with found.file (part_of_words found.rest)
 
 abbrev pub options_of : List (List ℕ) → Options
-options_of words = options_after (part_of_words words).part (file_of (part_of_words words).rest)
+options_of words = options_after (part_of_words words).part (rules_file_of (part_of_words words).rest)
 
 -- ---- Questions
 
 abbrev pub has_option : List (List ℕ) → Bool
 has_option words = list_any (λ word. starts_with nat_eq word (codes "--")) words
 
-abbrev pub is_empty : List (List ℕ) → Bool
-is_empty [] = true
-is_empty (word ∷ words) = false
+abbrev pub has_no_words : List (List ℕ) → Bool
+has_no_words [] = true
+has_no_words (word ∷ words) = false
 
 abbrev pub of_word : List ℕ → Option Question
 of_word word =
@@ -103,8 +103,8 @@ wanted_by locale options = record { part = options.part; locale = locale; file =
 -- a command, a locale and the words after it, of which those after the options begin no option
 abbrev pub of_options : List ℕ → List ℕ → Options → Option Question
 of_options command locale options =
-    if bytes_eq command (codes "list") && is_empty options.rest then Some (list (wanted_by locale options))
-    else (if bytes_eq command (codes "gettext") && is_empty options.rest then Some (gettext (wanted_by locale options))
+    if bytes_eq command (codes "list") && has_no_words options.rest then Some (list (wanted_by locale options))
+    else (if bytes_eq command (codes "gettext") && has_no_words options.rest then Some (gettext (wanted_by locale options))
     else (if bytes_eq command (codes "category") && not (has_option options.rest)
     then Some (category (wanted_by locale options) options.rest) else None))
 
@@ -113,21 +113,21 @@ of_command command locale words = of_options command locale (options_of words)
 
 -- at least one file, and no further option
 abbrev pub of_files : Option (List ℕ) → Format → List (List ℕ) → Option Question
-of_files file format rest = if is_empty rest || has_option rest then None else Some (check file format rest)
+of_files file format rest = if has_no_words rest || has_option rest then None else Some (check file format rest)
 
 -- a file may be named behind the format
-abbrev pub with_rules : Format → FileAndRest → Option Question
-with_rules format found = of_files found.file format found.rest
+abbrev pub check_with_rules : Format → FileAndRest → Option Question
+check_with_rules format found = of_files found.file format found.rest
 
 -- `--rules FILE`, and then `--format FORMAT`, or these in the other order; each may be absent
-abbrev pub behind_rules : List (List ℕ) → FileAndRest → Option Question
-behind_rules words found =
-    if is_some found.file then option_and_then (λ f. of_files found.file f.format f.rest) (format_of found.rest)
-    else option_and_then (λ f. with_rules f.format (file_of f.rest)) (format_of words)
+abbrev pub check_behind_rules : List (List ℕ) → FileAndRest → Option Question
+check_behind_rules words found =
+    if is_some found.file then option_and_then (λ f. of_files found.file f.format f.rest) (report_format_of found.rest)
+    else option_and_then (λ f. check_with_rules f.format (rules_file_of f.rest)) (report_format_of words)
 
 -- the words after `check`
 abbrev pub of_check : List (List ℕ) → Option Question
-of_check words = behind_rules words (file_of words)
+of_check words = check_behind_rules words (rules_file_of words)
 
 -- any other command and the words after it
 abbrev pub of_other : List ℕ → List (List ℕ) → Option Question

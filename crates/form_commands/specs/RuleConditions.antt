@@ -1,7 +1,7 @@
 -- The condition of a rule at whole numbers, as an expression of C. Of a whole number n and i are
 -- the number, and the other operands are 0: so a relation of these is left out if it is true of 0,
 -- and else its group is.
---     condition_of relations      the condition of the relations of a rule
+--     rule_condition_of relations      the condition of the relations of a rule
 use Rattle.std.specs.Prelude.{◌≡◌, ℕ, ◌==◌, List, [], ◌∷◌, map, flat_map, filter, Bool, true, false, ◌||◌, if◌then◌else◌}
 use Rattle.std.specs.List.{list_all}
 use Rattle.icu_plurals.specs.Operands.{of_whole}
@@ -46,26 +46,26 @@ atoms_under Eq modulus ranges = in_ranges modulus ranges
 atoms_under NotEq modulus ranges = map (outside modulus) ranges
 
 -- of a whole number the operand is the number; the others are 0
-abbrev pub is_of_number : Operand → Bool
-is_of_number N = true
-is_of_number I = true
-is_of_number V = false
-is_of_number W = false
-is_of_number F = false
-is_of_number T = false
-is_of_number C = false
-is_of_number E = false
+abbrev pub is_whole_operand : Operand → Bool
+is_whole_operand N = true
+is_whole_operand I = true
+is_whole_operand V = false
+is_whole_operand W = false
+is_whole_operand F = false
+is_whole_operand T = false
+is_whole_operand C = false
+is_whole_operand E = false
 
 -- it says nothing of whole numbers if it isn't of the number
 abbrev pub atoms_of : PackedRelation → List Atom
 atoms_of relation =
-    if is_of_number relation.meaning.operand then atoms_under relation.meaning.operator relation.meaning.modulus relation.meaning.ranges
+    if is_whole_operand relation.meaning.operand then atoms_under relation.meaning.operator relation.meaning.modulus relation.meaning.ranges
     else []
 
 -- it is of the number, or true of 0; else no whole number has it
 abbrev pub is_possible : PackedRelation → Bool
 is_possible relation =
-    is_of_number relation.meaning.operand || under relation.meaning.operator (is_in_ranges relation.meaning.ranges 0)
+    is_whole_operand relation.meaning.operand || under relation.meaning.operator (is_in_ranges relation.meaning.ranges 0)
 
 -- ---- A rule
 
@@ -75,11 +75,11 @@ atoms_of_group group = flat_map atoms_of group
 abbrev pub conditions_of_groups : List (List PackedRelation) → List (List Atom)
 conditions_of_groups groups = map atoms_of_group (filter (list_all is_possible) groups)
 
-abbrev pub condition_of : List PackedRelation → List (List Atom)
-condition_of relations = conditions_of_groups (groups relations)
+abbrev pub rule_condition_of : List PackedRelation → List (List Atom)
+rule_condition_of relations = conditions_of_groups (groups relations)
 
 -- ---- What it means
 
 -- of a whole number it has the value that the rule has
 abbrev pub ConditionsAreRules : Type 0
-ConditionsAreRules = (relations : List PackedRelation) (n : ℕ) → condition_value n (condition_of relations) ≡ packed_truth (of_whole n) relations
+ConditionsAreRules = (relations : List PackedRelation) (n : ℕ) → condition_value n (rule_condition_of relations) ≡ packed_truth (of_whole n) relations

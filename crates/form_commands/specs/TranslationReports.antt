@@ -5,7 +5,7 @@
 use Rattle.std.specs.Prelude.{◌≡◌, ℕ, Bool, nat_lt, List, Option, if◌then◌else◌}
 use Rattle.std.specs.Io.KnownBytes.{Appends}
 use Rattle.finding_formats.specs.LocatedFindings.{Located}
-use Rattle.finding_formats.specs.PrintedLocated.{located_text}
+use Rattle.finding_formats.specs.LocatedReport.{located_text}
 use Rattle.finding_formats.specs.declared.format.Format.{Format}
 use Rattle.finding_formats.specs.declared.totals.Totals.{Totals}
 use Rattle.form_commands.specs.FormsErrors.{strict_verdict}

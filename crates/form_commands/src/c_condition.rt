@@ -7,8 +7,8 @@ ghost use Rattle.icu_plurals.specs.PackedRelations.{PackedRelation};
 ghost use Rattle.icu_plurals.specs.RuleKinds.{tree_operand_of};
 ghost use Rattle.icu_plurals.specs.RuleViews.{lent_relation};
 ghost use Rattle.form_commands.specs.CExpressions.{and_text, atom_text, c_condition_text, comparison_text, or_text, term_text};
-ghost use Rattle.form_commands.specs.RuleConditions.{atoms_under, condition_of, in_ranges, inside, is_of_number, outside};
-ghost use Rattle.form_commands.specs.Inner.ConditionSteps.{AreCut, IsGroup, Joins, begun_before, ended_before, group_texts};
+ghost use Rattle.form_commands.specs.RuleConditions.{atoms_under, rule_condition_of, in_ranges, inside, is_whole_operand, outside};
+ghost use Rattle.form_commands.specs.Inner.ConditionSteps.{AreCut, IsGroup, Joins, begun_before, groups_ended_before, group_texts};
 
 use crate::joined::Joined;
 use icu_plurals::provider::rules::runtime::ast::{
@@ -26,7 +26,7 @@ pub(crate) struct Group {
 // The condition of a rule. Relations that are true of all whole numbers are left out, and so are
 // groups that have one that is false of all.
 pub(crate) fn condition_text(alloc: Global, rule: &Rule<'_>) -> Result<String, AllocError>
-    ensures { IfOk result (λ text. string_bytes text ≡ c_condition_text (condition_of rule.now)) }
+    ensures { IfOk result (λ text. string_bytes text ≡ c_condition_text (rule_condition_of rule.now)) }
 {
     let mut ended = Joined::new(alloc);
     let mut current = Group::new(alloc);
@@ -47,7 +47,7 @@ fn cut_before(
     current: &mut Group,
 ) -> Result<(), AllocError>
     ensures { OnOk result ((done : List (List PackedRelation)) (group : List PackedRelation) → AreCut done group ended.old current.old
-        → AreCut (ended_before and_or done group) (begun_before and_or group) ended.new current.new) }
+        → AreCut (groups_ended_before and_or done group) (begun_before and_or group) ended.new current.new) }
 {
     match and_or {
         AndOr::And => Ok(()),
@@ -102,7 +102,7 @@ fn both(first: bool, second: bool) -> bool
 
 // Whether an operand of a whole number is the number; the others are 0.
 fn is_of_number(operand: Operand) -> bool
-    ensures { result ≡ is_of_number (tree_operand_of operand) }
+    ensures { result ≡ is_whole_operand (tree_operand_of operand) }
 {
     match operand {
         Operand::N | Operand::I => true,

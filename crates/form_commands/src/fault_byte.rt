@@ -1,7 +1,7 @@
 //! Where the text of a rule that is refused has its fault.
 
 ghost use Rattle.std.specs.Prelude.{◌≡◌, ◌↔◌, IfOk, Some, option_map, ℕ};
-ghost use Rattle.form_commands.specs.FaultBytes.{HasFaultAt, IsFaultByte};
+ghost use Rattle.form_commands.specs.Languages.{HasFaultAt, IsFaultByte};
 ghost use Rattle.icu_plurals.specs.RulesJson.{text_under};
 ghost use Rattle.plural_reference.specs.FaultPlaces.{TextFaultyAt};
 ghost use Rattle.serde_json.specs.View.{view};

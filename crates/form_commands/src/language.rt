@@ -3,7 +3,7 @@
 ghost use Rattle.std.specs.Prelude.{◌≡◌, Err, IfOk, option_map};
 ghost use Rattle.form_commands.specs.Inner.RunSteps.{IsFoundBy};
 ghost use Rattle.form_commands.specs.Languages.{IsFoundAt};
-ghost use Rattle.rules_outline.specs.LocaleKeys.{value_at};
+ghost use Rattle.rules_outline.specs.LocaleKeys.{value_at_key};
 ghost use Rattle.serde_json.specs.View.{view};
 
 use crate::error::LanguageError;
@@ -70,7 +70,7 @@ fn at_key<'a>(
 
 // What stands under a key of a part.
 fn value_at<'a>(document: &'a Value, part: Part, key: &str) -> Option<&'a Value>
-    ensures { option_map (λ v. view v.now) result ≡ value_at (view document.now) part key.now }
+    ensures { option_map (λ v. view v.now) result ≡ value_at_key (view document.now) part key.now }
 {
     document.get(part.as_str())?.get(key)
 }

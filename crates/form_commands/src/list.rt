@@ -7,8 +7,8 @@ ghost use Rattle.icu_plurals.specs.FiveRules.{categories_of};
 ghost use Rattle.icu_plurals.specs.RulesJson.{text_under};
 ghost use Rattle.icu_plurals.specs.Serializer.{prefixed, samples_text};
 ghost use Rattle.number_categories.specs.WholeNumbers.{AreTwoLeast};
-ghost use Rattle.form_commands.specs.FormLines.{AreForms, IsForm, IsFormList, IsSamplesOf, IsSamplesText, alone_text, header_line, is_alone, wholes_text};
-ghost use Rattle.form_commands.specs.Inner.PrintedSteps.{Grows};
+ghost use Rattle.form_commands.specs.FormLines.{AreForms, IsFormLine, IsFormList, IsSamplesOf, IsSamplesText, alone_text, header_line, is_alone, wholes_text};
+ghost use Rattle.form_commands.specs.Inner.ConditionSteps.{Grows};
 ghost use Rattle.serde_json.specs.View.{view};
 
 use crate::language::LanguageRules;
@@ -95,7 +95,7 @@ fn push_form(
     text: &mut String,
 ) -> Result<(), AllocError>
     requires { AreTwoLeast language.now.rules category two.first two.second }
-    ensures { OnOk result (Grows (IsForm language.now category) (string_bytes text.old) (string_bytes text.new)) }
+    ensures { OnOk result (Grows (IsFormLine language.now category) (string_bytes text.old) (string_bytes text.new)) }
 {
     text.push_str(name_of(category))?;
     text.push_str(": ")?;

@@ -3,8 +3,8 @@
 ghost use Rattle.std.specs.Prelude.{◌≡◌, ◌≢◌, ◌++◌, IfErr, IfOk, OnOk, codes, option_map, string_bytes};
 ghost use Rattle.std.specs.Option.{option_and_then};
 ghost use Rattle.form_commands.specs.Inner.NoteSteps.{IsKeptNote, Notes};
-ghost use Rattle.form_commands.specs.Inner.PrintedSteps.{Grows};
-ghost use Rattle.form_commands.specs.KeyNotes.{AreFileNotes, AreLocaleNotes, AreMemberNotes, IsFileNote, IsNote, IsNoteIf, has_some, is_asked, note_text};
+ghost use Rattle.form_commands.specs.Inner.ConditionSteps.{Grows};
+ghost use Rattle.form_commands.specs.KeyNotes.{AreFileNotes, AreLocaleNotes, AreMemberNotes, IsFileNote, IsNote, IsNoteIf, has_some, is_asked, key_note_text};
 ghost use Rattle.serde_json.specs.Find.{as_object, get};
 ghost use Rattle.serde_json.specs.View.{members_view, view};
 
@@ -226,7 +226,7 @@ fn push_key(
     key: &str,
     notes: &mut String,
 ) -> Result<(), AllocError>
-    ensures { OnOk result (string_bytes notes.new ≡ string_bytes notes.old ++ note_text place.now part locale.now key.now) }
+    ensures { OnOk result (string_bytes notes.new ≡ string_bytes notes.old ++ key_note_text place.now part locale.now key.now) }
 {
     let note = note_text(alloc, place, part, locale, key)?;
     notes.push_str(note.as_str())
@@ -240,7 +240,7 @@ fn note_text(
     locale: &str,
     key: &str,
 ) -> Result<String, AllocError>
-    ensures { IfOk result (λ note. string_bytes note ≡ note_text place.now part locale.now key.now) }
+    ensures { IfOk result (λ note. string_bytes note ≡ key_note_text place.now part locale.now key.now) }
 {
     if key == locale {
         return Ok(String::new(alloc));

@@ -2,9 +2,9 @@
 
 ghost use Rattle.std.specs.Prelude.{◌≡◌, map, option_map};
 ghost use Rattle.std.specs.Option.{option_copied};
-ghost use Rattle.form_commands.specs.Questions.{file_of, format_of, has_option, in_part, of_check, of_command, of_files, of_other, of_word, of_words, options_after, options_of, options_with, part_of_words, with_file, with_rules};
-ghost use Rattle.form_commands.specs.Inner.QuestionViews.{format_view, options_view, question_view};
-ghost use Rattle.number_lines.specs.NumberAnswers.{words_view};
+ghost use Rattle.form_commands.specs.Questions.{rules_file_of, report_format_of, has_option, in_part, of_check, of_command, of_files, of_other, of_word, of_words, options_after, options_of, options_with, part_of_words, with_file, check_with_rules};
+ghost use Rattle.form_commands.specs.Inner.QuestionViews.{format_and_rest_view, options_view, question_view};
+ghost use Rattle.number_lines.specs.NumberAnswers.{command_words_view};
 
 use finding_formats::Format;
 use plural_fallback::Part;
@@ -59,7 +59,7 @@ struct Options<'w> {
 /// `--rules FILE` or `--format FORMAT`, each at most once. `None` for other words. It allocates
 /// nothing.
 pub fn question_of<'w>(words: &'w [&'w str]) -> Option<Question<'w>>
-    ensures { option_map question_view result ≡ of_words (words_view words.now) }
+    ensures { option_map question_view result ≡ of_words (command_words_view words.now) }
 {
     match words {
         [command, rest @ ..] => {
@@ -75,7 +75,7 @@ pub fn question_of<'w>(words: &'w [&'w str]) -> Option<Question<'w>>
 
 // The question of the words after `check`.
 fn of_check<'w>(words: &'w [&'w str]) -> Option<Question<'w>>
-    ensures { option_map question_view result ≡ of_check (words_view words.now) }
+    ensures { option_map question_view result ≡ of_check (command_words_view words.now) }
 {
     let (file, rest) = file_of(words);
     if file.is_some() {
@@ -88,7 +88,7 @@ fn of_check<'w>(words: &'w [&'w str]) -> Option<Question<'w>>
 
 // The question of the words behind a format, where a file may be named.
 fn with_rules<'w>(format: Format, words: &'w [&'w str]) -> Option<Question<'w>>
-    ensures { option_map question_view result ≡ with_rules format (file_of (words_view words.now)) }
+    ensures { option_map question_view result ≡ check_with_rules format (rules_file_of (command_words_view words.now)) }
 {
     let (file, rest) = file_of(words);
     of_files(file, format, rest)
@@ -96,7 +96,7 @@ fn with_rules<'w>(format: Format, words: &'w [&'w str]) -> Option<Question<'w>>
 
 // The question of the words behind the options.
 fn of_files<'w>(file: Option<&'w str>, format: Format, words: &'w [&'w str]) -> Option<Question<'w>>
-    ensures { option_map question_view result ≡ of_files (option_copied file.entry) format (words_view words.now) }
+    ensures { option_map question_view result ≡ of_files (option_copied file.entry) format (command_words_view words.now) }
 {
     if words.is_empty() || has_option(words) {
         None
@@ -107,7 +107,7 @@ fn of_files<'w>(file: Option<&'w str>, format: Format, words: &'w [&'w str]) -> 
 
 // The question of another command and the words after it.
 fn of_other<'w>(command: &str, words: &'w [&'w str]) -> Option<Question<'w>>
-    ensures { option_map question_view result ≡ of_other command.now (words_view words.now) }
+    ensures { option_map question_view result ≡ of_other command.now (command_words_view words.now) }
 {
     match words {
         [locale, rest @ ..] => of_command(command, locale, rest),
@@ -128,7 +128,7 @@ fn of_word<'w>(word: &str) -> Option<Question<'w>>
 
 // The question of a command, a locale and the words after it.
 fn of_command<'w>(command: &str, locale: &'w str, words: &'w [&'w str]) -> Option<Question<'w>>
-    ensures { option_map question_view result ≡ of_command command.now locale.now (words_view words.now) }
+    ensures { option_map question_view result ≡ of_command command.now locale.now (command_words_view words.now) }
 {
     let options = options_of(words);
     let wanted = Wanted {
@@ -149,7 +149,7 @@ fn of_command<'w>(command: &str, locale: &'w str, words: &'w [&'w str]) -> Optio
 
 // The options at the front of the words, in either order.
 fn options_of<'w>(words: &'w [&'w str]) -> Options<'w>
-    ensures { options_view result ≡ options_of (words_view words.now) }
+    ensures { options_view result ≡ options_of (command_words_view words.now) }
 {
     let (part, rest) = part_of(words);
     options_after(part, rest)
@@ -157,7 +157,7 @@ fn options_of<'w>(words: &'w [&'w str]) -> Options<'w>
 
 // The options after `--ordinal`, or without it.
 fn options_after<'w>(part: Part, words: &'w [&'w str]) -> Options<'w>
-    ensures { options_view result ≡ options_after part (file_of (words_view words.now)) }
+    ensures { options_view result ≡ options_after part (rules_file_of (command_words_view words.now)) }
 {
     let (file, rest) = file_of(words);
     match part {
@@ -168,7 +168,7 @@ fn options_after<'w>(part: Part, words: &'w [&'w str]) -> Options<'w>
 
 // The options after `--rules FILE`, or without it.
 fn options_with<'w>(file: Option<&'w str>, words: &'w [&'w str]) -> Options<'w>
-    ensures { options_view result ≡ options_with (option_copied file.entry) (part_of_words (words_view words.now)) }
+    ensures { options_view result ≡ options_with (option_copied file.entry) (part_of_words (command_words_view words.now)) }
 {
     let (part, rest) = part_of(words);
     Options { part, file, rest }
@@ -176,7 +176,7 @@ fn options_with<'w>(file: Option<&'w str>, words: &'w [&'w str]) -> Options<'w>
 
 // The part that `--ordinal` at the front names, or the cardinal one; and the words after it.
 fn part_of<'w>(words: &'w [&'w str]) -> (Part, &'w [&'w str])
-    ensures { in_part result.0 (words_view result.1.now) ≡ part_of_words (words_view words.now) }
+    ensures { in_part result.0 (command_words_view result.1.now) ≡ part_of_words (command_words_view words.now) }
 {
     match words {
         [first, rest @ ..] if *first == "--ordinal" => (Part::Ordinal, rest),
@@ -186,7 +186,7 @@ fn part_of<'w>(words: &'w [&'w str]) -> (Part, &'w [&'w str])
 
 // The file that `--rules` at the front names, and the words after it.
 fn file_of<'w>(words: &'w [&'w str]) -> (Option<&'w str>, &'w [&'w str])
-    ensures { with_file (option_copied result.0) (words_view result.1.now) ≡ file_of (words_view words.now) }
+    ensures { with_file (option_copied result.0) (command_words_view result.1.now) ≡ rules_file_of (command_words_view words.now) }
 {
     match words {
         [first, file, rest @ ..] if *first == "--rules" => (Some(*file), rest),
@@ -196,7 +196,7 @@ fn file_of<'w>(words: &'w [&'w str]) -> (Option<&'w str>, &'w [&'w str])
 
 // The format that `--format` at the front names, and the words after it. None, if it names none.
 fn format_of<'w>(words: &'w [&'w str]) -> Option<Formatted<'w>>
-    ensures { option_map format_view result ≡ format_of (words_view words.now) }
+    ensures { option_map format_and_rest_view result ≡ report_format_of (command_words_view words.now) }
 {
     match words {
         [first, word, rest @ ..] if *first == "--format" => {
@@ -212,7 +212,7 @@ fn format_of<'w>(words: &'w [&'w str]) -> Option<Formatted<'w>>
 
 // Whether one of the words begins as an option does.
 fn has_option(words: &[&str]) -> bool
-    ensures { result ≡ has_option (words_view words.now) }
+    ensures { result ≡ has_option (command_words_view words.now) }
 {
     let mut rest = words;
     while let [word, after @ ..] = rest {

@@ -7,8 +7,8 @@ ghost use Rattle.form_commands.specs.Inner.FormsInputFaults.{refused_rules};
 ghost use Rattle.form_commands.specs.Inner.NoteSteps.{IsKeptNote, NotesAfter, Writes};
 ghost use Rattle.form_commands.specs.Inner.RunSteps.{AnswersFirst, AnswersLines, Checks, GivesDocument, GivesJsonValue, GivesRules, GivesRulesIn, IsFoundBy, Reports, WritesAnswer, WritesText, result_of_lines, verdict_by};
 ghost use Rattle.form_commands.specs.KeyNotes.{AreFileNotes, IsNote, IsNoted};
-ghost use Rattle.number_lines.specs.NumberAnswers.{words_view};
-ghost use Rattle.plural_documents.specs.Inputs.{IsInput, IsRead};
+ghost use Rattle.number_lines.specs.NumberAnswers.{command_words_view};
+ghost use Rattle.plural_documents.specs.Inputs.{IsInput, IsReadAfterResult};
 ghost use Rattle.rules_outline.specs.KeptRules.{IsServedBy};
 ghost use Rattle.serde_json.specs.View.{view};
 
@@ -44,7 +44,7 @@ pub fn list_forms<R: Read, W: Write>(
     // The answer is that of some input: what remained in the reader, if that is known.
     ensures answers { (input : List ℕ) × IsInput (R.remaining rules.old) input
         × IsAnsweredText (Answers (IsListAnswer part locale.now) part locale.now) input (W.contents writer.old) (W.contents writer.new) result }
-    ensures reads { IsRead forms_origin (R.remaining rules.old) (R.remaining rules.new) result }
+    ensures reads { IsReadAfterResult forms_origin (R.remaining rules.old) (R.remaining rules.new) result }
     ensures writes_nothing { IfErr result (λ e. e ≢ FormsError.Write → writer.new ≡ writer.old) }
 {
     match rules_of(alloc, part, locale, rules) {
@@ -69,9 +69,9 @@ pub fn answer_numbers<R: Read, W: Write, E: Write>(
 ) -> Result<Verdict, FormsError>
     ensures answers { (input : List ℕ) × IsInput (R.remaining rules.old) input
         × IsNoted (λ document note. IsNote document [] part locale.now note)
-        (IsAnsweredText (Answers (IsNumbersAnswer (words_view numbers.now)) part locale.now) input (W.contents writer.old) (W.contents writer.new))
+        (IsAnsweredText (Answers (IsNumbersAnswer (command_words_view numbers.now)) part locale.now) input (W.contents writer.old) (W.contents writer.new))
         input (E.contents notes.old) (E.contents notes.new) result }
-    ensures reads { IsRead forms_origin (R.remaining rules.old) (R.remaining rules.new) result }
+    ensures reads { IsReadAfterResult forms_origin (R.remaining rules.old) (R.remaining rules.new) result }
     ensures writes_nothing { IfErr result (λ e. e ≢ FormsError.Write → (writer.new ≡ writer.old) × (notes.new ≡ notes.old)) }
 {
     match rules_of(alloc, part, locale, rules) {
@@ -90,7 +90,8 @@ fn numbers_by<W: Write, E: Write>(
     writer: &mut W,
     notes: &mut E,
 ) -> Result<Verdict, FormsError>
-    ensures answers { NotesAfter (Writes (AnswersFirst (IsNumbersAnswer (words_view numbers.now)) (IsFoundBy kept.now part locale.now)) (W.contents writer.old) (W.contents writer.new))
+    ensures answers { NotesAfter (Writes (AnswersFirst (IsNumbersAnswer (command_words_view numbers.now)) (IsFoundBy kept.now part locale.now))
+        (W.contents writer.old) (W.contents writer.new))
         (IsKeptNote kept.now part locale.now) (E.contents notes.old) (E.contents notes.new) result }
     ensures writes_nothing { IfErr result (λ e. e ≢ FormsError.Write → (writer.new ≡ writer.old) × (notes.new ≡ notes.old)) }
 {
@@ -124,7 +125,7 @@ pub fn answer_lines<R: Read, N: Read, W: Write, E: Write>(
         × IsNoted (λ document note. IsNote document [] part locale.now note)
         (IsAnsweredLines part locale.now input (N.remaining numbers.old) (N.remaining numbers.new) (W.contents writer.old) (W.contents writer.new))
         input (E.contents notes.old) (E.contents notes.new) result }
-    ensures reads { IsRead forms_origin (R.remaining rules.old) (R.remaining rules.new) result }
+    ensures reads { IsReadAfterResult forms_origin (R.remaining rules.old) (R.remaining rules.new) result }
     ensures touches_nothing { IfErr result (λ e. IsTrue (is_of_rules e) → (numbers.new ≡ numbers.old) × (writer.new ≡ writer.old)) }
     ensures notes_nothing { IfErr result (λ e. e ≢ FormsError.Write → notes.new ≡ notes.old) }
 {
@@ -145,7 +146,8 @@ fn noted_lines<N: Read, W: Write, E: Write>(
     writer: &mut W,
     notes: &mut E,
 ) -> Result<Verdict, FormsError>
-    ensures answers { NotesAfter (AnswersLines (IsFoundBy kept.now part locale.now) (N.remaining numbers.old) (N.remaining numbers.new) (W.contents writer.old) (W.contents writer.new))
+    ensures answers { NotesAfter
+        (AnswersLines (IsFoundBy kept.now part locale.now) (N.remaining numbers.old) (N.remaining numbers.new) (W.contents writer.old) (W.contents writer.new))
         (IsKeptNote kept.now part locale.now) (E.contents notes.old) (E.contents notes.new) result }
     ensures touches_nothing { IfErr result (λ e. IsTrue (is_of_rules e) → (numbers.new ≡ numbers.old) × (writer.new ≡ writer.old)) }
     ensures notes_nothing { IfErr result (λ e. e ≢ FormsError.Write → notes.new ≡ notes.old) }
@@ -178,7 +180,7 @@ pub fn write_gettext<R: Read, W: Write, E: Write>(
         × IsNoted (λ document note. IsNote document [] part locale.now note)
         (IsAnsweredText (Answers IsGettextAnswer part locale.now) input (W.contents writer.old) (W.contents writer.new))
         input (E.contents notes.old) (E.contents notes.new) result }
-    ensures reads { IsRead forms_origin (R.remaining rules.old) (R.remaining rules.new) result }
+    ensures reads { IsReadAfterResult forms_origin (R.remaining rules.old) (R.remaining rules.new) result }
     ensures writes_nothing { IfErr result (λ e. e ≢ FormsError.Write → (writer.new ≡ writer.old) × (notes.new ≡ notes.old)) }
 {
     match rules_of(alloc, part, locale, rules) {
@@ -226,7 +228,7 @@ pub fn check_files<R: Read, W: Write, E: Write>(
         × IsNoted (λ document note. AreFileNotes document files.now note)
         (IsChecked files.now input (W.contents writer.old) (W.contents writer.new))
         input (E.contents notes.old) (E.contents notes.new) result }
-    ensures reads { IsRead forms_origin (R.remaining rules.old) (R.remaining rules.new) result }
+    ensures reads { IsReadAfterResult forms_origin (R.remaining rules.old) (R.remaining rules.new) result }
     ensures writes_nothing { IfErr result (λ e. e ≢ FormsError.Write → (writer.new ≡ writer.old) × (notes.new ≡ notes.old)) }
 {
     check_files_as(alloc, files, &ReportLines, rules, writer, notes)
@@ -245,7 +247,7 @@ pub fn check_files_as<P: ReportPrinter, R: Read, W: Write, E: Write>(
         × IsNoted (λ document note. AreFileNotes document files.now note)
         (IsCheckedAs (P.text_of printer.now) files.now input (W.contents writer.old) (W.contents writer.new))
         input (E.contents notes.old) (E.contents notes.new) result }
-    ensures reads { IsRead forms_origin (R.remaining rules.old) (R.remaining rules.new) result }
+    ensures reads { IsReadAfterResult forms_origin (R.remaining rules.old) (R.remaining rules.new) result }
     ensures writes_nothing { IfErr result (λ e. e ≢ FormsError.Write → (writer.new ≡ writer.old) × (notes.new ≡ notes.old)) }
 {
     match document_of(alloc, rules) {
@@ -352,7 +354,8 @@ fn lines_by<N: Read, W: Write>(
     numbers: &mut N,
     writer: &mut W,
 ) -> Result<Verdict, FormsError>
-    ensures answers { AnswersLines (IsFoundBy kept.now part locale.now) (N.remaining numbers.old) (N.remaining numbers.new) (W.contents writer.old) (W.contents writer.new) result }
+    ensures answers { AnswersLines (IsFoundBy kept.now part locale.now) (N.remaining numbers.old) (N.remaining numbers.new)
+        (W.contents writer.old) (W.contents writer.new) result }
     ensures touches_nothing { IfErr result (λ e. IsTrue (is_of_rules e) → (numbers.new ≡ numbers.old) × (writer.new ≡ writer.old)) }
 {
     match language_of(alloc, kept, part, locale) {
@@ -370,7 +373,7 @@ fn rules_of<R: Read>(
     reader: &mut R,
 ) -> Result<KeptRules, FormsError>
     ensures document { (input : List ℕ) × IsInput (R.remaining reader.old) input × GivesRules part locale.now input result }
-    ensures reads { IsRead forms_origin (R.remaining reader.old) (R.remaining reader.new) result }
+    ensures reads { IsReadAfterResult forms_origin (R.remaining reader.old) (R.remaining reader.new) result }
 {
     match read_input(alloc, reader) {
         Ok(input) => rules_in(alloc, part, locale, input.as_slice()),
@@ -412,7 +415,7 @@ fn known_rules(
 // The document in a reader.
 pub(crate) fn document_of<R: Read>(alloc: Global, reader: &mut R) -> Result<Value, FormsError>
     ensures document { (input : List ℕ) × IsInput (R.remaining reader.old) input × GivesDocument input result }
-    ensures reads { IsRead forms_origin (R.remaining reader.old) (R.remaining reader.new) result }
+    ensures reads { IsReadAfterResult forms_origin (R.remaining reader.old) (R.remaining reader.new) result }
 {
     match read_input(alloc, reader) {
         Ok(input) => value_of(alloc, input.as_slice()),
@@ -475,7 +478,7 @@ fn categories_of(
     locale: &str,
     numbers: &[&str],
 ) -> Result<Result<Printed, LanguageError>, AllocError>
-    ensures { IfOk result (AnswersFirst (IsNumbersAnswer (words_view numbers.now)) (IsFoundBy kept.now part locale.now)) }
+    ensures { IfOk result (AnswersFirst (IsNumbersAnswer (command_words_view numbers.now)) (IsFoundBy kept.now part locale.now)) }
 {
     match language_of(alloc, kept, part, locale)? {
         Ok(language) => Ok(Ok(numbers_text(alloc, &language.rules, numbers)?)),

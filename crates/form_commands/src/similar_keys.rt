@@ -1,7 +1,7 @@
 //! The keys that are similar to an unknown language.
 
 ghost use Rattle.std.specs.Prelude.{◌≡◌, ◌||◌, ◌++◌, ◌∷◌, [], IfOk, List, take, ℕ};
-ghost use Rattle.form_commands.specs.Inner.SimilarSteps.{is_like, names_of, told_in};
+ghost use Rattle.form_commands.specs.Inner.SimilarSteps.{is_like, similar_key_list, told_in};
 ghost use Rattle.form_commands.specs.SimilarKeys.{begins_alike, first_three, is_one_edit, is_only_alike, similar_keys};
 ghost use Rattle.plural_fallback.specs.LocaleNames.{is_same};
 ghost use Rattle.plural_fallback.specs.LocalesJson.{keys_of};
@@ -53,7 +53,7 @@ impl fmt::Display for SimilarKeys {
 impl SimilarKeys {
     // These and one more, if there are fewer than three.
     fn with_key(self, alloc: Global, key: &str) -> Result<SimilarKeys, AllocError>
-        ensures { IfOk result (λ similar. similar ≡ first_three (names_of self ++ key.now ∷ [])) }
+        ensures { IfOk result (λ similar. similar ≡ first_three (similar_key_list self ++ key.now ∷ [])) }
     {
         match self {
             SimilarKeys::Nothing => Ok(SimilarKeys::One(Name::from_str(alloc, key)?)),

@@ -4,8 +4,8 @@ ghost use Rattle.std.specs.Prelude.{◌≡◌, ◌≢◌, IfErr, IfOk, string_by
 ghost use Rattle.std.specs.Io.KnownBytes.{Appends};
 ghost use Rattle.form_commands.specs.FormsAnswers.{forms_origin};
 ghost use Rattle.form_commands.specs.TranslationReports.{IsToldReport, told_verdict, verdict_told};
-ghost use Rattle.form_commands.specs.Inner.TranslationSteps.{IsReport};
-ghost use Rattle.plural_documents.specs.Inputs.{IsRead};
+ghost use Rattle.form_commands.specs.Inner.RunSteps.{IsReport};
+ghost use Rattle.plural_documents.specs.Inputs.{IsReadAfterResult};
 
 use crate::error::{FormsError, Verdict};
 use crate::excused::is_excused;
@@ -69,7 +69,7 @@ pub fn check_translations<R: Read, W: Write, E: Write>(
     notes: &mut E,
 ) -> Result<Verdict, FormsError>
     ensures report { IfOk result (IsToldReport checking.entry.format checking.entry.is_strict (W.contents writer.old) (W.contents writer.new)) }
-    ensures reads { IsRead forms_origin (R.remaining rules.old) (R.remaining rules.new) result }
+    ensures reads { IsReadAfterResult forms_origin (R.remaining rules.old) (R.remaining rules.new) result }
     ensures writes_nothing { IfErr result (λ e. e ≢ FormsError.Write → (writer.new ≡ writer.old) × (notes.new ≡ notes.old)) }
 {
     match document_of(alloc, rules) {

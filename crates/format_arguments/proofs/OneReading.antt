@@ -5,12 +5,12 @@ use Rattle.std.specs.declared.alloc.AllocError.{AllocError}
 use Rattle.format_arguments.specs.declared.argument.Arguments.{Arguments}
 use Rattle.format_arguments.specs.declared.format.Format.{Format}
 use Rattle.format_arguments.specs.DirectiveTables.{first_place}
-use Rattle.format_arguments.specs.Directives.{Directive, Front, End, Takes, Broken, front}
-use Rattle.format_arguments.specs.CutTexts.{TextPiece, piece_of, IsCutInto, ends, breaks, goes, bytes_of, FormatArgument, argument_at, argument_told, next_behind, arguments_from, arguments_view, fault_behind, HasArguments, HaveOneReading, StandInOrder, none_left, one_more, ArgumentsStandInOrder}
-use Rattle.format_arguments.specs.ToldArguments.{AreTold, Tells, TellsExactly}
+use Rattle.format_arguments.specs.Directives.{Directive, PieceFront, End, Takes, Broken, piece_front}
+use Rattle.format_arguments.specs.CutTexts.{TextPiece, piece_of, IsCutInto, ends, breaks, goes, bytes_of, FormatArgument, argument_at, argument_told, next_behind, arguments_from, arguments_view, fault_behind, HasArguments, ArgumentsHaveOneReading, StandInOrder, none_left, one_more, ArgumentsStandInOrder}
+use Rattle.format_arguments.specs.ToldArguments.{AreToldArguments, Tells, TellsExactly}
 
--- what a text is cut into, by its front
-abbrev pub Follows : Format → List ℕ → Front → List TextPiece → Bool → Type 0
+-- what a text is cut into, by its piece_front
+abbrev pub Follows : Format → List ℕ → PieceFront → List TextPiece → Bool → Type 0
 Follows f s End pieces broken = (pieces ≡ []) × (broken ≡ false)
 Follows f s Broken pieces broken = (pieces ≡ []) × (broken ≡ true)
 Follows f s (Takes says rest) pieces broken =
@@ -18,21 +18,21 @@ Follows f s (Takes says rest) pieces broken =
     × (pieces ≡ piece_of bytes says ∷ later)
 
 follows : (f : Format) {s : List ℕ} {pieces : List TextPiece} {broken : Bool} → IsCutInto f s pieces broken
-    → Follows f s (front f s) pieces broken
-follows f (ends s e) = subst (λ (x : Front). Follows f s x [] false) (sym e) (refl, refl)
-follows f (breaks s e) = subst (λ (x : Front). Follows f s x [] true) (sym e) (refl, refl)
+    → Follows f s (piece_front f s) pieces broken
+follows f (ends s e) = subst (λ (x : PieceFront). Follows f s x [] false) (sym e) (refl, refl)
+follows f (breaks s e) = subst (λ (x : PieceFront). Follows f s x [] true) (sym e) (refl, refl)
 follows f (goes s bytes rest says pieces broken is e cut) =
-    subst (λ (x : Front). Follows f s x (piece_of bytes says ∷ pieces) broken) (sym e) (bytes, pieces, is, cut, refl)
+    subst (λ (x : PieceFront). Follows f s x (piece_of bytes says ∷ pieces) broken) (sym e) (bytes, pieces, is, cut, refl)
 
 pub one_cut : (f : Format) {s : List ℕ} {a b : List TextPiece} {m n : Bool} → IsCutInto f s a m → IsCutInto f s b n → (a ≡ b) × (m ≡ n)
 one_cut f {b = b} {n = n} (ends s e) other =
-    let x : Follows f s End b n = subst (λ (x : Front). Follows f s x b n) e (follows f other) in
+    let x : Follows f s End b n = subst (λ (x : PieceFront). Follows f s x b n) e (follows f other) in
     (sym x.0, sym x.1)
 one_cut f {b = b} {n = n} (breaks s e) other =
-    let x : Follows f s Broken b n = subst (λ (x : Front). Follows f s x b n) e (follows f other) in
+    let x : Follows f s Broken b n = subst (λ (x : PieceFront). Follows f s x b n) e (follows f other) in
     (sym x.0, sym x.1)
 one_cut f {b = b} {n = n} (goes s bytes rest says pieces broken is e cut) other =
-    let x : Follows f s (Takes says rest) b n = subst (λ (x : Front). Follows f s x b n) e (follows f other) in
+    let x : Follows f s (Takes says rest) b n = subst (λ (x : PieceFront). Follows f s x b n) e (follows f other) in
     let same = one_cut f cut x.3 in
     let alike : bytes ≡ x.0 = append_cancel_right bytes x.0 rest (sym is ∙ x.2) in (
       ap (λ (t : List ℕ). piece_of t says ∷ pieces) alike
@@ -40,7 +40,7 @@ one_cut f {b = b} {n = n} (goes s bytes rest says pieces broken is e cut) other 
       same.1,
     )
 
-pub one_reading : HaveOneReading
+pub one_reading : ArgumentsHaveOneReading
 one_reading = λ f text a b m n h k.
     let same : (h.pieces ≡ k.pieces) × (h.broken ≡ k.broken) = one_cut f h.cut k.cut in (
       h.told ∙ (ap (arguments_from (first_place f) 0) same.0 ∙ sym k.told),
@@ -50,11 +50,11 @@ one_reading = λ f text a b m n h k.
 
 -- what is told is all that could be
 told_alone : (f : Format) (text : List ℕ) (result : Result Arguments AllocError) (arguments : List FormatArgument) (fault : Option ℕ)
-    → AreTold f text result → HasArguments f text arguments fault → Tells result arguments fault
+    → AreToldArguments f text result → HasArguments f text arguments fault → Tells result arguments fault
 told_alone f text (Ok told) arguments fault h k = one_reading f text (arguments_view told.items.items) arguments told.fault fault h k
 told_alone f text (Err error) arguments fault h k = tt
 
-pub tells : (f : Format) (text : List ℕ) (result : Result Arguments AllocError) → AreTold f text result → TellsExactly f text result
+pub tells : (f : Format) (text : List ℕ) (result : Result Arguments AllocError) → AreToldArguments f text result → TellsExactly f text result
 tells f text result h = record { only = h; told = λ arguments fault k. told_alone f text result arguments fault h k }
 
 -- pieces have no more bytes than the text

@@ -4,7 +4,7 @@ use Rattle.std.proofs.lemmas.List.{append-nil, length-append, map-append}
 use Rattle.format_arguments.specs.declared.argument.Argument as arguments
 use Rattle.format_arguments.specs.declared.format.Format.{Format}
 use Rattle.format_arguments.specs.DirectiveTables.{first_place}
-use Rattle.format_arguments.specs.Directives.{Directive, Front, End, Takes, Broken, front}
+use Rattle.format_arguments.specs.Directives.{Directive, PieceFront, End, Takes, Broken, piece_front}
 use Rattle.format_arguments.specs.CutTexts.{TextPiece, piece_of, IsCutInto, ends, breaks, goes, bytes_of, FormatArgument, argument_told, next_behind, arguments_from, HasArguments, argument_view, arguments_view}
 use Rattle.format_arguments.proofs.Rests.{FrontEndsIn, front_end}
 
@@ -36,12 +36,12 @@ nothing_read f text at e pieces broken cut = record {
   at_fault = at_most broken (at + length (bytes_of pieces)) (length (bytes_of pieces)) (omega arith);
 }
 
--- the bytes of the piece at the front
+-- the bytes of the piece at the piece_front
 abbrev Bytes : List ℕ → List ℕ → Type 0
 Bytes s rest = (bytes : List ℕ) × (s ≡ bytes ++ rest)
 
-bytes_at : (f : Format) (s rest : List ℕ) (says : Option Directive) → front f s ≡ Takes says rest → Bytes s rest
-bytes_at f s rest says e = subst (λ (x : Front). FrontEndsIn s x) e (front_end f s)
+bytes_at : (f : Format) (s rest : List ℕ) (says : Option Directive) → piece_front f s ≡ Takes says rest → Bytes s rest
+bytes_at f s rest says e = subst (λ (x : PieceFront). FrontEndsIn s x) e (front_end f s)
 
 -- how far the piece goes
 width_of : (text s rest bytes : List ℕ) → length s ≤ length text → s ≡ bytes ++ rest
@@ -58,7 +58,7 @@ fault_later at after bytes pieces broken e =
 -- a piece is read
 pub piece_read : (f : Format) (text s rest : List ℕ) (items more : List FormatArgument) (next : ℕ) (says : Option Directive)
     → length s ≤ length text
-    → IsReadBefore f text items next (length text - length s) s → front f s ≡ Takes says rest
+    → IsReadBefore f text items next (length text - length s) s → piece_front f s ≡ Takes says rest
     → more ≡ items ++ argument_told next (length text - length s) (length text - length rest) says
     → IsReadBefore f text more (next_behind next says) (length text - length rest) rest
 piece_read f text s rest items more next says le h e pushed pieces broken cut =
@@ -79,14 +79,14 @@ piece_read f text s rest items more next says le h e pushed pieces broken cut =
 
 -- the text ends
 pub end_read : (f : Format) (text s : List ℕ) (items : List FormatArgument) (next at : ℕ) → IsReadBefore f text items next at s
-    → front f s ≡ End
+    → piece_front f s ≡ End
     → HasArguments f text items None
 end_read f text s items next at h e =
     retold f text (items ++ []) items None None (h [] false (ends s e)) (sym (append-nil items)) refl
 
 -- a fault
 pub fault_read : (f : Format) (text s : List ℕ) (items : List FormatArgument) (next at : ℕ) → IsReadBefore f text items next at s
-    → front f s ≡ Broken
+    → piece_front f s ≡ Broken
     → HasArguments f text items (Some at)
 fault_read f text s items next at h e =
     retold f text (items ++ []) items (Some (at + 0)) (Some at) (h [] true (breaks s e)) (sym (append-nil items))

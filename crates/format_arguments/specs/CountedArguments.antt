@@ -9,8 +9,8 @@ use Rattle.format_arguments.specs.declared.argument.Name.TheVariants.{Place, Wor
 use Rattle.format_arguments.specs.declared.bytes.Class.TheVariants.{Letter}
 use Rattle.format_arguments.specs.declared.number.Sign.{Sign}
 use Rattle.format_arguments.specs.declared.number.Sign.TheVariants.{Counted, Named, Lacking, Alone}
-use Rattle.format_arguments.specs.DirectiveBytes.{is_in}
-use Rattle.format_arguments.specs.SameArguments.{is_same_name, is_unknown}
+use Rattle.format_arguments.specs.DirectiveBytes.{is_in_directive_class}
+use Rattle.format_arguments.specs.SameArguments.{is_same_name, is_unknown_kind}
 
 -- ---- names of numbers
 
@@ -20,7 +20,7 @@ is_number_word word =
     bytes_eq word (codes "n") || bytes_eq word (codes "num") || bytes_eq word (codes "nb") || bytes_eq word (codes "number")
     || bytes_eq word (codes "count") || bytes_eq word (codes "cnt") || bytes_eq word (codes "amount") || bytes_eq word (codes "quantity")
 
--- the first word goes on with a letter before it
+-- the first_showing word goes on with a letter before it
 abbrev pub first_begun_with : ℕ → List (List ℕ) → List (List ℕ)
 first_begun_with b [] = []
 first_begun_with b (word ∷ words) = (b ∷ word) ∷ words
@@ -28,7 +28,7 @@ first_begun_with b (word ∷ words) = (b ∷ word) ∷ words
 -- the words of a name: what stands before, between and behind its bytes that are no letters
 abbrev pub words_of : List ℕ → List (List ℕ)
 words_of [] = [] ∷ []
-words_of (b ∷ s) = if is_in Letter b then first_begun_with b (words_of s) else [] ∷ words_of s
+words_of (b ∷ s) = if is_in_directive_class Letter b then first_begun_with b (words_of s) else [] ∷ words_of s
 
 -- a word of the name names a number, as in `num_files`
 unfoldable pub is_number_name : List ℕ → Bool
@@ -51,7 +51,7 @@ has_number_name (Word word) = is_number_name word.now
 
 -- an integer, or an argument that doesn't say what it converts
 abbrev pub may_count : Kind → Bool
-may_count kind = is_integer kind || is_unknown kind
+may_count kind = is_integer kind || is_unknown_kind kind
 
 -- the text has an argument of this name
 unfoldable pub has_name : List Argument → names.Name → Bool
@@ -70,9 +70,9 @@ shows sign singular a = may_count a.kind && has_sign sign singular a
 
 -- ---- the number
 
--- the first argument that shows so
-unfoldable pub first : Sign → List Argument → List Argument → Option Argument
-first sign plural singular = find (shows sign singular) plural
+-- the first_showing argument that shows so
+unfoldable pub first_showing : Sign → List Argument → List Argument → Option Argument
+first_showing sign plural singular = find (shows sign singular) plural
 
 -- this one, if all arguments that show so have its name
 abbrev pub if_alone : Sign → List Argument → List Argument → Option Argument → Option Argument
@@ -80,20 +80,20 @@ if_alone sign plural singular None = None
 if_alone sign plural singular (Some a) =
     if list_all (λ b. not (shows sign singular b) || is_same_name a.name b.name) plural then Some a else None
 
--- the only argument that shows so, where it first stands
+-- the only argument that shows so, where it first_showing stands
 unfoldable pub only : Sign → List Argument → List Argument → Option Argument
-only sign plural singular = if_alone sign plural singular (first sign plural singular)
+only sign plural singular = if_alone sign plural singular (first_showing sign plural singular)
 
 -- the one that was found, else the only one that shows so
 abbrev pub else_only : Sign → List Argument → List Argument → Option Argument → Option Argument
 else_only sign plural singular (Some a) = Some a
 else_only sign plural singular None = only sign plural singular
 
--- the first integer without a name; else the only argument with a number's name, else the only one
+-- the first_showing integer without a name; else the only argument with a number's name, else the only one
 -- that the singular text lacks, else the only one at all that may be a number; else it isn't clear
 abbrev pub number_of : List Argument → List Argument → Option Argument
 number_of plural singular =
     else_only Alone plural singular
     (else_only Lacking plural singular
     (else_only Named plural singular
-    (first Counted plural singular)))
+    (first_showing Counted plural singular)))

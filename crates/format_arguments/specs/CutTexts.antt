@@ -1,4 +1,4 @@
--- The arguments of a text: the text is cut into pieces, each as it stands at the front of the rest,
+-- The arguments of a text: the text is cut into pieces, each as it stands at the piece_front of the rest,
 -- and the directives among them are numbered.
 use Rattle.std.specs.Prelude.{◌≡◌, ℕ, ◌+◌, ◌≤◌, List, [], ◌∷◌, ◌++◌, Bool, true, false, length, map, Option, Some, None, if◌then◌else◌}
 use Rattle.format_arguments.specs.declared.argument.Kind.{Kind}
@@ -7,7 +7,7 @@ use Rattle.format_arguments.specs.declared.argument.Name.TheVariants as name
 use Rattle.format_arguments.specs.declared.argument.Argument as arguments
 use Rattle.format_arguments.specs.declared.format.Format.{Format}
 use Rattle.format_arguments.specs.DirectiveTables.{first_place}
-use Rattle.format_arguments.specs.Directives.{Which, Next, At, Named, Directive, End, Takes, Broken, front}
+use Rattle.format_arguments.specs.Directives.{Which, Next, At, Named, Directive, End, Takes, Broken, piece_front}
 
 -- ---- pieces
 
@@ -22,10 +22,10 @@ piece_of bytes says = record { bytes = bytes; says = says }
 -- the text is these pieces, one after the other, up to its end, or up to what begins as a directive
 -- and is none
 pub data IsCutInto (f : Format) : List ℕ → List TextPiece → Bool → Type 0 where
-  ends : (s : List ℕ) → front f s ≡ End → IsCutInto f s [] false
-  breaks : (s : List ℕ) → front f s ≡ Broken → IsCutInto f s [] true
+  ends : (s : List ℕ) → piece_front f s ≡ End → IsCutInto f s [] false
+  breaks : (s : List ℕ) → piece_front f s ≡ Broken → IsCutInto f s [] true
   goes : (s bytes rest : List ℕ) (says : Option Directive) (pieces : List TextPiece) (broken : Bool) → s ≡ bytes ++ rest
-      → front f s ≡ Takes says rest → IsCutInto f rest pieces broken → IsCutInto f s (piece_of bytes says ∷ pieces) broken
+      → piece_front f s ≡ Takes says rest → IsCutInto f rest pieces broken → IsCutInto f s (piece_of bytes says ∷ pieces) broken
 
 -- the bytes of pieces
 abbrev pub bytes_of : List TextPiece → List ℕ
@@ -105,8 +105,8 @@ arguments_view items = map argument_view items
 -- ---- laws
 
 -- a text has one list of arguments, and one fault or none
-abbrev pub HaveOneReading : Type 0
-HaveOneReading =
+abbrev pub ArgumentsHaveOneReading : Type 0
+ArgumentsHaveOneReading =
     (f : Format) (text : List ℕ) (a b : List FormatArgument) (m n : Option ℕ) → HasArguments f text a m → HasArguments f text b n → (a ≡ b) × (m ≡ n)
 
 -- the arguments stand from this byte on, one after the other, and none behind the end

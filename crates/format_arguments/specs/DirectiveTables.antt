@@ -120,3 +120,18 @@ kind_of Python b = python_kind b
 kind_of JavaScript b = javascript_kind b
 kind_of Boost b = boost_kind b
 kind_of _ b = c_kind b
+
+-- ---- the flags by which gettext's catalogs name the formats
+
+abbrev pub flag_of : Format → List ℕ
+flag_of C = codes "c-format"
+flag_of ObjectiveC = codes "objc-format"
+flag_of Python = codes "python-format"
+flag_of JavaScript = codes "javascript-format"
+flag_of Boost = codes "boost-format"
+flag_of Qt = codes "qt-format"
+flag_of QtPlural = codes "qt-plural-format"
+flag_of Kde = codes "kde-format"
+flag_of PythonBrace = codes "python-brace-format"
+flag_of PerlBrace = codes "perl-brace-format"
+flag_of Java = codes "java-format"

@@ -1,3 +1,2 @@
 -- No definitions of the subject: views of private types, for private contracts.
 pub mod DirectiveViews
-pub mod NumberWords

@@ -1,5 +1,4 @@
 -- arguments of texts
-pub mod FormatFlags
 pub mod DirectiveBytes
 pub mod DirectiveTables
 pub mod Directives

@@ -21,9 +21,9 @@ is_same_kind (Other m) (Other n) = m == n
 is_same_kind Unknown Unknown = true
 is_same_kind _ _ = false
 
-abbrev pub is_unknown : Kind → Bool
-is_unknown Unknown = true
-is_unknown _ = false
+abbrev pub is_unknown_kind : Kind → Bool
+is_unknown_kind Unknown = true
+is_unknown_kind _ = false
 
 -- ---- sizes that are one, though they are written otherwise
 
@@ -57,7 +57,7 @@ is_same_size a b = bytes_eq (size_said a.kind a.size.now) (size_said b.kind b.si
 
 -- they convert alike, or one of them doesn't say what it converts
 unfoldable pub converts_alike : Argument → Argument → Bool
-converts_alike a b = is_unknown a.kind || is_unknown b.kind || (is_same_kind a.kind b.kind && is_same_size a b)
+converts_alike a b = is_unknown_kind a.kind || is_unknown_kind b.kind || (is_same_kind a.kind b.kind && is_same_size a b)
 
 -- the same place or name, and they convert alike
 unfoldable pub stands_for : Argument → Argument → Bool

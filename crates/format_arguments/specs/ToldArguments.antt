@@ -6,9 +6,9 @@ use Rattle.format_arguments.specs.declared.format.Format.{Format}
 use Rattle.format_arguments.specs.CutTexts.{FormatArgument, HasArguments, arguments_view}
 
 -- these are told
-abbrev pub AreTold : Format → List ℕ → Result Arguments AllocError → Type 0
-AreTold f text (Ok told) = HasArguments f text (arguments_view told.items.items) told.fault
-AreTold f text (Err error) = Unit {0}
+abbrev pub AreToldArguments : Format → List ℕ → Result Arguments AllocError → Type 0
+AreToldArguments f text (Ok told) = HasArguments f text (arguments_view told.items.items) told.fault
+AreToldArguments f text (Err error) = Unit {0}
 
 -- these are told, unless memory ran out
 abbrev pub Tells : Result Arguments AllocError → List FormatArgument → Option ℕ → Type 0
@@ -17,5 +17,5 @@ Tells (Err error) arguments fault = Unit {0}
 
 -- arguments and a fault are told if and only if the text has them, out of memory aside
 pub record TellsExactly (f : Format) (text : List ℕ) (result : Result Arguments AllocError) : Type 0 where
-  pub only : AreTold f text result
+  pub only : AreToldArguments f text result
   pub told : (arguments : List FormatArgument) (fault : Option ℕ) → HasArguments f text arguments fault → Tells result arguments fault

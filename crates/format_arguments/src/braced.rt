@@ -2,7 +2,7 @@
 
 ghost use Rattle.std.specs.Prelude.{◌≡◌, ◌≤◌, ◌<◌, ◌+◌, ◌^◌, ◌∷◌, ℕ, List, length, false, IfSome};
 ghost use Rattle.format_arguments.specs.Directives.{begins_style, behind_closing, brace_front, field_end, field_front, field_which, fits_field, has_quotes, no_field, styled_field};
-ghost use Rattle.format_arguments.specs.Inner.DirectiveViews.{LeavesLess, closed_behind, front_view, rest_view, which_view};
+ghost use Rattle.format_arguments.specs.Inner.DirectiveViews.{LeavesLess, closed_behind, piece_front_view, rest_view, which_view};
 
 use crate::bytes::{Class, after_byte, behind_run, is_digit, is_of_word, split_run};
 use crate::directive::{Front, Which, place_of};
@@ -105,7 +105,7 @@ fn field_which(name: &[u8]) -> Which<'_>
 
 // A brace without a name.
 fn no_field(format: Format, text: &[u8]) -> Front<'_>
-    ensures front { front_view result ≡ no_field format text.now }
+    ensures front { piece_front_view result ≡ no_field format text.now }
     ensures shorter { LeavesLess result (length text.now) }
 {
     match format {
@@ -116,7 +116,7 @@ fn no_field(format: Format, text: &[u8]) -> Front<'_>
 
 // A style behind a name.
 fn styled_field<'t>(which: Which<'t>, quotes: bool, text: &'t [u8]) -> Front<'t>
-    ensures front { front_view result ≡ styled_field (which_view which.entry) (behind_closing quotes false 0 text.now) }
+    ensures front { piece_front_view result ≡ styled_field (which_view which.entry) (behind_closing quotes false 0 text.now) }
     ensures shorter { LeavesLess result (length text.now) }
 {
     match behind_closing(quotes, text) {
@@ -128,7 +128,7 @@ fn styled_field<'t>(which: Which<'t>, quotes: bool, text: &'t [u8]) -> Front<'t>
 // A name in the text behind a brace, and what follows it there.
 fn field_end<'t>(format: Format, text: &'t [u8], name: &'t [u8], behind: &'t [u8]) -> Front<'t>
     requires { length behind.now ≤ length text.now }
-    ensures front { front_view result ≡ field_end format text.now name.now behind.now }
+    ensures front { piece_front_view result ≡ field_end format text.now name.now behind.now }
     ensures shorter { LeavesLess result (length text.now) }
 {
     match behind {
@@ -147,7 +147,7 @@ fn field_end<'t>(format: Format, text: &'t [u8], name: &'t [u8], behind: &'t [u8
 
 // A name in the text behind a brace.
 fn field_front(format: Format, text: &[u8]) -> Front<'_>
-    ensures front { front_view result ≡ field_front format text.now }
+    ensures front { piece_front_view result ≡ field_front format text.now }
     ensures shorter { LeavesLess result (length text.now) }
 {
     let (name, behind) = split_run(Class::Field(format), text);
@@ -157,7 +157,7 @@ fn field_front(format: Format, text: &[u8]) -> Front<'_>
 // Behind a brace.
 #[tactic(auto, unfolding(crate::specs::Directives::brace_front))]
 pub(crate) fn brace_front(format: Format, text: &[u8]) -> Front<'_>
-    ensures front { front_view result ≡ brace_front format text.now }
+    ensures front { piece_front_view result ≡ brace_front format text.now }
     ensures shorter { LeavesLess result (length text.now) }
 {
     match format {

@@ -1,7 +1,7 @@
 //! Classes of bytes, and their runs.
 
 ghost use Rattle.std.specs.Prelude.{◌≡◌, ◌≤◌, ◌<◌, ◌+◌, length, IfSome, IfNone, None, Some, true, false};
-ghost use Rattle.format_arguments.specs.DirectiveBytes.{after_word, begins_with, behind_first, behind_run, is_digit, is_in, is_letter, is_of_field, is_of_word, run_front};
+ghost use Rattle.format_arguments.specs.DirectiveBytes.{after_directive_word, begins_with, behind_first_byte, behind_directive_run, is_directive_digit, is_in_directive_class, is_directive_letter, is_of_field, is_of_word, run_front};
 ghost use Rattle.format_arguments.specs.DirectiveTables.{is_one_of};
 
 use crate::format::Format;
@@ -30,13 +30,13 @@ pub(crate) fn is_one_of(bytes: &[u8], byte: u8) -> bool
 }
 
 pub(crate) fn is_digit(byte: u8) -> bool
-    ensures { result ≡ is_digit byte }
+    ensures { result ≡ is_directive_digit byte }
 {
     b'0' <= byte && byte <= b'9'
 }
 
 fn is_letter(byte: u8) -> bool
-    ensures { result ≡ is_letter byte }
+    ensures { result ≡ is_directive_letter byte }
 {
     b'a' <= byte && byte <= b'z' || b'A' <= byte && byte <= b'Z'
 }
@@ -58,7 +58,7 @@ fn is_of_field(format: Format, byte: u8) -> bool
 }
 
 fn is_in(class: Class, byte: u8) -> bool
-    ensures { result ≡ is_in class byte }
+    ensures { result ≡ is_in_directive_class class byte }
 {
     match class {
         Class::Digit => is_digit(byte),
@@ -75,7 +75,7 @@ fn is_in(class: Class, byte: u8) -> bool
 
 // What follows the longest front of the class.
 pub(crate) fn behind_run(class: Class, text: &[u8]) -> &[u8]
-    ensures rest { result.now ≡ behind_run class text.now }
+    ensures rest { result.now ≡ behind_directive_run class text.now }
     ensures shorter { length result.now ≤ length text.now }
 {
     let mut rest = text;
@@ -91,7 +91,7 @@ pub(crate) fn behind_run(class: Class, text: &[u8]) -> &[u8]
 // The longest front of the class, and what follows it.
 pub(crate) fn split_run(class: Class, text: &[u8]) -> (&[u8], &[u8])
     ensures front { result.0.now ≡ run_front class text.now }
-    ensures rest { result.1.now ≡ behind_run class text.now }
+    ensures rest { result.1.now ≡ behind_directive_run class text.now }
     ensures whole { length result.0.now + length result.1.now ≡ length text.now }
 {
     text.split_at(text.len() - behind_run(class, text).len())
@@ -99,7 +99,7 @@ pub(crate) fn split_run(class: Class, text: &[u8]) -> (&[u8], &[u8])
 
 // What follows the first byte.
 pub(crate) fn behind_first(text: &[u8]) -> &[u8]
-    ensures rest { result.now ≡ behind_first text.now }
+    ensures rest { result.now ≡ behind_first_byte text.now }
     ensures shorter { 0 < length text.now → length result.now < length text.now }
     ensures within { length result.now ≤ length text.now }
 {
@@ -112,7 +112,7 @@ pub(crate) fn behind_first(text: &[u8]) -> &[u8]
 // What follows the byte, if it is at the front.
 pub(crate) fn after_byte(byte: u8, text: &[u8]) -> Option<&[u8]>
     ensures none { IfNone result (begins_with byte text.now ≡ false) }
-    ensures some { IfSome result (λ rest. (begins_with byte text.now ≡ true) × (rest.now ≡ behind_first text.now)) }
+    ensures some { IfSome result (λ rest. (begins_with byte text.now ≡ true) × (rest.now ≡ behind_first_byte text.now)) }
     ensures shorter { IfSome result (λ rest. length rest.now + 1 ≡ length text.now) }
 {
     match text {
@@ -123,8 +123,8 @@ pub(crate) fn after_byte(byte: u8, text: &[u8]) -> Option<&[u8]>
 
 // What follows the word, if it is at the front.
 pub(crate) fn after_word<'t>(word: &[u8], text: &'t [u8]) -> Option<&'t [u8]>
-    ensures none { IfNone result (after_word word.now text.now ≡ None) }
-    ensures some { IfSome result (λ rest. (after_word word.now text.now ≡ Some rest.now) × (length rest.now ≤ length text.now)) }
+    ensures none { IfNone result (after_directive_word word.now text.now ≡ None) }
+    ensures some { IfSome result (λ rest. (after_directive_word word.now text.now ≡ Some rest.now) × (length rest.now ≤ length text.now)) }
 {
     let mut rest = text;
     for byte in word {

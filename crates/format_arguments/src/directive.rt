@@ -1,7 +1,7 @@
 //! Directives, and numbers in them.
 
 ghost use Rattle.std.specs.Prelude.{◌≡◌, ◌≤◌};
-ghost use Rattle.format_arguments.specs.DirectiveBytes.{place_of};
+ghost use Rattle.format_arguments.specs.DirectiveBytes.{place_of_digits};
 
 use crate::argument::Kind;
 
@@ -36,7 +36,7 @@ pub(crate) enum Front<'t> {
 
 // The place that digits write.
 pub(crate) fn place_of(digits: &[u8]) -> usize
-    ensures { result ≡ place_of digits.now }
+    ensures { result ≡ place_of_digits digits.now }
 {
     let mut place = 0;
     for digit in digits {

@@ -2,7 +2,7 @@
 
 ghost use Rattle.std.specs.Prelude.{◌≡◌, ◌↔◌, Some, None, IfSome, IfNone};
 ghost use Rattle.format_arguments.specs.declared.format.Format.{Format};
-ghost use Rattle.format_arguments.specs.FormatFlags.{flag_of};
+ghost use Rattle.format_arguments.specs.DirectiveTables.{flag_of};
 
 /// A format of texts with arguments, by gettext's flag.
 #[derive(Clone, Copy, Debug, PartialEq, Eq)]

@@ -2,8 +2,8 @@
 
 ghost use Rattle.std.specs.Prelude.{◌≡◌, ◌≤◌, ◌<◌, ◌+◌, length};
 ghost use Rattle.format_arguments.specs.DirectiveTables.{family_of};
-ghost use Rattle.format_arguments.specs.Directives.{closing_front, directive_front, front, opening_in, quoted_front};
-ghost use Rattle.format_arguments.specs.Inner.DirectiveViews.{LeavesLess, Shortens, front_view};
+ghost use Rattle.format_arguments.specs.Directives.{closing_front, directive_front, piece_front, opening_in, java_quoted_front};
+ghost use Rattle.format_arguments.specs.Inner.DirectiveViews.{LeavesLess, Shortens, piece_front_view};
 
 use crate::braced::{brace_front, has_quotes};
 use crate::bytes::{Class, after_byte, behind_first, behind_run};
@@ -24,7 +24,7 @@ fn opening_of(format: Format) -> u8
 
 // What stands behind that byte.
 fn directive_front(format: Format, text: &[u8]) -> Front<'_>
-    ensures front { front_view result ≡ directive_front format text.now }
+    ensures front { piece_front_view result ≡ directive_front format text.now }
     ensures shorter { LeavesLess result (length text.now) }
 {
     match format {
@@ -37,7 +37,7 @@ fn directive_front(format: Format, text: &[u8]) -> Front<'_>
 
 // Quoted text behind its apostrophe.
 fn quoted_front(text: &[u8]) -> Front<'_>
-    ensures front { front_view result ≡ quoted_front text.now }
+    ensures front { piece_front_view result ≡ java_quoted_front text.now }
     ensures shorter { LeavesLess result (length text.now) }
 {
     Front::Takes(None, behind_first(behind_run(Class::Unquoted, text)))
@@ -45,7 +45,7 @@ fn quoted_front(text: &[u8]) -> Front<'_>
 
 // A brace that closes nothing.
 fn closing_front(format: Format, text: &[u8]) -> Front<'_>
-    ensures front { front_view result ≡ closing_front format text.now }
+    ensures front { piece_front_view result ≡ closing_front format text.now }
     ensures shorter { LeavesLess result (length text.now) }
 {
     match format {
@@ -60,7 +60,7 @@ fn closing_front(format: Format, text: &[u8]) -> Front<'_>
 
 // The front of a text.
 pub(crate) fn front_of(format: Format, text: &[u8]) -> Front<'_>
-    ensures front { front_view result ≡ front format text.now }
+    ensures front { piece_front_view result ≡ piece_front format text.now }
     ensures shorter { Shortens result (length text.now) }
 {
     let [first, rest @ ..] = text else {

@@ -3,7 +3,7 @@
 ghost use Rattle.std.specs.Prelude.{◌≡◌};
 ghost use Rattle.std.specs.Str.{bytes_eq};
 ghost use Rattle.format_arguments.specs.CountedArguments.{is_number_name, is_number_word};
-ghost use Rattle.format_arguments.specs.Inner.NumberWords.{is_long_number_word};
+ghost use Rattle.format_arguments.specs.Inner.DirectiveViews.{is_long_number_word};
 
 use crate::bytes::{Class, behind_first, split_run};
 

@@ -3,7 +3,7 @@
 ghost use Rattle.std.specs.Prelude.{◌≡◌, ◌||◌, not};
 ghost use Rattle.std.specs.List.{list_all};
 ghost use Rattle.format_arguments.specs.SameArguments.{is_same_name};
-ghost use Rattle.format_arguments.specs.CountedArguments.{else_only, first, has_name, has_number_name, has_sign, is_integer, is_place, number_of, only, shows};
+ghost use Rattle.format_arguments.specs.CountedArguments.{else_only, first_showing, has_name, has_number_name, has_sign, is_integer, is_place, number_of, only, shows};
 
 use crate::argument::{Argument, Kind, Name};
 use crate::name::is_number_name;
@@ -79,7 +79,7 @@ fn shows(sign: Sign, singular: &[Argument<'_>], argument: &Argument<'_>) -> bool
 
 // The first argument that shows so.
 fn first<'t>(sign: Sign, plural: &[Argument<'t>], singular: &[Argument<'_>]) -> Option<Argument<'t>>
-    ensures { result ≡ first sign plural.now singular.now }
+    ensures { result ≡ first_showing sign plural.now singular.now }
 {
     for argument in plural {
         if shows(sign, singular, argument) {

@@ -1,9 +1,9 @@
 //! Directives of a percent sign and a number.
 
 ghost use Rattle.std.specs.Prelude.{◌≡◌, ◌≤◌, ◌+◌, length, true, false, IfSome, IfNone};
-ghost use Rattle.format_arguments.specs.DirectiveBytes.{behind_first};
+ghost use Rattle.format_arguments.specs.DirectiveBytes.{behind_first_byte};
 ghost use Rattle.format_arguments.specs.Directives.{behind_letter, number_front, numbered_front, is_the_number};
-ghost use Rattle.format_arguments.specs.Inner.DirectiveViews.{LeavesLess, front_view};
+ghost use Rattle.format_arguments.specs.Inner.DirectiveViews.{LeavesLess, piece_front_view};
 
 use crate::bytes::{Class, after_byte, split_run};
 use crate::directive::{Front, Which, place_of};
@@ -37,7 +37,7 @@ fn number_front(format: Format, text: &[u8]) -> &[u8]
 // What follows the letter of the number itself.
 fn behind_the_number(format: Format, text: &[u8]) -> Option<&[u8]>
     ensures none { IfNone result (is_the_number format text.now ≡ false) }
-    ensures some { IfSome result (λ rest. (is_the_number format text.now ≡ true) × (rest.now ≡ behind_first text.now)) }
+    ensures some { IfSome result (λ rest. (is_the_number format text.now ≡ true) × (rest.now ≡ behind_first_byte text.now)) }
     ensures shorter { IfSome result (λ rest. length rest.now + 1 ≡ length text.now) }
 {
     match format {
@@ -49,7 +49,7 @@ fn behind_the_number(format: Format, text: &[u8]) -> Option<&[u8]>
 // A directive behind its percent sign, which without a number stands for itself.
 #[tactic(auto, unfolding(crate::specs::Directives::numbered_front))]
 pub(crate) fn numbered_front(format: Format, text: &[u8]) -> Front<'_>
-    ensures front { front_view result ≡ numbered_front format text.now }
+    ensures front { piece_front_view result ≡ numbered_front format text.now }
     ensures shorter { LeavesLess result (length text.now) }
 {
     let behind = behind_letter(format, text);

@@ -1,9 +1,9 @@
 //! Directives as C's `printf` has them.
 
 ghost use Rattle.std.specs.Prelude.{◌≡◌, ◌≤◌, ◌+◌, [], ◌∷◌, length, codes, Some};
-ghost use Rattle.format_arguments.specs.DirectiveBytes.{after_word, behind_run, run_front};
-ghost use Rattle.format_arguments.specs.Directives.{takes, barred_end, boost_front, closed_name, conversion_front, converts, macro_end, macro_letter, name_front, at_place, place_front, precision_front, printf_front, size_at, size_of, width_front, which_front, widths_front};
-ghost use Rattle.format_arguments.specs.Inner.DirectiveViews.{IsNotLonger, LeavesLess, front_view, which_rest_view, which_view, width_view};
+ghost use Rattle.format_arguments.specs.DirectiveBytes.{after_directive_word, behind_directive_run, run_front};
+ghost use Rattle.format_arguments.specs.Directives.{takes, barred_end, boost_front, closed_name, conversion_front, converts, macro_end, macro_letter, bracketed_name_front, at_place, place_front, precision_front, printf_front, size_at, argument_size_of, width_front, which_front, widths_front};
+ghost use Rattle.format_arguments.specs.Inner.DirectiveViews.{IsNotLonger, LeavesLess, piece_front_view, which_rest_view, which_view, width_view};
 
 use crate::argument::Kind;
 use crate::bytes::{Class, after_byte, after_word, behind_run, is_one_of, split_run};
@@ -48,9 +48,9 @@ fn closed_name<'t>(name: &'t [u8], text: &'t [u8]) -> Option<(Which<'t>, &'t [u8
 }
 
 // A name in round brackets, else the next argument.
-#[tactic(auto, unfolding(crate::specs::Directives::name_front))]
+#[tactic(auto, unfolding(crate::specs::Directives::bracketed_name_front))]
 fn name_front(text: &[u8]) -> Option<(Which<'_>, &[u8])>
-    ensures front { which_rest_view result ≡ name_front text.now }
+    ensures front { which_rest_view result ≡ bracketed_name_front text.now }
     ensures shorter { IsNotLonger result (length text.now) }
 {
     match after_byte(b'(', text) {
@@ -120,7 +120,7 @@ fn converts<'t>(
     kind: Option<Kind>,
     rest: &'t [u8],
 ) -> Front<'t>
-    ensures front { front_view result ≡ converts (which_view which.entry) stars size.now kind rest.now }
+    ensures front { piece_front_view result ≡ converts (which_view which.entry) stars size.now kind rest.now }
     ensures shorter { LeavesLess result (stars + 1 + length rest.now) }
 {
     match kind {
@@ -139,7 +139,8 @@ fn converts<'t>(
 
 // Bits, and the bracket that ends a macro.
 fn macro_end<'t>(which: Which<'t>, stars: usize, kind: Option<Kind>, text: &'t [u8]) -> Front<'t>
-    ensures front { front_view result ≡ macro_end (which_view which.entry) stars kind (run_front Class.Macro text.now) (behind_run Class.Macro text.now) }
+    ensures front { piece_front_view result
+        ≡ macro_end (which_view which.entry) stars kind (run_front Class.Macro text.now) (behind_directive_run Class.Macro text.now) }
     ensures shorter { LeavesLess result (stars + length text.now) }
 {
     let (bits, behind) = split_run(Class::Macro, text);
@@ -151,7 +152,7 @@ fn macro_end<'t>(which: Which<'t>, stars: usize, kind: Option<Kind>, text: &'t [
 
 // The macro behind its bracket.
 fn macro_front<'t>(which: Which<'t>, stars: usize, text: &'t [u8]) -> Front<'t>
-    ensures front { front_view result ≡ macro_letter (which_view which.entry) stars (after_word (codes "PRI") text.now) }
+    ensures front { piece_front_view result ≡ macro_letter (which_view which.entry) stars (after_directive_word (codes "PRI") text.now) }
     ensures shorter { LeavesLess result (stars + length text.now) }
 {
     match after_word(b"PRI", text) {
@@ -181,7 +182,7 @@ fn conversion_front<'t>(
     size: &'t [u8],
     text: &'t [u8],
 ) -> Front<'t>
-    ensures front { front_view result ≡ conversion_front format (which_view which.entry) stars size.now text.now }
+    ensures front { piece_front_view result ≡ conversion_front format (which_view which.entry) stars size.now text.now }
     ensures shorter { LeavesLess result (stars + length text.now) }
 {
     let [letter, rest @ ..] = text else {
@@ -200,7 +201,7 @@ fn conversion_front<'t>(
 // A directive behind its percent sign.
 #[tactic(auto, unfolding(crate::specs::Directives::printf_front))]
 pub(crate) fn printf_front(format: Format, text: &[u8]) -> Front<'_>
-    ensures front { front_view result ≡ printf_front format text.now }
+    ensures front { piece_front_view result ≡ printf_front format text.now }
     ensures shorter { LeavesLess result (length text.now) }
 {
     let Some((which, behind)) = which_front(format, text) else {
@@ -214,7 +215,7 @@ pub(crate) fn printf_front(format: Format, text: &[u8]) -> Front<'_>
 
 // A directive between bars, behind the first one.
 fn barred_front(text: &[u8]) -> Front<'_>
-    ensures front { front_view result ≡ barred_end (place_front text.now) }
+    ensures front { piece_front_view result ≡ barred_end (place_front text.now) }
     ensures shorter { LeavesLess result (length text.now) }
 {
     let Some((which, behind)) = place_front(text) else {
@@ -229,7 +230,7 @@ fn barred_front(text: &[u8]) -> Front<'_>
 // A directive of Boost.
 #[tactic(auto, unfolding(crate::specs::Directives::boost_front))]
 pub(crate) fn boost_front(text: &[u8]) -> Front<'_>
-    ensures front { front_view result ≡ boost_front text.now }
+    ensures front { piece_front_view result ≡ boost_front text.now }
     ensures shorter { LeavesLess result (length text.now) }
 {
     if let Some(inner) = after_byte(b'|', text) {
@@ -247,7 +248,7 @@ pub(crate) fn boost_front(text: &[u8]) -> Front<'_>
 
 // A directive that says no more than which argument it takes.
 pub(crate) fn takes<'t>(which: Which<'t>, rest: &'t [u8]) -> Front<'t>
-    ensures front { front_view result ≡ takes (which_view which.entry) rest.now }
+    ensures front { piece_front_view result ≡ takes (which_view which.entry) rest.now }
     ensures shorter { LeavesLess result (1 + length rest.now) }
 {
     Front::Takes(

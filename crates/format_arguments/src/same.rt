@@ -2,7 +2,7 @@
 
 ghost use Rattle.std.specs.Prelude.{◌≡◌};
 ghost use Rattle.std.specs.List.{list_any};
-ghost use Rattle.format_arguments.specs.SameArguments.{converts_alike, integer_size, is_long_long, is_same_kind, is_same_name, is_same_size, is_unknown};
+ghost use Rattle.format_arguments.specs.SameArguments.{converts_alike, integer_size, is_long_long, is_same_kind, is_same_name, is_same_size, is_unknown_kind};
 ghost use Rattle.format_arguments.specs.SameArguments.{number_size, size_said, stands_for, text_size};
 
 use crate::argument::{Argument, Kind, Name};
@@ -37,7 +37,7 @@ fn is_same_kind(one: Kind, other: Kind) -> bool
 
 // Whether the directive doesn't say what it converts.
 pub(crate) fn is_unknown(kind: Kind) -> bool
-    ensures { result ≡ is_unknown kind }
+    ensures { result ≡ is_unknown_kind kind }
 {
     match kind {
         Kind::Unknown => true,

@@ -5,7 +5,7 @@ use Rattle.std.specs.Prelude.{nat_le, codes}
 use Rattle.gettext_plural.specs.declared.error.Fault.{Fault}
 use Rattle.gettext_plural.specs.declared.error.FaultKind.TheVariants.{NoCount, BadCount, NoExpression}
 use Rattle.gettext_plural.specs.declared.header.TheConstants.{FORMS_LIMIT}
-use Rattle.gettext_plural.specs.PluralTokens.{after_blanks, is_digit, number_with}
+use Rattle.gettext_plural.specs.PluralTokens.{after_blanks, is_decimal_digit, number_with}
 use Rattle.gettext_plural.specs.PluralExpressions.{Forms}
 use Rattle.gettext_plural.specs.PluralHeaders.{and_then, behind_word, count_front, fault_at, header, is_count}
 use Rattle.gettext_plural.specs.PluralAnswers.{IsPluralForms}
@@ -38,7 +38,7 @@ counted true n count f is = by_test (is_count n) n count f refl is
 
 counts : (text : List ℕ) (count : ℕ) → count_front text ≡ Ok count → IsWithin count
 counts [] count is = absurd cc
-counts (b ∷ s) count is = counted (is_digit b) (number_with (b - 48) s) count (fault_at BadCount (b ∷ s)) is
+counts (b ∷ s) count is = counted (is_decimal_digit b) (number_with (b - 48) s) count (fault_at BadCount (b ∷ s)) is
 
 -- of steps that succeed, the first does
 record Succeeds {A B : Type 0} (r : Result A Fault) (next : A → Result B Fault) (end : B) : Type 0 where

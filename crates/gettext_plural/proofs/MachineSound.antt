@@ -8,7 +8,7 @@ use Rattle.gettext_plural.specs.declared.token.Token.{Token}
 use Rattle.gettext_plural.specs.declared.token.Token.TheVariants.{Number, N, Not, Joint, Question, Colon, Open, Close, Junk}
 use Rattle.gettext_plural.specs.PluralExpressions.{Formula, negated, joined, chosen, binding}
 use Rattle.gettext_plural.specs.PluralExpressions.{Spells, spells_number, spells_n, spells_brackets, spells_negation, spells_join, spells_choice}
-use Rattle.gettext_plural.specs.Inner.PluralMachine.{Waiting, bracket, negation, left_of, question, colon, Stage, expects, has, unwind, step, whole, finish, ended, proceed, run, colon_stage, close_stage}
+use Rattle.gettext_plural.specs.Inner.PluralMachine.{Waiting, bracket, negation, left_of, question, colon, Stage, expects, has, unwind, stage_step, whole, finish, ended, proceed_from_stage, run_from_stage, colon_stage, close_stage}
 use Rattle.gettext_plural.proofs.Levels.{binding_low, binding_high, loosened, left_ends, left_stays, colon_ends, colon_stays}
 
 -- the level of the operand that what waits expects
@@ -198,7 +198,7 @@ question_sound ws e all u =
     (u.before, u.behind, with_next u.before u.behind all Question u.parts, u.waits, u.spelled, needed_none ws u.within)
 
 begin_sound : (ws : List Waiting) (before : List Token) (t : Token) → Waits ws before
-    → IfStage (step (expects ws) t) (λ s. IsAt s (before ++ t ∷ []))
+    → IfStage (stage_step (expects ws) t) (λ s. IsAt s (before ++ t ∷ []))
 begin_sound ws before (Number k) w = (before, Number k ∷ [], refl, w, spells_number k)
 begin_sound ws before N w = (before, N ∷ [], refl, w, spells_n)
 begin_sound ws before Not w = (before, refl, w)
@@ -210,7 +210,7 @@ begin_sound ws before Close w = tt
 begin_sound ws before Junk w = tt
 
 follow_sound : (ws : List Waiting) (e : Formula) (before : List Token) (t : Token) → IsAt (has ws e) before
-    → IfStage (step (has ws e) t) (λ s. IsAt s (before ++ t ∷ []))
+    → IfStage (stage_step (has ws e) t) (λ s. IsAt s (before ++ t ∷ []))
 follow_sound ws e before (Joint o) at =
     operator_sound o (unwind (binding o) ws e).0 (unwind (binding o) ws e).1 before
     (left_before (binding o) ws e before at.0 at.1 (binding_high o) at.2 at.3 at.4)
@@ -227,7 +227,7 @@ follow_sound ws e before Open at = tt
 follow_sound ws e before Junk at = tt
 
 -- a token leads to what the tokens with it spell
-pub step_sound : (s : Stage) (before : List Token) (t : Token) → IsAt s before → IfStage (step s t) (λ next. IsAt next (before ++ t ∷ []))
+pub step_sound : (s : Stage) (before : List Token) (t : Token) → IsAt s before → IfStage (stage_step s t) (λ next. IsAt next (before ++ t ∷ []))
 step_sound (expects ws) before t at = begin_sound ws before t at
 step_sound (has ws e) before t at = follow_sound ws e before t at
 
@@ -252,8 +252,8 @@ ended_sound (Err kind) e is = absurd cc
 
 -- behind a token, as behind the tokens with it
 goes_on : (ts before : List Token) (t : Token) (e : Formula)
-    → ((next : Stage) → IsAt next (before ++ t ∷ []) → run next ts ≡ Ok e → Spells 0 ((before ++ t ∷ []) ++ ts) e)
-    → (r : Result Stage FaultKind) → IfStage r (λ next. IsAt next (before ++ t ∷ [])) → proceed (t ∷ ts) r (λ next. run next ts) ≡ Ok e
+    → ((next : Stage) → IsAt next (before ++ t ∷ []) → run_from_stage next ts ≡ Ok e → Spells 0 ((before ++ t ∷ []) ++ ts) e)
+    → (r : Result Stage FaultKind) → IfStage r (λ next. IsAt next (before ++ t ∷ [])) → proceed_from_stage (t ∷ ts) r (λ next. run_from_stage next ts) ≡ Ok e
     → Spells 0 (before ++ t ∷ ts) e
 goes_on ts before t e behind (Ok next) held is =
     let P : List Token → Type 0 = λ all. Spells 0 all e in
@@ -261,11 +261,11 @@ goes_on ts before t e behind (Ok next) held is =
 goes_on ts before t e behind (Err kind) held is = absurd cc
 
 -- what is read is spelled by the tokens
-pub run_sound : (ts : List Token) (s : Stage) (before : List Token) (e : Formula) → IsAt s before → run s ts ≡ Ok e
+pub run_sound : (ts : List Token) (s : Stage) (before : List Token) (e : Formula) → IsAt s before → run_from_stage s ts ≡ Ok e
     → Spells 0 (before ++ ts) e
-unfolding run
+unfolding run_from_stage
 run_sound [] s before e at is =
     let P : List Token → Type 0 = λ all. Spells 0 all e in
     subst P (sym (append-nil before)) (finish_sound s before e at (ended_sound (finish s) e is))
 run_sound (t ∷ ts) s before e at is =
-    goes_on ts before t e (λ next held eq. run_sound ts next (before ++ t ∷ []) e held eq) (step s t) (step_sound s before t at) is
+    goes_on ts before t e (λ next held eq. run_sound ts next (before ++ t ∷ []) e held eq) (stage_step s t) (step_sound s before t at) is

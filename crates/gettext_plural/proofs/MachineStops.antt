@@ -7,8 +7,8 @@ use Rattle.gettext_plural.specs.declared.error.FaultKind.TheVariants.{ExpectedOp
 use Rattle.gettext_plural.specs.declared.token.Token.{Token}
 use Rattle.gettext_plural.specs.declared.token.Token.TheVariants.{Number, N, Not, Joint, Question, Colon, Open, Close, Junk}
 use Rattle.gettext_plural.specs.PluralExpressions.{Formula, the_n, negated, joined, chosen}
-use Rattle.gettext_plural.specs.PluralAnswers.{Begins, NoneGoesOn, behind_operand, end_in_operand, ends_operand, missing}
-use Rattle.gettext_plural.specs.Inner.PluralMachine.{Waiting, bracket, negation, left_of, question, colon, Outcome, Stage, expects, has, unwind, step, whole, finish, finished, ended, coloned, closed, proceed, run, colon_stage, close_stage}
+use Rattle.gettext_plural.specs.PluralAnswers.{BeginsExpression, NoneGoesOn, behind_operand, end_in_operand, ends_operand, missing}
+use Rattle.gettext_plural.specs.Inner.PluralMachine.{Waiting, bracket, negation, left_of, question, colon, FormulaOutcome, Stage, expects, has, unwind, stage_step, whole, finish, finished, ended, coloned, bracket_closed, proceed_from_stage, run_from_stage, colon_stage, close_stage}
 use Rattle.gettext_plural.proofs.Levels.{left_ends}
 use Rattle.gettext_plural.proofs.MachineComplete.{read_whole}
 use Rattle.gettext_plural.proofs.MachineSound.{IfStage, run_sound}
@@ -19,17 +19,17 @@ use Rattle.gettext_plural.proofs.MachineSound.{IfStage, run_sound}
 record Completes (ws : List Waiting) (e : Formula) : Type 0 where
   behind : List Token
   formula : Formula
-  runs : (held : List Waiting) (a : Formula) → unwind 0 held a ≡ unwind 0 ws e → run (has held a) behind ≡ Ok formula
+  runs : (held : List Waiting) (a : Formula) → unwind 0 held a ≡ unwind 0 ws e → run_from_stage (has held a) behind ≡ Ok formula
 
 completes : (ws : List Waiting) (e : Formula) → Completes ws e
-unfolding run
+unfolding run_from_stage
 completes [] e = record { behind = []; formula = e; runs = λ held a is. ap (λ it. ended (finished it)) is }
 completes (bracket ∷ ws) e =
     let c = completes ws e in
     record {
       behind = Close ∷ c.behind;
       formula = c.formula;
-      runs = λ held a is. ap (λ it. proceed (Close ∷ c.behind) (closed it) (λ next. run next c.behind)) is ∙ c.runs ws e refl;
+      runs = λ held a is. ap (λ it. proceed_from_stage (Close ∷ c.behind) (bracket_closed it) (λ next. run_from_stage next c.behind)) is ∙ c.runs ws e refl;
     }
 completes (negation ∷ ws) e = let c = completes ws (negated e) in record { behind = c.behind; formula = c.formula; runs = c.runs }
 completes (left_of o b ∷ ws) e =
@@ -41,7 +41,7 @@ completes (question b ∷ ws) e =
       behind = Colon ∷ N ∷ c.behind;
       formula = c.formula;
       runs = λ held a is.
-          ap (λ it. proceed (Colon ∷ N ∷ c.behind) (coloned it) (λ next. run next (N ∷ c.behind))) is
+          ap (λ it. proceed_from_stage (Colon ∷ N ∷ c.behind) (coloned it) (λ next. run_from_stage next (N ∷ c.behind))) is
           ∙ c.runs (colon b e ∷ ws) the_n refl;
     }
 completes (colon b d ∷ ws) e = let c = completes ws (chosen b d e) in record { behind = c.behind; formula = c.formula; runs = c.runs }
@@ -50,10 +50,10 @@ completes (colon b d ∷ ws) e = let c = completes ws (chosen b d e) in record {
 record Ended (s : Stage) : Type 0 where
   behind : List Token
   formula : Formula
-  runs : run s behind ≡ Ok formula
+  runs : run_from_stage s behind ≡ Ok formula
 
 all_end : (s : Stage) → Ended s
-unfolding run
+unfolding run_from_stage
 all_end (has ws e) = let c = completes ws e in record { behind = c.behind; formula = c.formula; runs = c.runs ws e refl }
 all_end (expects ws) = let c = completes ws the_n in record { behind = N ∷ c.behind; formula = c.formula; runs = c.runs ws the_n refl }
 
@@ -86,7 +86,7 @@ close_agrees (left_of o a ∷ ws) e all is = tt
 close_agrees (question a ∷ ws) e all is = tt
 close_agrees (colon a b ∷ ws) e all is = tt
 
-step_agrees : (s : Stage) (before : List Token) (t : Token) → IfStage (step s t) (λ next. Agrees next (before ++ t ∷ []))
+step_agrees : (s : Stage) (before : List Token) (t : Token) → IfStage (stage_step s t) (λ next. Agrees next (before ++ t ∷ []))
 step_agrees (expects ws) before (Number k) = end_at before (Number k)
 step_agrees (expects ws) before N = end_at before N
 step_agrees (expects ws) before Not = end_at before Not
@@ -111,13 +111,13 @@ step_agrees (has ws e) before Junk = tt
 -- what follows has this fault at the stage
 abbrev FailsAt : Stage → FaultKind → List Token → Type 0
 FailsAt s kind [] = finish s ≡ Err kind
-FailsAt s kind (t ∷ more) = step s t ≡ Err kind
+FailsAt s kind (t ∷ more) = stage_step s t ≡ Err kind
 
 record Failing (s : Stage) (before ts : List Token) (kind : FaultKind) (more : List Token) : Type 0 where
   mid : List Token
   last : Stage
   parts : ts ≡ mid ++ more
-  leads : (behind : List Token) → run s (mid ++ behind) ≡ run last behind
+  leads : (behind : List Token) → run_from_stage s (mid ++ behind) ≡ run_from_stage last behind
   fails : FailsAt last kind more
   agrees : Agrees last (before ++ mid)
 
@@ -149,10 +149,10 @@ at_the_end s before kind more agrees (Err k) eq is =
     fails_here s before [] kind more agrees same (eq ∙ ap Err alike)
 
 behind_token : (s : Stage) (before ts : List Token) (t : Token) (kind : FaultKind) (more : List Token) → Agrees s before
-    → ((next : Stage) → Agrees next (before ++ t ∷ []) → run next ts ≡ Err (kind, more) → Failing next (before ++ t ∷ []) ts kind more)
-    → (r : Result Stage FaultKind) → step s t ≡ r → IfStage r (λ next. Agrees next (before ++ t ∷ []))
-    → proceed (t ∷ ts) r (λ next. run next ts) ≡ Err (kind, more) → Failing s before (t ∷ ts) kind more
-unfolding run
+    → ((next : Stage) → Agrees next (before ++ t ∷ []) → run_from_stage next ts ≡ Err (kind, more) → Failing next (before ++ t ∷ []) ts kind more)
+    → (r : Result Stage FaultKind) → stage_step s t ≡ r → IfStage r (λ next. Agrees next (before ++ t ∷ []))
+    → proceed_from_stage (t ∷ ts) r (λ next. run_from_stage next ts) ≡ Err (kind, more) → Failing s before (t ∷ ts) kind more
+unfolding run_from_stage
 behind_token s before ts t kind more agrees behind (Ok next) eq held is =
     let f = behind next held is in
     let Q : List Token → Type 0 = λ all. Agrees f.last all in
@@ -160,7 +160,7 @@ behind_token s before ts t kind more agrees behind (Ok next) eq held is =
       mid = t ∷ f.mid;
       last = f.last;
       parts = ap (λ x. t ∷ x) f.parts;
-      leads = λ more_behind. ap (λ r. proceed (t ∷ (f.mid ++ more_behind)) r (λ n. run n (f.mid ++ more_behind))) eq ∙ f.leads more_behind;
+      leads = λ more_behind. ap (λ r. proceed_from_stage (t ∷ (f.mid ++ more_behind)) r (λ n. run_from_stage n (f.mid ++ more_behind))) eq ∙ f.leads more_behind;
       fails = f.fails;
       agrees = subst Q (append_assoc before (t ∷ []) f.mid) f.agrees;
     }
@@ -174,12 +174,12 @@ behind_token s before ts t kind more agrees behind (Err k) eq held is =
     fails_here s before (t ∷ ts) kind more agrees same (eq ∙ ap Err alike)
 
 failing : (ts : List Token) (s : Stage) (before : List Token) (kind : FaultKind) (more : List Token) → Agrees s before
-    → run s ts ≡ Err (kind, more) → Failing s before ts kind more
-unfolding run
+    → run_from_stage s ts ≡ Err (kind, more) → Failing s before ts kind more
+unfolding run_from_stage
 failing [] s before kind more agrees is = at_the_end s before kind more agrees (finish s) refl is
 failing (t ∷ ts) s before kind more agrees is =
     behind_token s before ts t kind more agrees (λ next held eq. failing ts next (before ++ t ∷ []) kind more held eq)
-    (step s t) refl (step_agrees s before t) is
+    (stage_step s t) refl (step_agrees s before t) is
 
 -- ---- The kind
 
@@ -203,7 +203,7 @@ whole_kind : (ws : List Waiting) (e : Formula) (kind : FaultKind) → whole ws e
 whole_kind [] e kind is = absurd cc
 whole_kind (w ∷ ws) e kind is = cc
 
-begin_kind : (ws : List Waiting) (t : Token) (kind : FaultKind) → step (expects ws) t ≡ Err kind → kind ≡ ExpectedOperand
+begin_kind : (ws : List Waiting) (t : Token) (kind : FaultKind) → stage_step (expects ws) t ≡ Err kind → kind ≡ ExpectedOperand
 begin_kind ws (Number k) kind is = absurd cc
 begin_kind ws N kind is = absurd cc
 begin_kind ws Not kind is = absurd cc
@@ -214,7 +214,7 @@ begin_kind ws Colon kind is = cc
 begin_kind ws Close kind is = cc
 begin_kind ws Junk kind is = cc
 
-follow_kind : (ws : List Waiting) (e : Formula) (t : Token) (kind : FaultKind) → step (has ws e) t ≡ Err kind → kind ≡ ExpectedOperator
+follow_kind : (ws : List Waiting) (e : Formula) (t : Token) (kind : FaultKind) → stage_step (has ws e) t ≡ Err kind → kind ≡ ExpectedOperator
 follow_kind ws e (Joint o) kind is = absurd cc
 follow_kind ws e Question kind is = absurd cc
 follow_kind ws e Colon kind is = colon_kind (unwind 0 ws e).0 (unwind 0 ws e).1 kind is
@@ -239,24 +239,24 @@ kind_of (has ws e) before (t ∷ more) kind agrees fails =
 -- ---- The first fault
 
 none_goes_on : (before more : List Token) (kind : FaultKind) (last : Stage)
-    → ((behind : List Token) → run (expects []) (before ++ behind) ≡ run last behind)
+    → ((behind : List Token) → run_from_stage (expects []) (before ++ behind) ≡ run_from_stage last behind)
     → FailsAt last kind more → NoneGoesOn before more
-unfolding run
+unfolding run_from_stage
 none_goes_on before [] kind last leads fails = λ e s.
-    let whole_is : run (expects []) before ≡ Ok e = read_whole before e s in
-    let same : run (expects []) (before ++ []) ≡ run (expects []) before = ap (run (expects [])) (append-nil before) in
-    let here : run (expects []) (before ++ []) ≡ ended (finish last) = leads [] in
+    let whole_is : run_from_stage (expects []) before ≡ Ok e = read_whole before e s in
+    let same : run_from_stage (expects []) (before ++ []) ≡ run_from_stage (expects []) before = ap (run_from_stage (expects [])) (append-nil before) in
+    let here : run_from_stage (expects []) (before ++ []) ≡ ended (finish last) = leads [] in
     let fault : ended (finish last) ≡ ended (Err kind) = ap ended fails in
-    let good : Outcome = Ok e in
-    let bad : Outcome = ended (Err kind) in
+    let good : FormulaOutcome = Ok e in
+    let bad : FormulaOutcome = ended (Err kind) in
     let clash : good ≡ bad = sym whole_is ∙ sym same ∙ here ∙ fault in
     absurd cc
 none_goes_on before (t ∷ more) kind last leads fails = λ behind e s.
-    let whole_is : run (expects []) (before ++ t ∷ behind) ≡ Ok e = read_whole (before ++ t ∷ behind) e s in
-    let here : run (expects []) (before ++ t ∷ behind) ≡ run last (t ∷ behind) = leads (t ∷ behind) in
-    let fault : run last (t ∷ behind) ≡ Err (kind, t ∷ behind) = ap (λ r. proceed (t ∷ behind) r (λ next. run next behind)) fails in
-    let good : Outcome = Ok e in
-    let bad : Outcome = Err (kind, t ∷ behind) in
+    let whole_is : run_from_stage (expects []) (before ++ t ∷ behind) ≡ Ok e = read_whole (before ++ t ∷ behind) e s in
+    let here : run_from_stage (expects []) (before ++ t ∷ behind) ≡ run_from_stage last (t ∷ behind) = leads (t ∷ behind) in
+    let fault : run_from_stage last (t ∷ behind) ≡ Err (kind, t ∷ behind) = ap (λ r. proceed_from_stage (t ∷ behind) r (λ next. run_from_stage next behind)) fails in
+    let good : FormulaOutcome = Ok e in
+    let bad : FormulaOutcome = Err (kind, t ∷ behind) in
     let clash : good ≡ bad = sym whole_is ∙ here ∙ fault in
     absurd cc
 
@@ -264,11 +264,11 @@ none_goes_on before (t ∷ more) kind last leads fails = λ behind e s.
 pub record IsFirst (all : List Token) (kind : FaultKind) (more : List Token) : Type 0 where
   pub before : List Token
   pub parts : all ≡ before ++ more
-  pub begins : Begins before
+  pub begins : BeginsExpression before
   pub stops : NoneGoesOn before more
   pub kind_is : kind ≡ missing before more
 
-pub is_first : (all : List Token) (kind : FaultKind) (more : List Token) → run (expects []) all ≡ Err (kind, more) → IsFirst all kind more
+pub is_first : (all : List Token) (kind : FaultKind) (more : List Token) → run_from_stage (expects []) all ≡ Err (kind, more) → IsFirst all kind more
 is_first all kind more is =
     let f : Failing (expects []) [] all kind more = failing all (expects []) [] kind more refl is in
     let e : Ended f.last = all_end f.last in

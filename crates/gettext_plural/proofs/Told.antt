@@ -11,12 +11,12 @@ use Rattle.gettext_plural.specs.declared.error.ReadError.{ReadError}
 use Rattle.gettext_plural.specs.declared.error.ReadError.TheVariants as read
 use Rattle.gettext_plural.specs.declared.forms.TheConstants.{SIZE_LIMIT}
 use Rattle.gettext_plural.specs.declared.token.Token.{Token}
-use Rattle.gettext_plural.specs.PluralTokens.{AreTokensOf, Passes}
-use Rattle.gettext_plural.specs.PluralExpressions.{Formula, Forms, IsExpression, Spells}
+use Rattle.gettext_plural.specs.PluralTokens.{AreFormulaTokensOf, PassesTokens}
+use Rattle.gettext_plural.specs.PluralExpressions.{Formula, Forms, IsPluralExpression, Spells}
 use Rattle.gettext_plural.specs.PluralHeaders.{header}
-use Rattle.gettext_plural.specs.PluralAnswers.{Begins, NoneGoesOn, missing, HasExpressionFault, HasFault, HasFaultBefore, HasFaultWithin, IsPluralForms, IsWhatIsSaid, ParsesExactly, SaysOrFails}
-use Rattle.gettext_plural.specs.Inner.PluralMachine.{Outcome, expects, run}
-use Rattle.gettext_plural.specs.Inner.FormulaViews.{HasRead, IsParsedError, Reads, Stops, error_at}
+use Rattle.gettext_plural.specs.PluralAnswers.{BeginsExpression, NoneGoesOn, missing, HasExpressionFault, HasPluralFormsFault, HasFaultBefore, HasFaultWithin, IsPluralForms, IsWhatIsSaid, ParsesExactly, SaysOrFails}
+use Rattle.gettext_plural.specs.Inner.PluralMachine.{FormulaOutcome, expects, run_from_stage}
+use Rattle.gettext_plural.specs.Inner.FormulaViews.{HasRead, IsParsedError, ReadsFormula, Stops, error_at}
 use Rattle.gettext_plural.proofs.MachineComplete.{read_whole}
 use Rattle.gettext_plural.proofs.MachineSound.{run_sound}
 use Rattle.gettext_plural.proofs.MachineStops.{IsFirst, is_first}
@@ -25,22 +25,22 @@ use Rattle.gettext_plural.proofs.TokenCuts.{PassedTo, one_cut, one_rest, passed_
 -- ---- Expressions
 
 -- what is read is an expression
-is_expression : (text : List ℕ) (e : Formula) → Reads text e → IsExpression text e
+is_expression : (text : List ℕ) (e : Formula) → ReadsFormula text e → IsPluralExpression text e
 is_expression text e r = (r.0, r.1, run_sound r.0 (expects []) [] e refl r.2)
 
 -- a text is one expression at most
-one_expression : (text : List ℕ) (a b : Formula) → IsExpression text a → IsExpression text b → a ≡ b
+one_expression : (text : List ℕ) (a b : Formula) → IsPluralExpression text a → IsPluralExpression text b → a ≡ b
 one_expression text a b h k =
     let same : h.0 ≡ k.0 = one_cut text h.0 k.0 h.1 k.1 in
-    let first : run (expects []) h.0 ≡ Ok a = read_whole h.0 a h.2 in
-    let second : run (expects []) k.0 ≡ Ok b = read_whole k.0 b k.2 in
-    let both : run (expects []) h.0 ≡ run (expects []) k.0 = ap (run (expects [])) same in
-    let alike : Ok a ≡ run (expects []) k.0 = sym first ∙ both in
+    let first : run_from_stage (expects []) h.0 ≡ Ok a = read_whole h.0 a h.2 in
+    let second : run_from_stage (expects []) k.0 ≡ Ok b = read_whole k.0 b k.2 in
+    let both : run_from_stage (expects []) h.0 ≡ run_from_stage (expects []) k.0 = ap (run_from_stage (expects [])) same in
+    let alike : Ok a ≡ run_from_stage (expects []) k.0 = sym first ∙ both in
     let equal : Ok a ≡ Ok b = alike ∙ second in
     cc
 
 first_fault : (text : List ℕ) (all more : List Token) (kind : FaultKind) (rest : List ℕ) (f : IsFirst all kind more)
-    → Passes text f.before rest → AreTokensOf rest more → HasExpressionFault text kind (length rest)
+    → PassesTokens text f.before rest → AreFormulaTokensOf rest more → HasExpressionFault text kind (length rest)
 first_fault text all more kind rest f passed there = record {
   before = f.before;
   more = more;
@@ -57,13 +57,13 @@ first_fault text all more kind rest f passed there = record {
 is_fault : (text : List ℕ) (kind : FaultKind) (left : ℕ) → Stops text kind left → HasExpressionFault text kind left
 is_fault text kind left s =
     let f = is_first (s.before ++ s.more) kind s.more s.stops in
-    let P : List Token → Type 0 = λ ts. Passes text ts s.rest in
+    let P : List Token → Type 0 = λ ts. PassesTokens text ts s.rest in
     let passed = subst P (append_cancel_right s.before f.before s.more f.parts) s.passed in
     let Q : ℕ → Type 0 = λ n. HasExpressionFault text kind n in
     subst Q (sym s.remains) (first_fault text (s.before ++ s.more) s.more kind s.rest f passed s.there)
 
 -- all tokens of a text with a fault
-cut_at : (text : List ℕ) (kind : FaultKind) (left : ℕ) (f : HasExpressionFault text kind left) → AreTokensOf text (f.before ++ f.more)
+cut_at : (text : List ℕ) (kind : FaultKind) (left : ℕ) (f : HasExpressionFault text kind left) → AreFormulaTokensOf text (f.before ++ f.more)
 cut_at text kind left f = passed_cut text f.before f.rest f.more f.passed f.there
 
 none_there : (before more : List Token) (e : Formula) → NoneGoesOn before more → Spells 0 (before ++ more) e → ⊥
@@ -73,7 +73,7 @@ none_there before [] e none s =
 none_there before (t ∷ more) e none s = none more e s
 
 -- an expression has no fault
-no_expression_fault : (text : List ℕ) (e : Formula) (kind : FaultKind) (left : ℕ) → IsExpression text e
+no_expression_fault : (text : List ℕ) (e : Formula) (kind : FaultKind) (left : ℕ) → IsPluralExpression text e
     → HasExpressionFault text kind left → ⊥
 no_expression_fault text e kind left h f =
     let same : h.0 ≡ f.before ++ f.more = one_cut text h.0 (f.before ++ f.more) h.1 (cut_at text kind left f) in
@@ -102,7 +102,7 @@ abbrev AreBoth : List Token → List Token → List Token → List Token → Typ
 AreBoth a b c d = (a ≡ c) × (b ≡ d)
 
 -- no expression goes on with the next token, so none that begins with more tokens
-no_further : (a b c d e : List Token) → NoneGoesOn a b → Begins c → c ≡ a ++ e → b ≡ e ++ d → AreBoth a b c d
+no_further : (a b c d e : List Token) → NoneGoesOn a b → BeginsExpression c → c ≡ a ++ e → b ≡ e ++ d → AreBoth a b c d
 no_further a b c d [] none begun is more = (sym (is ∙ append-nil a), more)
 no_further a b c d (t ∷ e) none begun is more =
     let P : List Token → Type 0 = λ ts. NoneGoesOn a ts in
@@ -111,7 +111,7 @@ no_further a b c d (t ∷ e) none begun is more =
     let spelled = subst Q (ap (λ x. x ++ begun.behind) is ∙ append_assoc a (t ∷ e) begun.behind) begun.spelled in
     absurd (never (e ++ begun.behind) begun.formula spelled)
 
-one_stop : (a b c d : List Token) → a ++ b ≡ c ++ d → Begins a → NoneGoesOn a b → Begins c → NoneGoesOn c d → AreBoth a b c d
+one_stop : (a b c d : List Token) → a ++ b ≡ c ++ d → BeginsExpression a → NoneGoesOn a b → BeginsExpression c → NoneGoesOn c d → AreBoth a b c d
 one_stop a b c d is first stops second ends =
     ⊎_elim (λ h. no_further a b c d h.0 stops second h.1 h.2)
     (λ h. (let same : AreBoth c d a b = no_further c d a b h.0 ends first h.1 h.2 in (sym same.0, sym same.1)))
@@ -127,7 +127,7 @@ one_expression_fault text k l m n f g =
     let is = one_cut text (f.before ++ f.more) (g.before ++ g.more) (cut_at text k m f) (cut_at text l n g) in
     let same : AreBoth f.before f.more g.before g.more =
     one_stop f.before f.more g.before g.more is f.begins f.stops g.begins g.stops in
-    let P : List Token → Type 0 = λ ts. Passes text ts f.rest in
+    let P : List Token → Type 0 = λ ts. PassesTokens text ts f.rest in
     let rests = one_rest text g.before f.rest g.rest (subst P same.0 f.passed) g.passed in
     let kinds = ap (λ ts. missing ts f.more) same.0 ∙ ap (missing g.before) same.1 in
     (f.kind_is ∙ kinds ∙ sym g.kind_is, f.remains ∙ ap length rests ∙ sym g.remains)
@@ -136,9 +136,9 @@ one_expression_fault text k l m n f g =
 
 -- each text is an expression, or has a fault
 abbrev ReadsOrFails : List ℕ → Type 0
-ReadsOrFails text = ((e : Formula) × IsExpression text e) ⊎ ((kind : FaultKind) × (left : ℕ) × HasExpressionFault text kind left)
+ReadsOrFails text = ((e : Formula) × IsPluralExpression text e) ⊎ ((kind : FaultKind) × (left : ℕ) × HasExpressionFault text kind left)
 
-told_by : (text : List ℕ) (ts : List Token) → AreTokensOf text ts → (r : Outcome) → run (expects []) ts ≡ r → ReadsOrFails text
+told_by : (text : List ℕ) (ts : List Token) → AreFormulaTokensOf text ts → (r : FormulaOutcome) → run_from_stage (expects []) ts ≡ r → ReadsOrFails text
 told_by text ts cut (Ok e) is = inl (e, is_expression text e (ts, cut, is))
 told_by text ts cut (Err (kind, more)) is =
     let f : IsFirst ts kind more = is_first ts kind more is in
@@ -146,7 +146,7 @@ told_by text ts cut (Err (kind, more)) is =
     inr (kind, length b.rest, first_fault text ts more kind b.rest f b.passed b.there)
 
 told : (text : List ℕ) → ReadsOrFails text
-told text = let ts = tokens_exist text in told_by text ts.0 ts.1 (run (expects []) ts.0) refl
+told text = let ts = tokens_exist text in told_by text ts.0 ts.1 (run_from_stage (expects []) ts.0) refl
 
 -- ---- Whole texts
 
@@ -172,7 +172,7 @@ one_thing text a b h k =
     let same : IsBoth a.count b.count h.rest k.rest = both_are text a.count b.count h.rest k.rest h.begins k.begins in
     let counts : a.count ≡ b.count = same.0 in
     let rests : h.rest ≡ k.rest = same.1 in
-    let P : List ℕ → Type 0 = λ s. IsExpression s a.formula in
+    let P : List ℕ → Type 0 = λ s. IsPluralExpression s a.formula in
     let formulas : a.formula ≡ b.formula = one_expression k.rest a.formula b.formula (subst P rests h.spelled) k.spelled in
     let first : a ≡ record { count = b.count; formula = a.formula } =
     ap (λ n. let f : Forms = record { count = n; formula = a.formula } in f) counts in
@@ -187,11 +187,11 @@ fault_apart text forms kind left h (inl stops) =
 fault_apart text forms kind left h (inr b) =
     let same : IsBoth forms.count b.count h.rest b.rest = both_are text forms.count b.count h.rest b.rest h.begins b.begins in
     let rests : h.rest ≡ b.rest = same.1 in
-    let P : List ℕ → Type 0 = λ s. IsExpression s forms.formula in
+    let P : List ℕ → Type 0 = λ s. IsPluralExpression s forms.formula in
     no_expression_fault b.rest forms.formula kind left (subst P rests h.spelled) b.fault
 
 -- what it says is no fault
-pub no_fault : (text : List ℕ) (forms : Forms) (kind : FaultKind) (place : ℕ) → IsPluralForms text forms → HasFault text kind place → ⊥
+pub no_fault : (text : List ℕ) (forms : Forms) (kind : FaultKind) (place : ℕ) → IsPluralForms text forms → HasPluralFormsFault text kind place → ⊥
 no_fault text forms kind place h (inl long) = let short = h.short in omega (arith, long.0, short)
 no_fault text forms kind place h (inr within) = fault_apart text forms kind within.left h within.stops
 
@@ -213,7 +213,7 @@ one_fault_before text k l m n (inr f) (inr g) =
     one_expression_fault g.rest k l m n (subst P same.1 f.fault) g.fault
 
 -- a text has one fault at most
-pub one_fault : (text : List ℕ) (k l : FaultKind) (p q : ℕ) → HasFault text k p → HasFault text l q → AreSame k l p q
+pub one_fault : (text : List ℕ) (k l : FaultKind) (p q : ℕ) → HasPluralFormsFault text k p → HasPluralFormsFault text l q → AreSame k l p q
 one_fault text k l p q (inl f) (inl g) = (f.1 ∙ sym g.1, f.2 ∙ sym g.2)
 one_fault text k l p q (inl f) (inr g) = let short = g.short in absurd (omega (arith, f.0, short))
 one_fault text k l p q (inr f) (inl g) = let short = f.short in absurd (omega (arith, g.0, short))

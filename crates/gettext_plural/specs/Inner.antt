@@ -1,5 +1,4 @@
 -- No definitions of the subject: a reader of expressions, and views of private types, for private
 -- contracts.
-pub mod LeftOperands
 pub mod PluralMachine
 pub mod FormulaViews

@@ -1,6 +1,6 @@
 -- What a text says as a `Plural-Forms`, which fault it has, and what the reader may return.
 --     IsPluralForms text forms
---     HasFault text kind place
+--     HasPluralFormsFault text kind place
 --     ParsesExactly text r
 use Rattle.std.specs.Prelude.{◌≡◌, ◌⊎◌, ℕ, ◌-◌, ◌<◌, ◌≤◌, List, [], ◌∷◌, ◌++◌, length, Bool, true, false, cond, Result, Ok, Err}
 use Rattle.gettext_plural.specs.declared.error.FaultKind.{FaultKind}
@@ -11,8 +11,8 @@ use Rattle.gettext_plural.specs.declared.forms.TheConstants.{SIZE_LIMIT}
 use Rattle.gettext_plural.specs.declared.header.TheConstants.{FORMS_LIMIT}
 use Rattle.gettext_plural.specs.declared.token.Token.{Token}
 use Rattle.gettext_plural.specs.declared.token.Token.TheVariants.{Number, N, Close}
-use Rattle.gettext_plural.specs.PluralTokens.{AreTokensOf, Passes}
-use Rattle.gettext_plural.specs.PluralExpressions.{Formula, Forms, IsExpression, Spells}
+use Rattle.gettext_plural.specs.PluralTokens.{AreFormulaTokensOf, PassesTokens}
+use Rattle.gettext_plural.specs.PluralExpressions.{Formula, Forms, IsPluralExpression, Spells}
 use Rattle.gettext_plural.specs.PluralHeaders.{header}
 
 -- the text says this: it isn't too long, and an expression follows what stands before it
@@ -20,7 +20,7 @@ pub record IsPluralForms (text : List ℕ) (forms : Forms) : Type 0 where
   pub short : length text ≤ SIZE_LIMIT
   pub rest : List ℕ
   pub begins : header text ≡ Ok (forms.count, rest)
-  pub spelled : IsExpression rest forms.formula
+  pub spelled : IsPluralExpression rest forms.formula
 
 -- ---- The fault of an expression
 
@@ -51,7 +51,7 @@ NoneGoesOn before [] = (e : Formula) → Spells 0 before e → ⊥
 NoneGoesOn before (t ∷ more) = (behind : List Token) (e : Formula) → Spells 0 (before ++ t ∷ behind) e → ⊥
 
 -- an expression begins with these tokens
-pub record Begins (before : List Token) : Type 0 where
+pub record BeginsExpression (before : List Token) : Type 0 where
   pub behind : List Token
   pub formula : Formula
   pub spelled : Spells 0 (before ++ behind) formula
@@ -62,10 +62,10 @@ pub record HasExpressionFault (text : List ℕ) (kind : FaultKind) (left : ℕ) 
   pub before : List Token
   pub more : List Token
   pub rest : List ℕ
-  pub passed : Passes text before rest
+  pub passed : PassesTokens text before rest
   pub remains : left ≡ length rest
-  pub there : AreTokensOf rest more
-  pub begins : Begins before
+  pub there : AreFormulaTokensOf rest more
+  pub begins : BeginsExpression before
   pub stops : NoneGoesOn before more
   pub kind_is : kind ≡ missing before more
 
@@ -92,14 +92,14 @@ abbrev pub IsTooLong : List ℕ → FaultKind → ℕ → Type 0
 IsTooLong text kind place = (SIZE_LIMIT < length text) × (kind ≡ TooLong) × (place ≡ SIZE_LIMIT)
 
 -- the text has this fault, at this byte
-abbrev pub HasFault : List ℕ → FaultKind → ℕ → Type 0
-HasFault text kind place = IsTooLong text kind place ⊎ HasFaultWithin text kind place
+abbrev pub HasPluralFormsFault : List ℕ → FaultKind → ℕ → Type 0
+HasPluralFormsFault text kind place = IsTooLong text kind place ⊎ HasFaultWithin text kind place
 
 -- ---- What is returned
 
 abbrev pub IsFaultOf : List ℕ → error.PluralFormsError → Type 0
 IsFaultOf text errors.Memory = Unit {0}
-IsFaultOf text (errors.Fault kind place) = HasFault text kind place × (place ≤ length text)
+IsFaultOf text (errors.Fault kind place) = HasPluralFormsFault text kind place × (place ≤ length text)
 
 abbrev pub IsWhatIsSaid : List ℕ → Result Forms error.PluralFormsError → Type 0
 IsWhatIsSaid text (Ok forms) = IsPluralForms text forms
@@ -119,12 +119,12 @@ TextsSayOneThing = (text : List ℕ) (a b : Forms) → IsPluralForms text a → 
 
 -- a text that says something has no fault
 abbrev pub NoFaultInForms : Type 0
-NoFaultInForms = (text : List ℕ) (forms : Forms) (kind : FaultKind) (place : ℕ) → IsPluralForms text forms → HasFault text kind place → ⊥
+NoFaultInForms = (text : List ℕ) (forms : Forms) (kind : FaultKind) (place : ℕ) → IsPluralForms text forms → HasPluralFormsFault text kind place → ⊥
 
 -- every text says something, or has a fault
 abbrev pub SaysOrFails : List ℕ → Type 0
 SaysOrFails text =
-    ((forms : Forms) × IsPluralForms text forms) ⊎ ((kind : FaultKind) × (place : ℕ) × HasFault text kind place)
+    ((forms : Forms) × IsPluralForms text forms) ⊎ ((kind : FaultKind) × (place : ℕ) × HasPluralFormsFault text kind place)
 
 abbrev pub EveryTextIsTold : Type 0
 EveryTextIsTold = (text : List ℕ) → SaysOrFails text
@@ -132,7 +132,7 @@ EveryTextIsTold = (text : List ℕ) → SaysOrFails text
 -- a text has one fault at most: one kind, at one byte
 abbrev pub TextsHaveOneFault : Type 0
 TextsHaveOneFault =
-    (text : List ℕ) (kind other : FaultKind) (place next : ℕ) → HasFault text kind place → HasFault text other next
+    (text : List ℕ) (kind other : FaultKind) (place next : ℕ) → HasPluralFormsFault text kind place → HasPluralFormsFault text other next
     → (kind ≡ other) × (place ≡ next)
 
 -- there are from 1 to FORMS_LIMIT forms

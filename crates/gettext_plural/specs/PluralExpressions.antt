@@ -1,13 +1,13 @@
 -- The expressions of a `Plural-Forms`, and how tokens spell them: by the grammar of C, in which
 -- operators that bind alike group to the left, and `? :` groups to the right.
 --     Spells level tokens e
---     IsExpression text e
+--     IsPluralExpression text e
 use Rattle.std.specs.Prelude.{ℕ, suc, List, [], ◌∷◌, ◌++◌}
 use Rattle.gettext_plural.specs.declared.token.Operator.{Operator}
 use Rattle.gettext_plural.specs.declared.token.Operator.TheVariants.{Or, And, Equal, Unequal, Below, Above, AtMost, AtLeast, Plus, Minus, Times, Over, Remainder}
 use Rattle.gettext_plural.specs.declared.token.Token.{Token}
 use Rattle.gettext_plural.specs.declared.token.Token.TheVariants.{Number, N, Not, Joint, Question, Colon, Open, Close}
-use Rattle.gettext_plural.specs.PluralTokens.{AreTokensOf}
+use Rattle.gettext_plural.specs.PluralTokens.{AreFormulaTokensOf}
 
 pub data Formula : Type 0 where
   number : ℕ → Formula
@@ -47,8 +47,8 @@ pub data Spells : ℕ → List Token → Formula → Type 0 where
   spells_tighter : (level : ℕ) (ts : List Token) (e : Formula) → Spells (suc level) ts e → Spells level ts e
 
 -- the tokens of the text, up to its end, spell the expression
-abbrev pub IsExpression : List ℕ → Formula → Type 0
-IsExpression text e = (tokens : List Token) × AreTokensOf text tokens × Spells 0 tokens e
+abbrev pub IsPluralExpression : List ℕ → Formula → Type 0
+IsPluralExpression text e = (tokens : List Token) × AreFormulaTokensOf text tokens × Spells 0 tokens e
 
 -- what a `Plural-Forms` says: how many forms there are, and the expression for the index
 pub record Forms : Type 0 where

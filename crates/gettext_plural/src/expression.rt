@@ -4,7 +4,7 @@ ghost use Rattle.std.specs.Prelude.{◌≡◌, Option, Some, IfOk, nat_eq};
 ghost use Rattle.gettext_plural.specs.PluralExpressions.{joined, negated, chosen};
 ghost use Rattle.gettext_plural.specs.PluralValues.{applied, formula_value, if_value, remainder_of, quotient_of, truth};
 ghost use Rattle.gettext_plural.specs.PluralViews.{formula_view};
-ghost use Rattle.gettext_plural.specs.Inner.LeftOperands.{decided, decided_by};
+ghost use Rattle.gettext_plural.specs.Inner.FormulaViews.{decided, decided_by};
 
 use crate::token::Operator;
 use std::alloc::{AllocError, Global};

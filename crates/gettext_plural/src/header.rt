@@ -1,7 +1,7 @@
 //! The number of forms, and where the expression begins.
 
 ghost use Rattle.std.specs.Prelude.{◌≡◌, ℕ, true, false, None, Some, Ok, Err, MatchBool, MatchOption, MatchResult, min};
-ghost use Rattle.gettext_plural.specs.PluralHeaders.{after_word, behind_first, behind_word, count_front, fault_at, header, is_count};
+ghost use Rattle.gettext_plural.specs.PluralHeaders.{after_header_word, behind_first_word, behind_word, count_front, fault_at, header, is_count};
 
 use crate::error::{Fault, FaultKind};
 use crate::lexer::{after_blanks, digits, is_digit};
@@ -31,7 +31,7 @@ fn behind_word<'a>(word: &[u8], kind: FaultKind, text: &'a [u8]) -> Result<&'a [
 
 // Returns what follows the first such word of a text, if it has one.
 fn behind_first<'a>(word: &[u8], text: &'a [u8]) -> Option<&'a [u8]>
-    ensures { MatchOption result (behind_first word.now text.now ≡ None) (λ rest. behind_first word.now text.now ≡ Some rest.now) }
+    ensures { MatchOption result (behind_first_word word.now text.now ≡ None) (λ rest. behind_first_word word.now text.now ≡ Some rest.now) }
 {
     let mut from = text;
     while let [_, next @ ..] = from {
@@ -45,7 +45,7 @@ fn behind_first<'a>(word: &[u8], text: &'a [u8]) -> Option<&'a [u8]>
 
 // Returns what follows a word, if it is at the front.
 fn after_word<'a>(word: &[u8], text: &'a [u8]) -> Option<&'a [u8]>
-    ensures { MatchOption result (after_word word.now text.now ≡ None) (λ rest. after_word word.now text.now ≡ Some rest.now) }
+    ensures { MatchOption result (after_header_word word.now text.now ≡ None) (λ rest. after_header_word word.now text.now ≡ Some rest.now) }
 {
     let mut rest = text;
     for byte in word {

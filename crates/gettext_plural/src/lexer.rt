@@ -1,7 +1,7 @@
 //! A text as tokens.
 
 ghost use Rattle.std.specs.Prelude.{◌≡◌, ◌≤◌, ◌<◌, ◌+◌, ◌*◌, ◌-◌, ℕ, length, min};
-ghost use Rattle.gettext_plural.specs.PluralTokens.{paired, after_blanks, behind_digits, front, is_blank, is_digit, is_end, number_token, number_with, mark_front};
+ghost use Rattle.gettext_plural.specs.PluralTokens.{paired, after_blanks, behind_digits, front, is_blank, is_decimal_digit, is_end, literal_token, number_with, mark_front};
 
 use crate::token::{Operator, Token};
 
@@ -16,7 +16,7 @@ pub(crate) fn is_blank(byte: u8) -> bool
 // Returns whether a byte is a digit.
 #[inline]
 pub(crate) fn is_digit(byte: u8) -> bool
-    ensures { result ≡ is_digit byte }
+    ensures { result ≡ is_decimal_digit byte }
 {
     b'0' <= byte && byte <= b'9'
 }
@@ -103,7 +103,7 @@ const TOO_LARGE: u64 = 4_294_967_296;
 fn number(first: u8, rest: &[u8]) -> (Token, &[u8])
     requires low { 48 ≤ first }
     requires high { first ≤ 57 }
-    ensures token { result.0 ≡ number_token (number_with (first - 48) rest.now) }
+    ensures token { result.0 ≡ literal_token (number_with (first - 48) rest.now) }
     ensures behind { result.1.now ≡ behind_digits rest.now }
     ensures shorter { length result.1.now ≤ length rest.now }
 {
@@ -142,7 +142,7 @@ fn with_digit(value: u64, digit: u8) -> u64
 // Returns the token of a number.
 #[tactic(auto, using(crate::proofs::TokenFronts::small_number, crate::proofs::TokenFronts::large_number))]
 fn number_token(value: u64) -> Token
-    ensures { (n : ℕ) → value ≡ min n TOO_LARGE → result ≡ number_token n }
+    ensures { (n : ℕ) → value ≡ min n TOO_LARGE → result ≡ literal_token n }
 {
     if value < TOO_LARGE {
         Token::Number(value)

@@ -5,7 +5,7 @@ ghost use Rattle.std.specs.Prelude.{◌≡◌, ◌≤◌, ◌+◌, ◌++◌, ℕ
 ghost use Rattle.gettext_plural.specs.PluralExpressions.{Formula};
 ghost use Rattle.gettext_plural.specs.PluralTokens.{is_end};
 ghost use Rattle.gettext_plural.specs.PluralViews.{formula_view};
-ghost use Rattle.gettext_plural.specs.Inner.FormulaViews.{pendings_view, stage_view, HasTaken, IsPopped, IsStep, IsFinish, IsReading, IsStopped};
+ghost use Rattle.gettext_plural.specs.Inner.FormulaViews.{pendings_view, stage_view, HasTaken, IsPopped, IsStep, IsFinish, IsFormulaReading, IsStopped};
 ghost use Rattle.gettext_plural.specs.Inner.PluralMachine.{close_stage, close_with, colon_stage, colon_with, unwind, expects, has};
 
 use crate::error::{Fault, FaultKind, ReadError};
@@ -18,7 +18,7 @@ use std::alloc::{AllocError, Global};
 // Returns the expression at the front of a text, up to its end.
 #[tactic(auto, using(crate::proofs::ReaderSteps::none_taken, crate::proofs::ReaderSteps::finish_reads))]
 pub(crate) fn read(alloc: Global, text: &[u8]) -> Result<Expression, ReadError>
-    ensures { IsReading text.now result }
+    ensures { IsFormulaReading text.now result }
 {
     let mut pending = Vec::new(alloc);
     let mut operand = None;
@@ -54,9 +54,11 @@ fn advance<'a>(
     first: u8,
     behind: &'a [u8],
 ) -> Result<(Option<Expression>, &'a [u8]), ReadError>
-    ensures taken { IfOk result (λ it. (text : List ℕ) → is_end (first ∷ behind.now) ≡ false → HasTaken text (stage_view pending.old.items operand) (first ∷ behind.now)
+    ensures taken { IfOk result
+        (λ it. (text : List ℕ) → is_end (first ∷ behind.now) ≡ false → HasTaken text (stage_view pending.old.items operand) (first ∷ behind.now)
         → HasTaken text (stage_view pending.new.items it.0) it.1.now) }
-    ensures stopped { IfErr result (λ e. (text : List ℕ) → is_end (first ∷ behind.now) ≡ false → HasTaken text (stage_view pending.old.items operand) (first ∷ behind.now)
+    ensures stopped { IfErr result
+        (λ e. (text : List ℕ) → is_end (first ∷ behind.now) ≡ false → HasTaken text (stage_view pending.old.items operand) (first ∷ behind.now)
         → IsStopped text e) }
     ensures shorter { IfOk result (λ it. length it.1.now ≤ length behind.now) }
 {
@@ -197,7 +199,8 @@ fn colon(
 // Takes the innermost, and returns its condition, if it is a `?`.
 #[tactic(auto, using(crate::proofs::PendingViews::condition_popped))]
 fn pop_condition(pending: &mut Vec<Pending>) -> Option<Expression>
-    ensures { (yes : Formula) → colon_stage (pendings_view pending.old.items) yes ≡ colon_with (option_map formula_view result) (pendings_view pending.new.items) yes }
+    ensures { (yes : Formula) → colon_stage (pendings_view pending.old.items) yes
+        ≡ colon_with (option_map formula_view result) (pendings_view pending.new.items) yes }
 {
     match pending.pop() {
         Some(last) => last.condition(),

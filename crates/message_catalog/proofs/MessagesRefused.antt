@@ -2,7 +2,7 @@
 use Rattle.std.proofs.Common.{◌≡◌, ◌∙◌, ◌↔◌, ℕ, zero, suc, ◌<◌, List, [], ◌∷◌, length, ap, subst, sym, Some, arith, inl, inr}
 use Rattle.std.proofs.lemmas.Bool.{cases_lt}
 use Rattle.packed_catalog.specs.CatalogBytes.{CatalogBytes, Entry}
-use Rattle.packed_catalog.specs.CatalogFaults.{HasFault}
+use Rattle.packed_catalog.specs.CatalogFaults.{HasCatalogBytesFault}
 use Rattle.packed_catalog.specs.declared.error.CatalogError.{CatalogError}
 use Rattle.packed_pattern.specs.declared.error.BlockError.{BlockError}
 use Rattle.packed_pattern.specs.PatternBlocks.{HasBlockFault, IsPatternBlock}
@@ -19,7 +19,7 @@ pair a b f g h k =
 
 -- bytes that aren't a packed catalogue have the catalogue's fault alone
 pub catalog_refused : (bytes : List ℕ) (found : CatalogError) → ((entries : List Entry) → CatalogBytes entries bytes → ⊥)
-    → ((fault : CatalogError) → (found ≡ fault) ↔ HasFault bytes fault)
+    → ((fault : CatalogError) → (found ≡ fault) ↔ HasCatalogBytesFault bytes fault)
     → (fault : MessageCatalogError) → (errors.Catalog found ≡ fault) ↔ HasMessageFault bytes fault
 catalog_refused bytes found none told (errors.Catalog fault) = (
   (λ h. let same : found ≡ fault = cc in (told fault).0 same),
@@ -30,7 +30,7 @@ catalog_refused bytes found none told (errors.Pattern index fault) = ((λ h. abs
 -- entries of a catalogue with a bad one have the fault of the first bad one alone
 pub entry_refused : (bytes : List ℕ) (entries : List Entry) (at : ℕ) (found : BlockError) → CatalogBytes entries bytes
     → ((index : ℕ) (fault : BlockError) → (◌≡◌ {A = ℕ × BlockError} (at, found) (index, fault)) ↔ IsFirstBad entries index fault)
-    → ((others : List Entry) → CatalogBytes others bytes → others ≡ entries) → ((fault : CatalogError) → HasFault bytes fault → ⊥)
+    → ((others : List Entry) → CatalogBytes others bytes → others ≡ entries) → ((fault : CatalogError) → HasCatalogBytesFault bytes fault → ⊥)
     → (fault : MessageCatalogError) → (errors.Pattern at found ≡ fault) ↔ HasMessageFault bytes fault
 entry_refused bytes entries at found packed told one no_fault (errors.Catalog fault) = ((λ h. absurd cc), (λ h. absurd (no_fault fault h)))
 entry_refused bytes entries at found packed told one no_fault (errors.Pattern index fault) = (
@@ -47,7 +47,7 @@ entry_refused bytes entries at found packed told one no_fault (errors.Pattern in
 
 -- entries of a catalogue without a bad one have no fault
 pub none_refused : (bytes : List ℕ) (entries : List Entry) → ((index : ℕ) (fault : BlockError) → IsFirstBad entries index fault → ⊥)
-    → ((others : List Entry) → CatalogBytes others bytes → others ≡ entries) → ((fault : CatalogError) → HasFault bytes fault → ⊥)
+    → ((others : List Entry) → CatalogBytes others bytes → others ≡ entries) → ((fault : CatalogError) → HasCatalogBytesFault bytes fault → ⊥)
     → (fault : MessageCatalogError) → HasMessageFault bytes fault → ⊥
 none_refused bytes entries none one no_fault (errors.Catalog fault) h = no_fault fault h
 none_refused bytes entries none one no_fault (errors.Pattern index fault) h =

@@ -8,15 +8,15 @@ use Rattle.std.specs.List.{concat}
 use Rattle.message_pattern.specs.declared.error.FaultKind.{FaultKind}
 use Rattle.message_pattern.specs.declared.error.PatternError.{PatternError}
 use Rattle.message_pattern.specs.declared.error.PatternError.TheVariants as reading
-use Rattle.message_pattern.specs.PatternAnswers.{AreReadOneWay, HasPatternFault, IsFaultOf, IsPattern}
+use Rattle.message_pattern.specs.PatternAnswers.{AreReadOneWay, HasPatternFault, IsPatternFault, IsPattern}
 use Rattle.message_pattern.specs.PatternParts.{Part}
 use Rattle.packed_list.specs.ListBytes.{has_high_start}
 use Rattle.packed_pattern.specs.PartOrder.{before_all, first_misplaced}
-use Rattle.packed_pattern.specs.PackedParts.{items_of}
+use Rattle.packed_pattern.specs.PackedParts.{part_items_of}
 use Rattle.packed_pattern.specs.PatternBlocks.{first_unpackable}
 use Rattle.packed_pattern.specs.declared.error.PackPatternError.{PackPatternError}
 use Rattle.packed_pattern.specs.declared.error.PackPatternError.TheVariants as parts
-use Rattle.packed_catalog.specs.CatalogBytes.{AreSorted, Entry, lent, pieces_of}
+use Rattle.packed_catalog.specs.CatalogBytes.{AreSorted, Entry, lent_entries, pieces_of}
 use Rattle.packed_catalog.specs.declared.entry.CatalogEntry.{CatalogEntry}
 use Rattle.packed_catalog.specs.CatalogFaults.{IsFirstLow}
 use Rattle.packed_catalog.specs.declared.error.PackCatalogError.{PackCatalogError}
@@ -26,7 +26,7 @@ use Rattle.message_catalog.specs.declared.error.TextFault.TheVariants as text
 use Rattle.message_catalog.specs.declared.error.PackMessagesError.{PackMessagesError}
 use Rattle.message_catalog.specs.declared.error.PackMessagesError.TheVariants as packing
 use Rattle.message_catalog.specs.MessagePacking.{ArePacked, AreWithoutFault, HasEntriesFault, HasPackingFault, HasTextFault, HaveNoFault}
-use Rattle.message_catalog.specs.MessagePacking.{IsErrUnlessMemory, IsPackedText, IsUnpackable, KeyedText, TellsFault, text_view}
+use Rattle.message_catalog.specs.MessagePacking.{IsErrUnlessMemory, IsPackedText, IsUnpackable, KeyedText, TellsFault, keyed_text_view}
 use Rattle.message_catalog.specs.MessagePacking.{texts_view}
 use Rattle.message_catalog.specs.Inner.PackedViews.{IsThis, TellsFirst, TellsText, catalog_error, packed_view, parts_error, text_error}
 use Rattle.message_catalog.specs.declared.packing.PackedMessage.{PackedMessage}
@@ -67,7 +67,7 @@ pub record TellsParts {A : Type 0} (r : Result A PackPatternError) (ps : List Pa
       ↔ ((length ps ≤ 65535) × (first_unpackable 0 ps ≡ None) × (first_misplaced 0 before_all ps ≡ Some place))
   pub start_limit : (r ≡ Err parts.StartLimit)
       ↔ ((length ps ≤ 65535) × (first_unpackable 0 ps ≡ None) × (first_misplaced 0 before_all ps ≡ None)
-      × IsTrue (has_high_start (items_of ps)))
+      × IsTrue (has_high_start (part_items_of ps)))
 
 pub parts_refused : {A : Type 0} → (r : Result A PackPatternError) (ps : List Part) → TellsParts r ps
     → (error : PackPatternError) → r ≡ Err error → (error ≡ parts.Memory) ⊎ IsUnpackable ps error
@@ -86,11 +86,11 @@ parts_exact r ps told parts.StartLimit h = told.start_limit.1 h
 parts_exact r ps told parts.Memory h = absurd h
 
 -- the error of a text that isn't a pattern
-pub text_told : (index : ℕ) (bytes : List ℕ) (error : PatternError) → IsFaultOf bytes error → TellsText index bytes (text_error index error)
+pub text_told : (index : ℕ) (bytes : List ℕ) (error : PatternError) → IsPatternFault bytes error → TellsText index bytes (text_error index error)
 text_told index bytes (reading.Fault kind place) h = inr (text.Text kind place, refl, h)
 text_told index bytes reading.Memory h = inl refl
 
-pub text_exact : AreReadOneWay → (index : ℕ) (bytes : List ℕ) (error : PatternError) → IsFaultOf bytes error
+pub text_exact : AreReadOneWay → (index : ℕ) (bytes : List ℕ) (error : PatternError) → IsPatternFault bytes error
     → (fault : TextFault) → HasTextFault bytes fault → IsThis (text_error index error) (packing.Message index fault)
 text_exact law index bytes (reading.Fault kind place) h fault g =
     inl (ap (packing.Message index) (one_text_fault law bytes kind place h fault g))
@@ -126,33 +126,33 @@ parts_are_exact law index bytes ps parts.Memory read told fault h = inr refl
 
 -- ---- entries
 
-length-lent : (lending : List CatalogEntry) → length (lent lending) ≡ length lending
+length-lent : (lending : List CatalogEntry) → length (lent_entries lending) ≡ length lending
 length-lent [] = refl
 length-lent (entry ∷ lending) = ap suc (length-lent lending)
 
 -- what the clauses of packed_catalog::pack say of a result
 pub record TellsEntries {A : Type 0} (r : Result A PackCatalogError) (lending : List CatalogEntry) : Type 0 where
   pub too_many : (r ≡ Err catalog.TooMany) ↔ (2 ^ 32 ≤ length lending)
-  pub order : (index : ℕ) → (r ≡ Err (catalog.Order index)) ↔ ((length lending < 2 ^ 32) × IsFirstLow (lent lending) index)
+  pub order : (index : ℕ) → (r ≡ Err (catalog.Order index)) ↔ ((length lending < 2 ^ 32) × IsFirstLow (lent_entries lending) index)
   pub too_long : (r ≡ Err catalog.TooLong)
-      ↔ ((length lending < 2 ^ 32) × AreSorted (lent lending) × (2 ^ 32 ≤ length (concat (pieces_of (lent lending)))))
+      ↔ ((length lending < 2 ^ 32) × AreSorted (lent_entries lending) × (2 ^ 32 ≤ length (concat (pieces_of (lent_entries lending)))))
 
--- few entries, and few that are lent
-few : (lending : List CatalogEntry) → length lending < 2 ^ 32 → length (lent lending) < 2 ^ 32
+-- few entries, and few that are lent_entries
+few : (lending : List CatalogEntry) → length lending < 2 ^ 32 → length (lent_entries lending) < 2 ^ 32
 few lending h = subst (λ n. n < 2 ^ 32) (sym (length-lent lending)) h
 
-few_lent : (lending : List CatalogEntry) → length (lent lending) < 2 ^ 32 → length lending < 2 ^ 32
+few_lent : (lending : List CatalogEntry) → length (lent_entries lending) < 2 ^ 32 → length lending < 2 ^ 32
 few_lent lending h = subst (λ n. n < 2 ^ 32) (length-lent lending) h
 
 pub entries_refused : {A : Type 0} → (r : Result A PackCatalogError) (lending : List CatalogEntry) → TellsEntries r lending
-    → (error : PackCatalogError) → r ≡ Err error → (error ≡ catalog.Memory) ⊎ HasEntriesFault (lent lending) error
+    → (error : PackCatalogError) → r ≡ Err error → (error ≡ catalog.Memory) ⊎ HasEntriesFault (lent_entries lending) error
 entries_refused r lending told catalog.TooMany h = inr (subst (λ n. 2 ^ 32 ≤ n) (sym (length-lent lending)) (told.too_many.0 h))
 entries_refused r lending told (catalog.Order index) h = let t = (told.order index).0 h in inr (few lending t.0, t.1)
 entries_refused r lending told catalog.TooLong h = let t = told.too_long.0 h in inr (few lending t.0, t.1, t.2)
 entries_refused r lending told catalog.Memory h = inl refl
 
 pub entries_exact : {A : Type 0} → (r : Result A PackCatalogError) (lending : List CatalogEntry) → TellsEntries r lending
-    → (error : PackCatalogError) → HasEntriesFault (lent lending) error → r ≡ Err error
+    → (error : PackCatalogError) → HasEntriesFault (lent_entries lending) error → r ≡ Err error
 entries_exact r lending told catalog.TooMany h = told.too_many.1 (subst (λ n. 2 ^ 32 ≤ n) (length-lent lending) h)
 entries_exact r lending told (catalog.Order index) h = (told.order index).1 (few_lent lending h.0, h.1)
 entries_exact r lending told catalog.TooLong h = told.too_long.1 (few_lent lending h.0, h.1, h.2)
@@ -239,8 +239,8 @@ catalog_exact catalog.Memory other h = inr refl
 
 -- the text at a place
 pub text_there : (messages : List MessageText) (k : ℕ) (d : MessageText) → k < length messages
-    → slice_get (texts_view messages) k ≡ Some (text_view (get_or messages k d))
-text_there messages k d l = slice_get-map text_view messages k ∙ ap (option_map text_view) (slice_get-get_or messages k d l)
+    → slice_get (texts_view messages) k ≡ Some (keyed_text_view (get_or messages k d))
+text_there messages k d l = slice_get-map keyed_text_view messages k ∙ ap (option_map keyed_text_view) (slice_get-get_or messages k d l)
 
 -- one text more has no fault
 pub good_more : (messages : List MessageText) (k : ℕ) (d : MessageText) → k < length messages
@@ -250,9 +250,9 @@ good_more messages k d l good none i keyed within there fault h = elim (cases_lt
   | inl before ↦ good i keyed before there fault h
   | inr after ↦
       let place : i ≡ k = omega arith in
-      let both : Some (text_view (get_or messages k d)) ≡ Some keyed =
+      let both : Some (keyed_text_view (get_or messages k d)) ≡ Some keyed =
       sym (text_there messages k d l) ∙ ap (slice_get (texts_view messages)) (sym place) ∙ there in
-      let same : text_view (get_or messages k d) ≡ keyed = cc in
+      let same : keyed_text_view (get_or messages k d) ≡ keyed = cc in
       none fault (subst (λ (t : KeyedText). HasTextFault t.text fault) (sym same) h)
 ]
 
@@ -268,7 +268,7 @@ pub pushed : (messages : List MessageText) (k : ℕ) (d : MessageText) (old new 
     → ((rest : List Entry) → ArePacked (drop k (texts_view messages)) rest → ArePacked (texts_view messages) (packed_view old ++ rest))
     → (rest : List Entry) → ArePacked (drop (k + 1) (texts_view messages)) rest → ArePacked (texts_view messages) (packed_view new ++ rest)
 pushed messages k d old new x l is one key behind rest h =
-    let keyed = text_view (get_or messages k d) in
+    let keyed = keyed_text_view (get_or messages k d) in
     let more = behind_more (texts_view messages) k keyed x.block.items (packed_view old) (text_there messages k d l) one behind rest h in
     let entry : List ℕ → Entry = λ (bytes : List ℕ). record { key = bytes; value = x.block.items } in
     let view : packed_view new ≡ packed_view old ++ entry keyed.key ∷ [] =

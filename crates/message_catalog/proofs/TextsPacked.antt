@@ -8,7 +8,7 @@ use Rattle.message_pattern.specs.PatternAnswers.{AreReadOneWay}
 use Rattle.message_pattern.specs.PatternParts.{Part}
 use Rattle.packed_catalog.specs.CatalogBytes.{CatalogBytes, Entry}
 use Rattle.message_catalog.specs.CatalogMessages.{HoldMessages, Message}
-use Rattle.message_catalog.specs.MessagePacking.{ArePacked, AreRead, IsPackedText, IsRead, KeyedText, PacksTo}
+use Rattle.message_catalog.specs.MessagePacking.{ArePacked, AreRead, IsPackedText, IsReadMessage, KeyedText, PacksTo}
 use Rattle.message_catalog.proofs.HeldMessages.{HaveOneBlock, same_entries}
 
 -- one text more is packed
@@ -36,7 +36,7 @@ packs_to texts entries bytes packed block = record {
 
 -- ---- texts are packed as the same entries
 
-same_message : AreReadOneWay → (keyed : KeyedText) (m n : Message) → IsRead keyed m → IsRead keyed n → m ≡ n
+same_message : AreReadOneWay → (keyed : KeyedText) (m n : Message) → IsReadMessage keyed m → IsReadMessage keyed n → m ≡ n
 same_message read keyed m n h g =
     let of_key : List ℕ → Message = λ key. record { key = key; parts = m.parts } in
     let of_parts : List Part → Message = λ parts. record { key = n.key; parts = parts } in

@@ -1,7 +1,7 @@
 -- What is wrong with bytes that aren't a catalogue of messages.
 use Rattle.std.specs.Prelude.{◌≡◌, ◌<◌, ℕ, List, Option, Some, option_map, slice_get}
 use Rattle.packed_catalog.specs.CatalogBytes.{CatalogBytes, Entry}
-use Rattle.packed_catalog.specs.CatalogFaults.{HasFault}
+use Rattle.packed_catalog.specs.CatalogFaults.{HasCatalogBytesFault}
 use Rattle.packed_pattern.specs.declared.error.BlockError.{BlockError}
 use Rattle.packed_pattern.specs.PatternBlocks.{HasBlockFault, IsPatternBlock}
 use Rattle.message_catalog.specs.declared.error.MessageCatalogError.{MessageCatalogError}
@@ -20,5 +20,5 @@ pub record IsFirstBad (entries : List Entry) (index : ℕ) (fault : BlockError) 
 
 -- bytes are refused with a fault: they aren't a packed catalogue, or it is that of an entry
 abbrev pub HasMessageFault : List ℕ → MessageCatalogError → Type 0
-HasMessageFault bytes (Catalog fault) = HasFault bytes fault
+HasMessageFault bytes (Catalog fault) = HasCatalogBytesFault bytes fault
 HasMessageFault bytes (Pattern index fault) = (entries : List Entry) × CatalogBytes entries bytes × IsFirstBad entries index fault

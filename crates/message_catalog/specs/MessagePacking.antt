@@ -5,7 +5,7 @@ use Rattle.message_pattern.specs.PatternParts.{Part}
 use Rattle.message_pattern.specs.PatternAnswers.{HasPatternFault, IsPattern}
 use Rattle.packed_list.specs.ListBytes.{has_high_start}
 use Rattle.packed_pattern.specs.PartOrder.{before_all, first_misplaced}
-use Rattle.packed_pattern.specs.PackedParts.{items_of}
+use Rattle.packed_pattern.specs.PackedParts.{part_items_of}
 use Rattle.packed_pattern.specs.PatternBlocks.{PatternBlock, first_unpackable}
 use Rattle.packed_pattern.specs.declared.error.PackPatternError.{PackPatternError}
 use Rattle.packed_pattern.specs.declared.error.PackPatternError.TheVariants as parts
@@ -25,23 +25,23 @@ pub record KeyedText : Type 0 where
   pub key : List ℕ
   pub text : List ℕ
 
-abbrev pub text_view : MessageText → KeyedText
-text_view message = record { key = message.key.now; text = message.text.now }
+abbrev pub keyed_text_view : MessageText → KeyedText
+keyed_text_view message = record { key = message.key.now; text = message.text.now }
 
 abbrev pub texts_view : List MessageText → List KeyedText
-texts_view messages = map text_view messages
+texts_view messages = map keyed_text_view messages
 
 -- ---- what is packed
 
 -- the message of a text: its key, and the parts that the text is read as
-pub record IsRead (keyed : KeyedText) (message : Message) : Type 0 where
+pub record IsReadMessage (keyed : KeyedText) (message : Message) : Type 0 where
   pub key : message.key ≡ keyed.key
   pub parts : IsPattern keyed.text message.parts
 
 -- the messages of texts, one by one
 abbrev pub AreRead : List KeyedText → List Message → Type 0
 AreRead [] [] = Unit {0}
-AreRead (keyed ∷ texts) (message ∷ messages) = IsRead keyed message × AreRead texts messages
+AreRead (keyed ∷ texts) (message ∷ messages) = IsReadMessage keyed message × AreRead texts messages
 AreRead _ _ = ⊥
 
 -- the bytes are a catalogue of the messages of texts
@@ -70,7 +70,7 @@ IsUnpackable ps parts.CountLimit = 65535 < length ps
 IsUnpackable ps (parts.Part place) = (length ps ≤ 65535) × (first_unpackable 0 ps ≡ Some place)
 IsUnpackable ps (parts.Order place) = (length ps ≤ 65535) × (first_unpackable 0 ps ≡ None) × (first_misplaced 0 before_all ps ≡ Some place)
 IsUnpackable ps parts.StartLimit =
-    (length ps ≤ 65535) × (first_unpackable 0 ps ≡ None) × (first_misplaced 0 before_all ps ≡ None) × IsTrue (has_high_start (items_of ps))
+    (length ps ≤ 65535) × (first_unpackable 0 ps ≡ None) × (first_misplaced 0 before_all ps ≡ None) × IsTrue (has_high_start (part_items_of ps))
 IsUnpackable ps parts.Memory = ⊥
 
 -- why a text isn't packed: it isn't a pattern, or its parts aren't packed

@@ -1,9 +1,9 @@
 -- The texts that the errors print.
 use Rattle.std.specs.Prelude.{ℕ, List, ◌++◌, codes}
 use Rattle.std.specs.Fmt.{decimal}
-use Rattle.message_pattern.specs.PatternAnswers.{fault_kind_text}
+use Rattle.message_pattern.specs.PatternAnswers.{pattern_fault_text}
 use Rattle.message_format.specs.FormatMeaning.{format_error_text}
-use Rattle.packed_catalog.specs.CatalogTexts.{catalog_error_text, pack_catalog_error_text}
+use Rattle.packed_catalog.specs.CatalogFaults.{catalog_error_text, pack_catalog_error_text}
 use Rattle.packed_pattern.specs.PatternBlocks.{block_error_text, pack_pattern_error_text}
 use Rattle.message_catalog.specs.declared.error.MessageCatalogError.{MessageCatalogError}
 use Rattle.message_catalog.specs.declared.error.MessageCatalogError.TheVariants as errors
@@ -26,7 +26,7 @@ say_error_text (saying.Format error) = format_error_text error
 
 -- what is wrong with the text of a pattern
 abbrev pub text_fault_text : TextFault → List ℕ
-text_fault_text (fault.Text kind place) = fault_kind_text kind ++ codes " at byte " ++ decimal place
+text_fault_text (fault.Text kind place) = pattern_fault_text kind ++ codes " at byte " ++ decimal place
 text_fault_text (fault.Pattern error) = pack_pattern_error_text error
 
 -- why messages can't be packed

@@ -2,7 +2,7 @@
 
 ghost use Rattle.std.specs.Prelude.{◌≡◌, ◌↔◌, ◌==◌, List, length, slice_get, option_map, IfOk, Ok, Err, Some, None};
 ghost use Rattle.message_pattern.specs.PatternParts.{Part as SpecPart};
-ghost use Rattle.message_format.specs.FormatArguments.{arguments_view};
+ghost use Rattle.message_format.specs.FormatArguments.{named_values_view};
 ghost use Rattle.message_format.specs.FormatMeaning.{SaysExactly};
 ghost use Rattle.message_format.specs.Inner.FormatViews.{two_rules};
 ghost use Rattle.message_catalog.specs.CatalogMessages.{Message, MessageBlock, parts_under, said_of};
@@ -115,7 +115,7 @@ impl<'a> MessageCatalog<'a> {
     ) -> Result<Vec<u8>, SayError<'a>>
         ensures no_key { (result ≡ Err SayError.NoKey) ↔ (parts_under key.now self.now ≡ None) }
         ensures says { (parts : List SpecPart) → parts_under key.now self.now ≡ Some parts
-            → SaysExactly (arguments_view arguments.now) (two_rules rules.now) parts (said_of result) }
+            → SaysExactly (named_values_view arguments.now) (two_rules rules.now) parts (said_of result) }
     {
         let Some(pattern) = self.pattern(key) else {
             return Err(SayError::NoKey);

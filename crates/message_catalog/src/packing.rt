@@ -1,7 +1,7 @@
 //! Packs messages.
 
 ghost use Rattle.std.specs.Prelude.{◌≡◌, IfErr, IfOk};
-ghost use Rattle.packed_catalog.specs.CatalogBytes.{lent};
+ghost use Rattle.packed_catalog.specs.CatalogBytes.{lent_entries};
 ghost use Rattle.message_catalog.specs.MessagePacking.{ArePacked, AreWithoutFault, HasPackingFault, HasTextFault, IsErrUnlessMemory, IsPackedText, PacksTo, TellsFault, texts_view};
 ghost use Rattle.message_catalog.specs.Inner.PackedViews.{IsThis, TellsFirst, TellsText, catalog_error, packed_view, parts_error, text_error};
 
@@ -124,7 +124,7 @@ fn entries_of<'s>(
     alloc: Global,
     packed: &'s [PackedMessage<'s>],
 ) -> Result<Vec<CatalogEntry<'s>>, AllocError>
-    ensures { IfOk result (λ entries. lent entries.items ≡ packed_view packed.now) }
+    ensures { IfOk result (λ entries. lent_entries entries.items ≡ packed_view packed.now) }
 {
     let mut entries = Vec::with_capacity(alloc, packed.len())?;
     for message in packed {

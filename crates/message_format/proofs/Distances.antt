@@ -12,7 +12,7 @@ use Rattle.fixed_decimal.specs.declared.decimal.Decimal.{Decimal}
 use Rattle.fixed_decimal.specs.declared.sign.Sign.{Sign}
 use Rattle.fixed_decimal.specs.declared.sign.Sign.TheVariants as sign
 use Rattle.message_format.specs.FormatOffsets.{units, signed, IsSignOf, IsDifference}
-use Rattle.message_format.specs.Inner.FormatColumns.{IsBorrowed, IsSum, sign_when, most_fraction, IsDistance, number_of}
+use Rattle.message_format.specs.Inner.FormatColumns.{IsBorrowed, IsSum, sign_when, most_fraction, IsDistance, decimal_of_digits}
 use Rattle.message_format.proofs.Columns.{digits_take, digits_drop, value_below, value_behind_zeros}
 
 -- digits between zeros, up to a count of columns
@@ -215,10 +215,10 @@ pub is_difference : (x : Decimal) (o : Places) (below negative : Bool) (ds short
     → value_of short ≡ value_of ds → AreDigits short
     → most_fraction x o + 1 ≤ length short → (get_or short 0 0 ≡ 0 → length short ≡ most_fraction x o + 1)
     → IsTrue negative ↔ (IsTrue below × (0 < value_of short))
-    → IsDifference x o (number_of negative (most_fraction x o) short)
+    → IsDifference x o (decimal_of_digits negative (most_fraction x o) short)
 is_difference x o below negative ds short h same digits least shortest is =
     let f = most_fraction x o in
-    let d = number_of negative f short in
+    let d = decimal_of_digits negative f short in
     let places : length d.absolute.fraction ≡ f = length-drop (length short - f) short ∙ omega arith in
     let whole : length d.absolute.whole ≡ length short - f = length-take-le (length short - f) short (omega arith) in
     let all : units (length d.absolute.fraction) d.absolute ≡ value_of short
@@ -247,9 +247,9 @@ is_difference x o below negative ds short h same digits least shortest is =
 pub is_difference_at : (x : Decimal) (o : Places) (below negative : Bool) (ds short : List ℕ) (f : ℕ) → f ≡ most_fraction x o
     → IsDistance x o below ds
     → value_of short ≡ value_of ds → AreDigits short → f + 1 ≤ length short → (get_or short 0 0 ≡ 0 → length short ≡ f + 1)
-    → IsTrue negative ↔ (IsTrue below × (0 < value_of short)) → IsDifference x o (number_of negative f short)
+    → IsTrue negative ↔ (IsTrue below × (0 < value_of short)) → IsDifference x o (decimal_of_digits negative f short)
 is_difference_at x o below negative ds short f e h same digits least shortest is =
-    subst (λ (n : ℕ). IsDifference x o (number_of negative n short)) (sym e)
+    subst (λ (n : ℕ). IsDifference x o (decimal_of_digits negative n short)) (sym e)
     (is_difference x o below negative ds short h same digits (subst (λ (n : ℕ). n + 1 ≤ length short) e least)
     (λ z. shortest z ∙ ap (λ (n : ℕ). n + 1) e) is)
 

@@ -17,7 +17,7 @@ use Rattle.message_format.specs.declared.error.FormatError.{FormatError}
 use Rattle.message_format.specs.declared.error.FormatError.TheVariants as error
 use Rattle.message_format.specs.FormatSteps.{Step, Chooses, Fails, StepsFromNumber, IsCounted}
 use Rattle.message_format.specs.Inner.FormatViews.{GivesFault, fault_step, number_step}
-use Rattle.message_format.specs.FormatParts.{IsFirst}
+use Rattle.message_format.specs.FormatParts.{IsFirstChosen}
 use Rattle.message_format.proofs.Passes.{of_value}
 
 -- where it doesn't, the answer is false
@@ -78,7 +78,7 @@ counted_by rules name bs text shown x parts w l e h same =
 -- a number that no branch has the value of is counted by a category
 pub by_category : (rules : FiveRules) (x less : CompactNumber) (bs : List Branching) (word : List ℕ) (category : PluralCategory)
     (parts : List Part)
-    → IsFirst (λ s. Equals x s) bs None → IsCategory rules less category → word ≡ name_of category → parts ≡ branch_or_other word bs
+    → IsFirstChosen (λ s. Equals x s) bs None → IsCategory rules less category → word ≡ name_of category → parts ≡ branch_or_other word bs
     → IsBranchOfNumber rules x less bs parts
 by_category rules x less bs word category parts none is named chosen =
     inr (of_value x bs None none, (category, is, subst (λ (t : List ℕ). parts ≡ branch_or_other t bs) named chosen))
@@ -87,7 +87,7 @@ by_category rules x less bs word category parts none is named chosen =
 pub counted_by_text : (rules : FiveRules) (name : List ℕ) (bs : List Branching) (text shown word : List ℕ) (category : PluralCategory)
     (parts : List Part)
     → IsTextChoice rules text category → word ≡ name_of category
-    → ((x : CompactNumber) → WritesCompact text x → IsFirst (λ s. Equals x s) bs None) → parts ≡ branch_or_other word bs → shown ≡ text
+    → ((x : CompactNumber) → WritesCompact text x → IsFirstChosen (λ s. Equals x s) bs None) → parts ≡ branch_or_other word bs → shown ≡ text
     → IsCounted rules name bs text (Chooses shown parts)
 counted_by_text rules name bs text shown word category parts choice named none chosen same =
     let x = choice.0 in

@@ -20,8 +20,8 @@ use Rattle.message_format.specs.FormatArguments as argument
 use Rattle.message_format.specs.FormatBranches.{behind_end, branch_or_other, IsBranchOfValue, HasBranchOfValue, IsBranchOfNumber}
 use Rattle.message_format.specs.FormatOffsets.{IsDifference, plain}
 use Rattle.message_format.specs.FormatSteps.{Step, Stops, Prints, Chooses, Fails, TwoRules, StepsFromNumber, IsCounted}
-use Rattle.message_format.specs.FormatSteps.{IsCountedBy, IsLess, IsCountedLess, IsPlural, IsChoice, IsStep}
-use Rattle.message_format.specs.FormatMeaning.{PatternOutcome, Said, Faulty, Says, ends, stops, prints, chooses, breaks, fails}
+use Rattle.message_format.specs.FormatSteps.{IsCountedBy, IsLess, IsCountedLess, IsPlural, IsChoice, IsPieceStep}
+use Rattle.message_format.specs.FormatMeaning.{PatternOutcome, Said, Faulty, MessageSays, ends, stops, prints, chooses, breaks, fails}
 use Rattle.message_format.proofs.OneDifference.{one_difference}
 
 -- a text writes one number
@@ -160,7 +160,7 @@ one_choice one rules hash Select name offset bs value s t h k = h ∙ sym k
 one_step : OneNumber
     → (arguments : List argument.Argument) (rules : TwoRules) (hash : List ℕ) (depth : ℕ) (piece : PatternPiece) (rest : List Part)
     (s t : Step)
-    → IsStep arguments rules hash depth piece rest s → IsStep arguments rules hash depth piece rest t → s ≡ t
+    → IsPieceStep arguments rules hash depth piece rest s → IsPieceStep arguments rules hash depth piece rest t → s ≡ t
 one_step one arguments rules hash depth (Text text) rest s t h k = h ∙ sym k
 one_step one arguments rules hash depth Hash rest s t h k = h ∙ sym k
 one_step one arguments rules hash depth (Argument name) rest s t h k = h ∙ sym k
@@ -173,20 +173,20 @@ one_step one arguments rules hash depth End rest s t h k = h ∙ sym k
 -- how a message goes on behind what its first part does
 abbrev pub GoesOn : List argument.Argument → TwoRules → List ℕ → List ℕ → Part → List Part → Step → PatternOutcome → Type 0
 GoesOn arguments rules hash before p rest Stops o = Said before ≡ o
-GoesOn arguments rules hash before p rest (Prints text) o = Says arguments rules hash (before ++ text) rest o
+GoesOn arguments rules hash before p rest (Prints text) o = MessageSays arguments rules hash (before ++ text) rest o
 GoesOn arguments rules hash before p rest (Chooses number branch) o =
-    ((said : List ℕ) × Says arguments rules number before branch (Said said) × Says arguments rules hash said (behind_end p.depth rest) o)
-    ⊎ ((fault : ArgumentFault) × (name : List ℕ) × Says arguments rules number before branch (Faulty fault name) × (Faulty fault name ≡ o))
+    ((said : List ℕ) × MessageSays arguments rules number before branch (Said said) × MessageSays arguments rules hash said (behind_end p.depth rest) o)
+    ⊎ ((fault : ArgumentFault) × (name : List ℕ) × MessageSays arguments rules number before branch (Faulty fault name) × (Faulty fault name ≡ o))
 GoesOn arguments rules hash before p rest (Fails fault name) o = Faulty fault name ≡ o
 
 -- how a message goes on
 abbrev pub Follows : List argument.Argument → TwoRules → List ℕ → List ℕ → List Part → PatternOutcome → Type 0
 Follows arguments rules hash before [] o = Said before ≡ o
 Follows arguments rules hash before (p ∷ rest) o =
-    (s : Step) × IsStep arguments rules hash p.depth p.piece rest s × GoesOn arguments rules hash before p rest s o
+    (s : Step) × IsPieceStep arguments rules hash p.depth p.piece rest s × GoesOn arguments rules hash before p rest s o
 
 follows : {arguments : List argument.Argument} {rules : TwoRules} {hash before : List ℕ} {parts : List Part} {o : PatternOutcome}
-    → Says arguments rules hash before parts o → Follows arguments rules hash before parts o
+    → MessageSays arguments rules hash before parts o → Follows arguments rules hash before parts o
 follows (ends hash before) = refl
 follows (stops hash before p rest h) = (Stops, h, refl)
 follows (prints hash before text p rest o h k) = (Prints text, h, k)
@@ -197,7 +197,7 @@ follows (fails hash before name p rest fault h) = (Fails fault name, h, refl)
 -- where the first part does this, the message goes on so
 goes_on : {arguments : List argument.Argument} {rules : TwoRules} {hash before : List ℕ} {rest : List Part} {o : PatternOutcome} → OneNumber
     → (p : Part) (s : Step)
-    → IsStep arguments rules hash p.depth p.piece rest s → Says arguments rules hash before (p ∷ rest) o
+    → IsPieceStep arguments rules hash p.depth p.piece rest s → MessageSays arguments rules hash before (p ∷ rest) o
     → GoesOn arguments rules hash before p rest s o
 goes_on {arguments = arguments} {rules = rules} {hash = hash} {before = before} {rest = rest} {o = o} one p s h other =
     let f = follows other in
@@ -206,13 +206,13 @@ goes_on {arguments = arguments} {rules = rules} {hash = hash} {before = before} 
 
 -- how a message goes on behind the branch that it chose
 abbrev pub Behind : List argument.Argument → TwoRules → List ℕ → ℕ → List Part → PatternOutcome → PatternOutcome → Type 0
-Behind arguments rules hash depth rest (Said said) o = Says arguments rules hash said (behind_end depth rest) o
+Behind arguments rules hash depth rest (Said said) o = MessageSays arguments rules hash said (behind_end depth rest) o
 Behind arguments rules hash depth rest (Faulty fault name) o = Faulty fault name ≡ o
 
 -- a message says one thing
 pub one_outcome : {arguments : List argument.Argument} {rules : TwoRules} {hash before : List ℕ} {parts : List Part} {a b : PatternOutcome}
     → OneNumber
-    → Says arguments rules hash before parts a → Says arguments rules hash before parts b → a ≡ b
+    → MessageSays arguments rules hash before parts a → MessageSays arguments rules hash before parts b → a ≡ b
 one_outcome one (ends hash before) other = follows other
 one_outcome one (stops hash before p rest h) other = goes_on one p Stops h other
 one_outcome one (prints hash before text p rest o h k) other = one_outcome one k (goes_on one p (Prints text) h other)

@@ -10,7 +10,7 @@ use Rattle.message_pattern.specs.declared.part.Piece.TheVariants as pieces
 use Rattle.message_pattern.specs.declared.part.Selector as selectors
 use Rattle.message_pattern.specs.PatternParts.{Part, Selector, parts_view, selector_view, Branching, branches_of}
 use Rattle.message_format.specs.FormatBranches.{Equals, IsBranchOfValue, behind_end, is_keyword, branch_of_keyword}
-use Rattle.message_format.specs.FormatParts.{IsFirst}
+use Rattle.message_format.specs.FormatParts.{IsFirstChosen}
 
 -- what stands for a part that isn't there
 abbrev pub no_part : parts.Part
@@ -39,18 +39,18 @@ branches_from depth p rest s h is =
 pub passed : (P : Selector → Type 0) (depth : ℕ) (ps : List parts.Part) (p : parts.Part) (rest : List parts.Part) (s : selectors.Selector)
     (found : Option (List Part))
     → ps ≡ p ∷ rest → p.depth ≤ depth → p.piece ≡ pieces.Branch s → (P (selector_view s) → ⊥)
-    → IsFirst P (branches_of depth (parts_view rest)) found → IsFirst P (branches_of depth (parts_view ps)) found
+    → IsFirstChosen P (branches_of depth (parts_view rest)) found → IsFirstChosen P (branches_of depth (parts_view ps)) found
 passed P depth ps p rest s found e h is other k =
-    subst (λ (l : List parts.Part). IsFirst P (branches_of depth (parts_view l)) found) (sym e)
-    (subst (λ (l : List Branching). IsFirst P l found) (sym (branches_from depth p rest s h is)) (inr (other, k)))
+    subst (λ (l : List parts.Part). IsFirstChosen P (branches_of depth (parts_view l)) found) (sym e)
+    (subst (λ (l : List Branching). IsFirstChosen P l found) (sym (branches_from depth p rest s h is)) (inr (other, k)))
 
 -- a branch that is chosen is the first
 pub taken : (P : Selector → Type 0) (depth : ℕ) (ps : List parts.Part) (p : parts.Part) (rest : List parts.Part) (s : selectors.Selector)
     → ps ≡ p ∷ rest → p.depth ≤ depth → p.piece ≡ pieces.Branch s → P (selector_view s)
-    → IsFirst P (branches_of depth (parts_view ps)) (Some (parts_view rest))
+    → IsFirstChosen P (branches_of depth (parts_view ps)) (Some (parts_view rest))
 taken P depth ps p rest s e h is same =
-    subst (λ (l : List parts.Part). IsFirst P (branches_of depth (parts_view l)) (Some (parts_view rest))) (sym e)
-    (subst (λ (l : List Branching). IsFirst P l (Some (parts_view rest))) (sym (branches_from depth p rest s h is)) (inl (same, refl)))
+    subst (λ (l : List parts.Part). IsFirstChosen P (branches_of depth (parts_view l)) (Some (parts_view rest))) (sym e)
+    (subst (λ (l : List Branching). IsFirstChosen P l (Some (parts_view rest))) (sym (branches_from depth p rest s h is)) (inl (same, refl)))
 
 -- the end of the argument isn't a branch
 pub behind_branch : (depth : ℕ) (ps : List parts.Part) (p : parts.Part) (rest : List parts.Part) (s : selectors.Selector)
@@ -61,7 +61,7 @@ behind_branch depth ps p rest s e h is =
 
 -- ---- the first branch that is chosen by a value, and by a keyword
 
-pub of_value : (x : CompactNumber) (bs : List Branching) (found : Option (List Part)) → IsFirst (λ s. Equals x s) bs found
+pub of_value : (x : CompactNumber) (bs : List Branching) (found : Option (List Part)) → IsFirstChosen (λ s. Equals x s) bs found
     → IsBranchOfValue x bs found
 of_value x [] found h = h
 of_value x (b ∷ bs) found (inl h) = inl h
@@ -71,7 +71,7 @@ not_true : (b : Bool) → (IsTrue b → ⊥) → b ≡ false
 not_true false h = refl
 not_true true h = absurd (h refl)
 
-pub of_keyword : (word : List ℕ) (bs : List Branching) (found : Option (List Part)) → IsFirst (λ s. IsTrue (is_keyword word s)) bs found
+pub of_keyword : (word : List ℕ) (bs : List Branching) (found : Option (List Part)) → IsFirstChosen (λ s. IsTrue (is_keyword word s)) bs found
     → found ≡ branch_of_keyword word bs
 of_keyword word [] found h = h
 of_keyword word (b ∷ bs) found (inl h) =

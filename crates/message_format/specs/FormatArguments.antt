@@ -28,5 +28,5 @@ value_view (value.Text text) = Text text.now
 abbrev pub named_value_view : arguments.Argument → Argument
 named_value_view a = record { name = a.name.now; value = value_view a.value }
 
-abbrev pub arguments_view : List arguments.Argument → List Argument
-arguments_view list = map named_value_view list
+abbrev pub named_values_view : List arguments.Argument → List Argument
+named_values_view list = map named_value_view list

@@ -4,7 +4,7 @@ use Rattle.message_pattern.specs.PatternParts.{Part}
 use Rattle.message_format.specs.declared.error.ArgumentFault.{ArgumentFault}
 use Rattle.message_format.specs.FormatArguments.{Argument}
 use Rattle.message_format.specs.FormatBranches.{behind_end}
-use Rattle.message_format.specs.FormatSteps.{TwoRules, Stops, Prints, Chooses, Fails, IsStep}
+use Rattle.message_format.specs.FormatSteps.{TwoRules, Stops, Prints, Chooses, Fails, IsPieceStep}
 use Rattle.message_format.specs.declared.error.ArgumentFault.TheVariants.{Missing, WrongKind, NotANumber, OverLimit, CompactOffset}
 use Rattle.message_format.specs.declared.error.FormatError.{FormatError}
 use Rattle.message_format.specs.declared.error.FormatError.TheVariants as format
@@ -20,26 +20,26 @@ pub data PatternOutcome : Type 0 where
 -- of the parts comes to the outcome. It ends before the next branch, before the end of its
 -- argument, or with the parts. The parts are formatted in their order, and of the branches of an
 -- argument only the one that is chosen; the first fault is the outcome.
-pub data Says (arguments : List Argument) (rules : TwoRules) : List ℕ → List ℕ → List Part → PatternOutcome → Type 0 where
-  ends : (hash before : List ℕ) → Says arguments rules hash before [] (Said before)
-  stops : (hash before : List ℕ) (p : Part) (rest : List Part) → IsStep arguments rules hash p.depth p.piece rest Stops
-      → Says arguments rules hash before (p ∷ rest) (Said before)
+pub data MessageSays (arguments : List Argument) (rules : TwoRules) : List ℕ → List ℕ → List Part → PatternOutcome → Type 0 where
+  ends : (hash before : List ℕ) → MessageSays arguments rules hash before [] (Said before)
+  stops : (hash before : List ℕ) (p : Part) (rest : List Part) → IsPieceStep arguments rules hash p.depth p.piece rest Stops
+      → MessageSays arguments rules hash before (p ∷ rest) (Said before)
   prints : (hash before text : List ℕ) (p : Part) (rest : List Part) (outcome : PatternOutcome)
-      → IsStep arguments rules hash p.depth p.piece rest (Prints text)
-      → Says arguments rules hash (before ++ text) rest outcome → Says arguments rules hash before (p ∷ rest) outcome
+      → IsPieceStep arguments rules hash p.depth p.piece rest (Prints text)
+      → MessageSays arguments rules hash (before ++ text) rest outcome → MessageSays arguments rules hash before (p ∷ rest) outcome
   chooses : (hash number before said : List ℕ) (p : Part) (rest branch : List Part) (outcome : PatternOutcome)
-      → IsStep arguments rules hash p.depth p.piece rest (Chooses number branch)
-      → Says arguments rules number before branch (Said said)
-      → Says arguments rules hash said (behind_end p.depth rest) outcome → Says arguments rules hash before (p ∷ rest) outcome
+      → IsPieceStep arguments rules hash p.depth p.piece rest (Chooses number branch)
+      → MessageSays arguments rules number before branch (Said said)
+      → MessageSays arguments rules hash said (behind_end p.depth rest) outcome → MessageSays arguments rules hash before (p ∷ rest) outcome
   breaks : (hash number before name : List ℕ) (p : Part) (rest branch : List Part) (fault : ArgumentFault)
-      → IsStep arguments rules hash p.depth p.piece rest (Chooses number branch)
-      → Says arguments rules number before branch (Faulty fault name) → Says arguments rules hash before (p ∷ rest) (Faulty fault name)
+      → IsPieceStep arguments rules hash p.depth p.piece rest (Chooses number branch)
+      → MessageSays arguments rules number before branch (Faulty fault name) → MessageSays arguments rules hash before (p ∷ rest) (Faulty fault name)
   fails : (hash before name : List ℕ) (p : Part) (rest : List Part) (fault : ArgumentFault)
-      → IsStep arguments rules hash p.depth p.piece rest (Fails fault name) → Says arguments rules hash before (p ∷ rest) (Faulty fault name)
+      → IsPieceStep arguments rules hash p.depth p.piece rest (Fails fault name) → MessageSays arguments rules hash before (p ∷ rest) (Faulty fault name)
 
 -- a whole pattern comes to the outcome: outside the branches of plurals there is no `#`
 abbrev pub PatternSays : List Argument → TwoRules → List Part → PatternOutcome → Type 0
-PatternSays arguments rules parts outcome = Says arguments rules [] [] parts outcome
+PatternSays arguments rules parts outcome = MessageSays arguments rules [] [] parts outcome
 
 -- The outcome is the one that the pattern comes to; and if there is none, memory ran out. What the
 -- pattern comes to is the outcome, unless memory ran out.

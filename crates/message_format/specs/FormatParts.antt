@@ -13,14 +13,14 @@ abbrev pub branches_at : List Part → List Branching
 branches_at ps = branches_of (first_depth ps) (drop 1 ps)
 
 -- an argument that chooses begins
-abbrev pub Begins : PatternPiece → Type 0
-Begins (Begin kind name offset) = Unit {0}
-Begins _ = ⊥
+abbrev pub BeginsChoice : PatternPiece → Type 0
+BeginsChoice (Begin kind name offset) = Unit {0}
+BeginsChoice _ = ⊥
 
 -- the first part begins one
-abbrev pub IsBegun : List Part → Type 0
-IsBegun [] = ⊥
-IsBegun (p ∷ ps) = Begins p.piece
+abbrev pub BeginWithChoice : List Part → Type 0
+BeginWithChoice [] = ⊥
+BeginWithChoice (p ∷ ps) = BeginsChoice p.piece
 
 -- Parts that are left of such an argument: behind its end stand the same as from its beginning on.
 -- They are no more than those behind the beginning.
@@ -34,6 +34,6 @@ AreWithin ps None = Unit {0}
 AreWithin ps (Some branch) = length branch ≤ length (drop 1 ps)
 
 -- the first branch whose selector is chosen, or none
-abbrev pub IsFirst : (Selector → Type 0) → List Branching → Option (List Part) → Type 0
-IsFirst IsChosen [] parts = parts ≡ None
-IsFirst IsChosen (b ∷ bs) parts = (IsChosen b.selector × (parts ≡ Some b.parts)) ⊎ ((IsChosen b.selector → ⊥) × IsFirst IsChosen bs parts)
+abbrev pub IsFirstChosen : (Selector → Type 0) → List Branching → Option (List Part) → Type 0
+IsFirstChosen IsChosen [] parts = parts ≡ None
+IsFirstChosen IsChosen (b ∷ bs) parts = (IsChosen b.selector × (parts ≡ Some b.parts)) ⊎ ((IsChosen b.selector → ⊥) × IsFirstChosen IsChosen bs parts)

@@ -95,11 +95,11 @@ IsChoice rules hash Ordinal name offset bs value step = IsPlural rules.ordinal n
 IsChoice rules hash Select name offset bs value step = step ≡ selected hash name bs value
 
 -- What a piece at a depth does, which these parts follow, where `#` is the first text.
-abbrev pub IsStep : List Argument → TwoRules → List ℕ → ℕ → PatternPiece → List Part → Step → Type 0
-IsStep arguments rules hash depth (piece.Text text) rest step = step ≡ Prints text
-IsStep arguments rules hash depth Hash rest step = step ≡ Prints hash
-IsStep arguments rules hash depth (piece.Argument name) rest step = step ≡ shown_value name (value_named name arguments)
-IsStep arguments rules hash depth (Begin kind name offset) rest step =
+abbrev pub IsPieceStep : List Argument → TwoRules → List ℕ → ℕ → PatternPiece → List Part → Step → Type 0
+IsPieceStep arguments rules hash depth (piece.Text text) rest step = step ≡ Prints text
+IsPieceStep arguments rules hash depth Hash rest step = step ≡ Prints hash
+IsPieceStep arguments rules hash depth (piece.Argument name) rest step = step ≡ shown_value name (value_named name arguments)
+IsPieceStep arguments rules hash depth (Begin kind name offset) rest step =
     IsChoice rules hash kind name offset (branches_of depth rest) (value_named name arguments) step
-IsStep arguments rules hash depth (Branch selector) rest step = step ≡ Stops
-IsStep arguments rules hash depth End rest step = step ≡ Stops
+IsPieceStep arguments rules hash depth (Branch selector) rest step = step ≡ Stops
+IsPieceStep arguments rules hash depth End rest step = step ≡ Stops

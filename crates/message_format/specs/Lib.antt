@@ -5,6 +5,5 @@ pub mod FormatBranches
 pub mod FormatParts
 pub mod FormatSteps
 pub mod FormatMeaning
-pub mod FormatWalk
 -- not definitions of the subject
 pub mod Inner

@@ -1,7 +1,7 @@
 //! The arguments of a message.
 
 ghost use Rattle.std.specs.Prelude.{◌≡◌};
-ghost use Rattle.message_format.specs.FormatArguments.{arguments_view, value_named};
+ghost use Rattle.message_format.specs.FormatArguments.{named_values_view, value_named};
 ghost use Rattle.message_format.specs.Inner.FormatViews.{any_value};
 
 /// What an argument is.
@@ -35,7 +35,7 @@ pub trait Arguments {
 }
 
 impl<'l, 'a> Arguments for &'l [Argument<'a>] {
-    ghost arguments = { λ list. arguments_view list.now };
+    ghost arguments = { λ list. named_values_view list.now };
 
     #[inline(always)]
     fn value<'s>(&'s self, name: &[u8]) -> Option<Value<'s>> {
@@ -45,7 +45,7 @@ impl<'l, 'a> Arguments for &'l [Argument<'a>] {
 
 // The value of the first argument that has the name.
 fn value_named<'a>(name: &[u8], arguments: &[Argument<'a>]) -> Option<Value<'a>>
-    ensures { any_value result ≡ value_named name.now (arguments_view arguments.now) }
+    ensures { any_value result ≡ value_named name.now (named_values_view arguments.now) }
 {
     let mut left = arguments;
     while let [first, rest @ ..] = left {

@@ -3,7 +3,7 @@
 ghost use Rattle.std.specs.Prelude.{◌↔◌, IsTrue, IfOk, option_map};
 ghost use Rattle.message_pattern.specs.PatternParts.{parts_view, branches_of};
 ghost use Rattle.message_format.specs.FormatBranches.{Equals, HasBranchOfValue, IsBranchOfNumber};
-ghost use Rattle.message_format.specs.FormatParts.{branches_at, AreLeftOf, AreWithin, IsFirst};
+ghost use Rattle.message_format.specs.FormatParts.{branches_at, AreLeftOf, AreWithin, IsFirstChosen};
 ghost use Rattle.message_format.specs.Inner.FormatViews.{IsWithin};
 
 use crate::numbers::Compared;
@@ -20,7 +20,7 @@ fn branch_of_value<'p, P: MessageParts<'p>>(
     number: &CompactDecimal,
     argument: P,
 ) -> Result<Seen<P>, AllocError>
-    ensures branch { IfOk result (λ seen. IsFirst (λ s. Equals number.now s) (branches_at (P.parts argument)) (option_map P.parts seen.branch)) }
+    ensures branch { IfOk result (λ seen. IsFirstChosen (λ s. Equals number.now s) (branches_at (P.parts argument)) (option_map P.parts seen.branch)) }
     ensures shorter { IfOk result (λ seen. AreWithin (P.parts argument) (option_map P.parts seen.branch)) }
     ensures left { IfOk result (λ seen. AreLeftOf (P.parts argument) (P.parts seen.left)) }
 {

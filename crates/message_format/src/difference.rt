@@ -7,7 +7,7 @@ ghost use Rattle.fixed_decimal.specs.Shown.{fraction_text, decimal_text};
 ghost use Rattle.fixed_decimal.specs.Written.{sign_text};
 ghost use Rattle.fixed_decimal.specs.declared.decimal.Decimal.{Decimal as SignedNumber};
 ghost use Rattle.message_format.specs.FormatOffsets.{IsDifference};
-ghost use Rattle.message_format.specs.Inner.FormatColumns.{behind_zeros, lined, IsBorrowed, IsSum, IsDistance, sign_when, number_of};
+ghost use Rattle.message_format.specs.Inner.FormatColumns.{behind_zeros, lined, IsBorrowed, IsSum, IsDistance, sign_when, decimal_of_digits};
 
 use fixed_decimal::{Decimal, Sign, UnsignedDecimal};
 use std::alloc::{AllocError, Global};
@@ -226,7 +226,7 @@ fn text_of_number(
 ) -> Result<Vec<u8>, AllocError>
     requires digits { AreDigits digits.now }
     requires fraction { fraction ≤ length digits.now }
-    ensures { IfOk result (λ text. text.items ≡ decimal_text (number_of negative fraction digits.now)) }
+    ensures { IfOk result (λ text. text.items ≡ decimal_text (decimal_of_digits negative fraction digits.now)) }
 {
     let (whole, rest) = digits.split_at(digits.len() - fraction);
     let mut text = Vec::new(alloc);

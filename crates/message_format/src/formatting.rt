@@ -1,6 +1,6 @@
 //! What a pattern says.
 
-ghost use Rattle.message_format.specs.FormatArguments.{arguments_view};
+ghost use Rattle.message_format.specs.FormatArguments.{named_values_view};
 ghost use Rattle.message_format.specs.FormatMeaning.{SaysExactly};
 ghost use Rattle.message_format.specs.Inner.FormatViews.{outcome_of, two_rules};
 
@@ -35,7 +35,7 @@ pub fn format<'p>(
     arguments: &[Argument<'_>],
     rules: &Rules<'_, '_>,
 ) -> Result<Vec<u8>, FormatError<'p>>
-    ensures { SaysExactly (arguments_view arguments.now) (two_rules rules.now) pattern.now (outcome_of result) }
+    ensures { SaysExactly (named_values_view arguments.now) (two_rules rules.now) pattern.now (outcome_of result) }
 {
     // A text writes one number at most, so it has one category.
     texts_write_one_number();

@@ -43,7 +43,8 @@ fn counted_by<'s, 'p, R: TextRules, P: MessageParts<'p>>(
 ) -> Result<(Shown<'s>, Found<P>), FormatError<'p>>
     requires number { IsWithinLimit number.now.significand.absolute }
     requires offset { IsWithinLimit offset.now }
-    ensures step { GivesStep P.parts (λ step. (less : SignedNumber) × IsDifference number.now.significand offset.now less × IsCountedBy (R.rules rules.now) name.now (branches_at (P.parts argument)) number.now less step) result }
+    ensures step { GivesStep P.parts (λ step. (less : SignedNumber) × IsDifference number.now.significand offset.now less
+        × IsCountedBy (R.rules rules.now) name.now (branches_at (P.parts argument)) number.now less step) result }
     ensures within { ChoosesWithin P.parts (P.parts argument) result }
 {
     numbers_are_read_again();

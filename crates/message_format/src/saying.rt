@@ -47,7 +47,8 @@ pub trait MessageSteps: Copy {
         hash: &'s [u8],
         said: &mut W,
     ) -> Result<Option<Next<'s, Self>>, Self::Fault>
-        ensures said { (before : List ℕ) → W.IsSaid said.old before → StepsTo parts error (A.arguments arguments.now) (both (R.rules cardinal.now) (R.rules ordinal.now)) hash.now (parts self) before (W.IsSaid said.new) result }
+        ensures said { (before : List ℕ) → W.IsSaid said.old before → StepsTo parts error (A.arguments arguments.now)
+            (both (R.rules cardinal.now) (R.rules ordinal.now)) hash.now (parts self) before (W.IsSaid said.new) result }
         ensures fewer { AreFewer parts (parts self) result };
 }
 
@@ -62,7 +63,8 @@ pub fn step_of<'s, 'p, R: TextRules, A: Arguments, P: MessageParts<'p>, W: Sink>
     hash: &'s [u8],
     said: &mut W,
 ) -> Result<Option<Next<'s, P>>, FormatError<'p>>
-    ensures said { (before : List ℕ) → W.IsSaid said.old before → StepsTo P.parts (λ f. f) (A.arguments arguments.now) (both (R.rules cardinal.now) (R.rules ordinal.now)) hash.now (P.parts parts) before (W.IsSaid said.new) result }
+    ensures said { (before : List ℕ) → W.IsSaid said.old before → StepsTo P.parts (λ f. f) (A.arguments arguments.now)
+        (both (R.rules cardinal.now) (R.rules ordinal.now)) hash.now (P.parts parts) before (W.IsSaid said.new) result }
     ensures fewer { AreFewer P.parts (P.parts parts) result }
 {
     let Some(found) = parts.first() else {
@@ -136,7 +138,8 @@ pub fn say<'s, R: TextRules, A: Arguments, S: MessageSteps, W: Sink>(
     parts: S,
     said: &mut W,
 ) -> Result<(), S::Fault>
-    ensures { (before : List ℕ) → W.IsSaid said.old before → GivesOutcome S.error (A.arguments arguments.now) (both (R.rules cardinal.now) (R.rules ordinal.now)) hash.now (S.parts parts) before (W.IsSaid said.new) result }
+    ensures { (before : List ℕ) → W.IsSaid said.old before → GivesOutcome S.error (A.arguments arguments.now)
+        (both (R.rules cardinal.now) (R.rules ordinal.now)) hash.now (S.parts parts) before (W.IsSaid said.new) result }
 {
     let mut left = parts;
     'parts: while let Some(next) = left.step(alloc, arguments, cardinal, ordinal, hash, said)? {

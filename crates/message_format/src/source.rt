@@ -4,7 +4,7 @@ ghost use Rattle.std.specs.Prelude.{◌≡◌, ◌≤◌, ◌↔◌, ◌∷◌, 
 ghost use Rattle.plural_base.specs.Categories.{name_of};
 ghost use Rattle.message_pattern.specs.PatternParts.{Selector as SpecSelector, Keyword, part_view, selector_view};
 ghost use Rattle.message_format.specs.FormatBranches.{behind_end, branch_or_other};
-ghost use Rattle.message_format.specs.FormatParts.{branches_at, first_depth, AreLeftOf, AreWithin, IsBegun, IsFirst};
+ghost use Rattle.message_format.specs.FormatParts.{branches_at, first_depth, AreLeftOf, AreWithin, BeginWithChoice, IsFirstChosen};
 
 use message_pattern::{Part, Selector};
 use plural_base::PluralCategory;
@@ -71,14 +71,14 @@ pub trait MessageParts<'p>: Copy {
     fn first_chosen<C: Chooser>(self, chooser: &C) -> Result<Seen<Self>, C::Stop>
         requires ready { C.IsReady chooser.now }
         requires numbers { (word : List ℕ) → C.IsChosen chooser.now (Keyword word) → ⊥ }
-        ensures first { IfOk result (λ seen. IsFirst (C.IsChosen chooser.now) (branches_at (parts self)) (option_map parts seen.branch)) }
+        ensures first { IfOk result (λ seen. IsFirstChosen (C.IsChosen chooser.now) (branches_at (parts self)) (option_map parts seen.branch)) }
         ensures shorter { IfOk result (λ seen. AreWithin (parts self) (option_map parts seen.branch)) }
         ensures left { IfOk result (λ seen. AreLeftOf (parts self) (parts seen.left)) };
 
     /// Returns the parts behind the end of the argument that the first part begins, of which parts
     /// are left.
     fn behind(self, left: Self) -> Self
-        requires begun { IsBegun (parts self) }
+        requires begun { BeginWithChoice (parts self) }
         requires left { AreLeftOf (parts self) (parts left) }
         ensures end { parts result ≡ behind_end (first_depth (parts self)) (drop 1 (parts self)) }
         ensures fewer { length (parts result) ≤ length (drop 1 (parts self)) };

@@ -4,7 +4,7 @@ ghost use Rattle.std.specs.Prelude.{◌≡◌, None};
 ghost use Rattle.fixed_decimal.specs.Written.{CompactNumber, WritesCompact};
 ghost use Rattle.message_pattern.specs.PatternParts.{offset_view};
 ghost use Rattle.message_format.specs.FormatBranches.{Equals};
-ghost use Rattle.message_format.specs.FormatParts.{branches_at, AreLeftOf, IsFirst};
+ghost use Rattle.message_format.specs.FormatParts.{branches_at, AreLeftOf, IsFirstChosen};
 ghost use Rattle.message_format.specs.FormatSteps.{both, shown_value, selected, IsCounted, IsPlural, IsChoice};
 ghost use Rattle.message_format.specs.Inner.FormatViews.{any_value, GivesStep, GivesText, ChoosesWithin};
 
@@ -99,7 +99,7 @@ fn counted_by_category<'s, 'p, R: TextRules, P: MessageParts<'p>>(
     left: P,
     text: &'s str,
 ) -> Result<(Shown<'s>, Found<P>), FormatError<'p>>
-    requires none { (x : CompactNumber) → WritesCompact text.now x → IsFirst (λ s. Equals x s) (branches_at (P.parts argument)) None }
+    requires none { (x : CompactNumber) → WritesCompact text.now x → IsFirstChosen (λ s. Equals x s) (branches_at (P.parts argument)) None }
     requires left { AreLeftOf (P.parts argument) (P.parts left) }
     ensures step { GivesStep P.parts (λ step. IsCounted (R.rules rules.now) name.now (branches_at (P.parts argument)) text.now step) result }
     ensures within { ChoosesWithin P.parts (P.parts argument) result }
@@ -152,7 +152,8 @@ fn plural<'s, 'p, R: TextRules, P: MessageParts<'p>>(
     argument: P,
     value: Option<Value<'s>>,
 ) -> Result<(Shown<'s>, Found<P>), FormatError<'p>>
-    ensures step { GivesStep P.parts (λ step. IsPlural (R.rules rules.now) name.now (offset_view offset.entry) (branches_at (P.parts argument)) (any_value value.entry) step) result }
+    ensures step { GivesStep P.parts
+        (λ step. IsPlural (R.rules rules.now) name.now (offset_view offset.entry) (branches_at (P.parts argument)) (any_value value.entry) step) result }
     ensures within { ChoosesWithin P.parts (P.parts argument) result }
 {
     match value {
@@ -178,7 +179,8 @@ pub(crate) fn chosen<'s, 'p, R: TextRules, P: MessageParts<'p>>(
     argument: P,
     value: Option<Value<'s>>,
 ) -> Result<(Shown<'s>, Found<P>), FormatError<'p>>
-    ensures step { GivesStep P.parts (λ step. IsChoice (both (R.rules cardinal.now) (R.rules ordinal.now)) hash.now kind name.now (offset_view offset.entry) (branches_at (P.parts argument)) (any_value value.entry) step) result }
+    ensures step { GivesStep P.parts (λ step. IsChoice (both (R.rules cardinal.now) (R.rules ordinal.now)) hash.now kind name.now
+        (offset_view offset.entry) (branches_at (P.parts argument)) (any_value value.entry) step) result }
     ensures within { ChoosesWithin P.parts (P.parts argument) result }
 {
     match kind {

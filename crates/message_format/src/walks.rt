@@ -3,7 +3,7 @@
 ghost use Rattle.std.specs.Prelude.{◌≡◌, ◌≤◌, length, IsTrue, IfOk, IfSome};
 ghost use Rattle.message_pattern.specs.PatternParts.{parts_view, branches_of};
 ghost use Rattle.message_format.specs.FormatBranches.{behind_end, is_keyword, branch_of_keyword, branch_or_other};
-ghost use Rattle.message_format.specs.FormatParts.{IsFirst};
+ghost use Rattle.message_format.specs.FormatParts.{IsFirstChosen};
 ghost use Rattle.message_format.specs.Inner.FormatViews.{any_parts};
 
 use crate::source::{Chooser, Found, Seen};
@@ -36,7 +36,7 @@ pub(crate) fn first_chosen<'s, 'p, C: Chooser>(
     parts: &'s [Part<'p>],
 ) -> Result<Seen<&'s [Part<'p>]>, C::Stop>
     requires { C.IsReady chooser.now }
-    ensures first { IfOk result (λ seen. IsFirst (C.IsChosen chooser.now) (branches_of depth (parts_view parts.now)) (any_parts seen.branch)) }
+    ensures first { IfOk result (λ seen. IsFirstChosen (C.IsChosen chooser.now) (branches_of depth (parts_view parts.now)) (any_parts seen.branch)) }
     ensures left { IfOk result (λ seen. behind_end depth (parts_view seen.left.now) ≡ behind_end depth (parts_view parts.now)) }
     ensures shorter { IfOk result (λ seen. IfSome seen.branch (λ x. length x.now ≤ length parts.now)) }
     ensures fewer { IfOk result (λ seen. length seen.left.now ≤ length parts.now) }

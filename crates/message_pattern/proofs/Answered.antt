@@ -9,7 +9,7 @@ use Rattle.message_pattern.specs.PatternParts.{Part}
 use Rattle.message_pattern.specs.PatternReading.{InMessage, ReadOutcome, Read, Faulty, ReadsText}
 use Rattle.message_pattern.specs.PatternGrammar.{IsReadAt}
 use Rattle.message_pattern.specs.declared.text.Context.TheVariants.{Whole}
-use Rattle.message_pattern.specs.PatternAnswers.{IsTextOf, HasFault, IsUnlessMemory, IsWhatIsRead, ReadsExactly, IsReadOrFaulty}
+use Rattle.message_pattern.specs.PatternAnswers.{IsTextOf, HasFirstFault, IsUnlessMemory, IsWhatIsRead, ReadsExactly, IsReadOrFaulty}
 use Rattle.message_pattern.proofs.Readings.{one_outcome}
 use Rattle.message_pattern.proofs.GrammarReads.{read_again, reading_in}
 use Rattle.message_pattern.proofs.WholeTexts.{to_its_end}
@@ -34,13 +34,13 @@ one_list text a b h k =
 
 -- a pattern has no fault
 pub no_fault : {formats : Formats} (text : List ℕ) (a : List Part) (kind : FaultKind) (place : ℕ) → IsTextOf formats text a
-    → HasFault formats text kind place → ⊥
+    → HasFirstFault formats text kind place → ⊥
 no_fault text a kind place h k =
     let e : Read a [] ≡ Faulty k.0 = one_outcome (as_read text a h) k.1 in cc
 
 -- two faults of a text are one
-pub one_fault : {formats : Formats} (text : List ℕ) (kind kind' : FaultKind) (place place' : ℕ) → HasFault formats text kind place
-    → HasFault formats text kind' place' → (kind ≡ kind') × (place ≡ place')
+pub one_fault : {formats : Formats} (text : List ℕ) (kind kind' : FaultKind) (place place' : ℕ) → HasFirstFault formats text kind place
+    → HasFirstFault formats text kind' place' → (kind ≡ kind') × (place ≡ place')
 one_fault text kind kind' place place' h k =
     let e : Faulty h.0 ≡ Faulty k.0 = one_outcome h.1 k.1 in
     let f : h.0 ≡ k.0 = cc in
@@ -53,7 +53,7 @@ read_only text (Err (errors.Fault kind place)) h parts k = absurd (no_fault text
 read_only text (Err errors.Memory) h parts k = inr refl
 
 fault_only : {formats : Formats} (text : List ℕ) (r : Result (List Part) error.PatternError) → IsWhatIsRead formats text r
-    → (kind : FaultKind) (place : ℕ) → HasFault formats text kind place → IsUnlessMemory r (Err (errors.Fault kind place))
+    → (kind : FaultKind) (place : ℕ) → HasFirstFault formats text kind place → IsUnlessMemory r (Err (errors.Fault kind place))
 fault_only text (Ok a) h kind place k = absurd (no_fault text a kind place h k)
 fault_only text (Err (errors.Fault kind' place')) h kind place k =
     let same : (kind' ≡ kind) × (place' ≡ place) = one_fault text kind' kind place' place h k in

@@ -11,7 +11,7 @@ use Rattle.message_pattern.specs.declared.part.ArgumentKind.{ArgumentKind}
 use Rattle.message_pattern.specs.declared.part.ArgumentKind.TheVariants.{Plural, Ordinal, Select}
 use Rattle.pattern_bytes.specs.PatternBytes.{comma, equals, opening, closing, is_empty_text, begins, class_front, behind_run, after_white, after_word}
 use Rattle.message_pattern.specs.PatternParts.{Selector, Exactly, Keyword}
-use Rattle.message_pattern.specs.PatternHeads.{and_then, fault_at, missing, Head, Plain, Choice, is_bad_number, name_front, kind_named, kind_before, kind_front, offset_behind, offset_front, choice_front, is_simple_type, styled_front, simple_front, typed_front, behind_name, head_front, is_counting, is_number, exact_front, keyword_front, selector_front, branch_opens, next_branch, branch_front, BranchFront}
+use Rattle.message_pattern.specs.PatternHeads.{head_and_then, pattern_fault_at, missing_front_fault, Head, Plain, Choice, is_bad_number, name_front, kind_named, kind_before, kind_front, offset_behind, offset_front, choice_front, is_simple_type, styled_front, simple_front, typed_front, behind_name, head_front, is_counting, is_number, exact_front, keyword_front, selector_front, branch_opens, next_branch, branch_front, BranchFront}
 use Rattle.message_pattern.specs.PatternHeads as branch
 use Rattle.message_pattern.specs.PatternGrammar.{IsSimpleType, IsSimpleText, IsStyleBehind, IsLongest, IsNameOrNumber, IsArgumentType, IsOffsetValue, IsOffset, IsSelector}
 use Rattle.message_pattern.proofs.Longest.{longest_run, longest_rest, longest_begins}
@@ -21,7 +21,7 @@ use Rattle.message_pattern.proofs.BeforeBrace.{white_before, name_ends, letters_
 use Rattle.message_pattern.proofs.SimpleHeads.{before_is}
 
 abbrev after_name : List ℕ → List ℕ → List ℕ → Bool → Bool → Result (List ℕ × List ℕ) Fault
-after_name s w u a b = if a then Err (missing ExpectedName s) else if b then Err (fault_at BadNumber s) else Ok (w, after_white u)
+after_name s w u a b = if a then Err (missing_front_fault ExpectedName s) else if b then Err (pattern_fault_at BadNumber s) else Ok (w, after_white u)
 
 name_again : (s name t : List ℕ) → IsNameOrNumber s name t → name_front s ≡ Ok (name, after_white t)
 name_again s name t h =
@@ -31,7 +31,7 @@ name_again s name t h =
     ∙ ap (λ (b : Bool). after_name s name t false b) h.no_zeros))
 
 abbrev after_type : List ℕ → Bool → Option ArgumentKind → List ℕ → Result (ArgumentKind × List ℕ) Fault
-after_type s a k r = if a then Err (missing ExpectedType s) else kind_before s k r
+after_type s a k r = if a then Err (missing_front_fault ExpectedType s) else kind_before s k r
 
 kind_again : (s : List ℕ) (kind : ArgumentKind) (v w : List ℕ) → IsArgumentType s kind v → after_white v ≡ comma ∷ w
     → kind_front s ≡ Ok (kind, w)
@@ -47,7 +47,7 @@ abbrev found : Option (List ℕ) → List ℕ → Result (Option (List ℕ) × L
 found o r = Ok (o, r)
 
 abbrev after_digits : List ℕ → Bool → List ℕ → List ℕ → Result (Option (List ℕ) × List ℕ) Fault
-after_digits s a d r = if a then Err (missing ExpectedOffset s) else Ok (Some d, r)
+after_digits s a d r = if a then Err (missing_front_fault ExpectedOffset s) else Ok (Some d, r)
 
 value_again : (s : List ℕ) (offset : Option (List ℕ)) (rest : List ℕ) → IsOffsetValue s offset rest
     → offset_behind (after_word (codes "offset:") s) s ≡ Ok (offset, rest)
@@ -69,7 +69,7 @@ offset_again Ordinal s offset rest h = value_again (after_white s) offset rest h
 pub plain_again : (formats : Formats) (s name t rest : List ℕ) → IsNameOrNumber (after_white s) name t → after_white t ≡ closing ∷ rest
     → head_front formats s ≡ Ok (Plain name, rest)
 plain_again formats s name t rest h e =
-    ap (λ (r : Result (List ℕ × List ℕ) Fault). and_then r (λ n. behind_name formats (after_white s) n.0 n.1))
+    ap (λ (r : Result (List ℕ × List ℕ) Fault). head_and_then r (λ n. behind_name formats (after_white s) n.0 n.1))
     (name_again (after_white s) name t h)
     ∙ ap (λ (r : List ℕ). behind_name formats (after_white s) name r) e
 
@@ -96,14 +96,14 @@ pub choice_again : (formats : Formats) (kind : ArgumentKind) (offset : Option (L
     → IsNameOrNumber (after_white s) name t → after_white t ≡ comma ∷ u → IsArgumentType (after_white u) kind v → after_white v ≡ comma ∷ w
     → IsOffset kind w offset x → head_front formats s ≡ Ok (Choice kind name offset, x)
 choice_again formats kind offset s name t u v w x h e i f o =
-    ap (λ (r : Result (List ℕ × List ℕ) Fault). and_then r (λ n. behind_name formats (after_white s) n.0 n.1))
+    ap (λ (r : Result (List ℕ × List ℕ) Fault). head_and_then r (λ n. behind_name formats (after_white s) n.0 n.1))
     (name_again (after_white s) name t h)
     ∙ (ap (λ (r : List ℕ). behind_name formats (after_white s) name r) e
     ∙ (typed_again formats (after_white s) name u kind v i
     ∙ (ap
-    (λ (r : Result (ArgumentKind × List ℕ) Fault). and_then r (λ k. and_then (offset_front k.0 k.1) (λ y. Ok (Choice k.0 name y.0, y.1))))
+    (λ (r : Result (ArgumentKind × List ℕ) Fault). head_and_then r (λ k. head_and_then (offset_front k.0 k.1) (λ y. Ok (Choice k.0 name y.0, y.1))))
     (kind_again (after_white u) kind v w i f)
-    ∙ ap (λ (r : Result (Option (List ℕ) × List ℕ) Fault). and_then r (λ y. Ok (Choice kind name y.0, y.1)))
+    ∙ ap (λ (r : Result (Option (List ℕ) × List ℕ) Fault). head_and_then r (λ y. Ok (Choice kind name y.0, y.1)))
     (offset_again kind w offset x o))))
 
 -- ---- with a simple format
@@ -153,7 +153,7 @@ allowed_again s text name word rest style e h =
       nonempty = h.named.nonempty;
       no_zeros = h.named.no_zeros;
     }) in
-    ap (λ (r : Result (List ℕ × List ℕ) Fault). and_then r (λ x. behind_name Allowed (after_white s) x.0 x.1))
+    ap (λ (r : Result (List ℕ × List ℕ) Fault). head_and_then r (λ x. behind_name Allowed (after_white s) x.0 x.1))
     (name_again (after_white s) name (h.behind_name ++ closing ∷ rest) n)
     ∙ (ap (λ (r : List ℕ). behind_name Allowed (after_white s) name r)
     (white_before h.behind_name rest ∙ ap (λ (l : List ℕ). l ++ closing ∷ rest) h.comma_there)
@@ -168,7 +168,7 @@ simple_again {formats = formats} s text name word rest style a e h =
 -- ---- and before a branch
 
 abbrev after_number : List ℕ → Bool → List ℕ → List ℕ → Result (Selector × List ℕ) Fault
-after_number s a n r = if a then Ok (Exactly n, r) else Err (missing ExpectedValue s)
+after_number s a n r = if a then Ok (Exactly n, r) else Err (missing_front_fault ExpectedValue s)
 
 exact_again : (s number rest : List ℕ) → IsLongest Number s number rest → is_number number ≡ true
     → exact_front s ≡ Ok (Exactly number, rest)
@@ -178,7 +178,7 @@ exact_again s number rest l n =
     ∙ ap (λ (a : Bool). after_number s a number rest) n)
 
 abbrev after_keyword : List ℕ → Bool → List ℕ → List ℕ → Result (Selector × List ℕ) Fault
-after_keyword s a w r = if a then Err (missing ExpectedSelector s) else Ok (Keyword w, r)
+after_keyword s a w r = if a then Err (missing_front_fault ExpectedSelector s) else Ok (Keyword w, r)
 
 keyword_again : (s word rest : List ℕ) → IsLongest Name s word rest → word ≢ [] → keyword_front s ≡ Ok (Keyword word, rest)
 keyword_again s word rest l n =
@@ -227,10 +227,10 @@ opens_again kind other s t u sel i e =
     ap (λ (l : List ℕ). next_branch kind other l) b.whole
     ∙ (ap
     (λ (v : Bool).
-    if v then (if other then Ok (branch.Closes b.more) else Err (fault_at MissingOther (b.byte ∷ b.more)))
-    else and_then (selector_front kind b.byte b.more) (λ y. branch_opens y.0 (after_white y.1)))
+    if v then (if other then Ok (branch.Closes b.more) else Err (pattern_fault_at MissingOther (b.byte ∷ b.more)))
+    else head_and_then (selector_front kind b.byte b.more) (λ y. branch_opens y.0 (after_white y.1)))
     b.no_end
-    ∙ (ap (λ (r : Result (Selector × List ℕ) Fault). and_then r (λ y. branch_opens y.0 (after_white y.1))) b.reads
+    ∙ (ap (λ (r : Result (Selector × List ℕ) Fault). head_and_then r (λ y. branch_opens y.0 (after_white y.1))) b.reads
     ∙ ap (λ (l : List ℕ). branch_opens sel l) e))
 
 pub closes_again : (kind : ArgumentKind) (s rest : List ℕ) → after_white s ≡ closing ∷ rest

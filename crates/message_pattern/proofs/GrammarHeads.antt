@@ -11,7 +11,7 @@ use Rattle.message_pattern.specs.declared.part.ArgumentKind.TheVariants.{Plural,
 use Rattle.pattern_bytes.specs.PatternBytes.{comma, equals, opening, closing, is_empty_text, class_front}
 use Rattle.pattern_bytes.specs.PatternBytes.{behind_run, after_white, after_word}
 use Rattle.message_pattern.specs.PatternParts.{Selector, Exactly}
-use Rattle.message_pattern.specs.PatternHeads.{and_then, fault_at, unclosed, missing, Head, Plain, Choice, is_bad_number, name_front, kind_named, style_front, kind_before, kind_front, digits_front, offset_behind, offset_front, choice_front, is_simple_type, simple_front, typed_front, behind_name, head_front, is_counting, is_number, exact_front, keyword_front, selector_front, branch_opens, next_branch, branch_front, BranchFront}
+use Rattle.message_pattern.specs.PatternHeads.{head_and_then, pattern_fault_at, unclosed, missing_front_fault, Head, Plain, Choice, is_bad_number, name_front, kind_named, style_front, kind_before, kind_front, digits_front, offset_behind, offset_front, choice_front, is_simple_type, simple_front, typed_front, behind_name, head_front, is_counting, is_number, exact_front, keyword_front, selector_front, branch_opens, next_branch, branch_front, BranchFront}
 use Rattle.message_pattern.specs.PatternHeads as branch
 use Rattle.message_pattern.specs.PatternGrammar.{IsSimpleText, IsNameOrNumber, IsArgumentType, IsOffsetValue, IsOffset, IsSelector}
 use Rattle.message_pattern.proofs.Longest.{is_longest}
@@ -28,7 +28,7 @@ no_ok e = cc
 same_ok : {A : Type 0} {x y : A} → ok_of x ≡ ok_of y → x ≡ y
 same_ok e = cc
 
-bind_ok : {A B : Type 0} (r : Result A Fault) (f : A → Result B Fault) (y : B) → and_then r f ≡ Ok y → (x : A) × (r ≡ Ok x) × (f x ≡ Ok y)
+bind_ok : {A B : Type 0} (r : Result A Fault) (f : A → Result B Fault) (y : B) → head_and_then r f ≡ Ok y → (x : A) × (r ≡ Ok x) × (f x ≡ Ok y)
 bind_ok (Ok x) f y e = (x, refl, e)
 bind_ok (Err d) f y e = absurd (no_ok e)
 
@@ -48,13 +48,13 @@ empty_false (b ∷ w) h = refl
 
 pub name_sound : (s : List ℕ) (x : List ℕ × List ℕ) → name_front s ≡ Ok x → (t : List ℕ) × IsNameOrNumber s x.0 t × (after_white t ≡ x.1)
 name_sound s x e =
-    let g = guard_ok (is_empty_text (class_front Name s)) (missing ExpectedName s) _ x e in
-    let k = guard_ok (is_bad_number (class_front Name s)) (fault_at BadNumber s) _ x g.1 in
+    let g = guard_ok (is_empty_text (class_front Name s)) (missing_front_fault ExpectedName s) _ x e in
+    let k = guard_ok (is_bad_number (class_front Name s)) (pattern_fault_at BadNumber s) _ x g.1 in
     subst (λ (y : List ℕ × List ℕ). (t : List ℕ) × IsNameOrNumber s y.0 t × (after_white t ≡ y.1)) (same_ok k.1)
     (behind_run Name s, record { bytes = is_longest Name s; nonempty = nonempty_of (class_front Name s) g.0; no_zeros = k.0 }, refl)
 
 comma_step : (kind : ArgumentKind) (b : ℕ) (s : List ℕ) (v : Bool) (x : ArgumentKind × List ℕ) → (b == comma) ≡ v
-    → (if v then Ok (kind, s) else Err (fault_at ExpectedStyle (b ∷ s))) ≡ Ok x → (kind ≡ x.0) × (b ∷ s ≡ comma ∷ x.1)
+    → (if v then Ok (kind, s) else Err (pattern_fault_at ExpectedStyle (b ∷ s))) ≡ Ok x → (kind ≡ x.0) × (b ∷ s ≡ comma ∷ x.1)
 comma_step kind b s true x t e =
     let p : (kind, s) ≡ x = same_ok e in (
       ap (λ (y : ArgumentKind × List ℕ). y.0) p,
@@ -75,7 +75,7 @@ before_sound s (Some kind) r x e = let h = style_sound kind r x e in (ap Some h.
 pub kind_sound : (s : List ℕ) (x : ArgumentKind × List ℕ) → kind_front s ≡ Ok x
     → (t : List ℕ) × IsArgumentType s x.0 t × (after_white t ≡ comma ∷ x.1)
 kind_sound s x e =
-    let g = guard_ok (is_empty_text (class_front Letter s)) (missing ExpectedType s) _ x e in
+    let g = guard_ok (is_empty_text (class_front Letter s)) (missing_front_fault ExpectedType s) _ x e in
     let h = before_sound s (kind_named (class_front Letter s)) (after_white (behind_run Letter s)) x g.1 in (
       behind_run Letter s,
       record {
@@ -92,7 +92,7 @@ offset_step : (s : List ℕ) (o : Option (List ℕ)) (x : Option (List ℕ) × L
     → IsOffsetValue s x.0 x.1
 offset_step s None x h e = subst (λ (y : Option (List ℕ) × List ℕ). IsOffsetValue s y.0 y.1) (same_ok e) (h, refl)
 offset_step s (Some t) x h e =
-    let g = guard_ok (is_empty_text (class_front Digit (after_white t))) (missing ExpectedOffset (after_white t)) _ x e in
+    let g = guard_ok (is_empty_text (class_front Digit (after_white t))) (missing_front_fault ExpectedOffset (after_white t)) _ x e in
     subst (λ (y : Option (List ℕ) × List ℕ). IsOffsetValue s y.0 y.1) (same_ok g.1)
     (t, h, is_longest Digit (after_white t), nonempty_of (class_front Digit (after_white t)) g.0)
 
@@ -156,7 +156,7 @@ typed_sound Allowed argument name t c s x i e h k =
 
 behind_comma : (formats : Formats) (argument name t : List ℕ) (b : ℕ) (s : List ℕ) (v : Bool) (x : Head × List ℕ)
     → IsNameOrNumber argument name t → after_white t ≡ b ∷ s
-    → (b == comma) ≡ v → (if v then typed_front formats argument name s else Err (fault_at ExpectedEnd (b ∷ s))) ≡ Ok x
+    → (b == comma) ≡ v → (if v then typed_front formats argument name s else Err (pattern_fault_at ExpectedEnd (b ∷ s))) ≡ Ok x
     → BehindName formats argument name (b ∷ s) x.0 x.1
 behind_comma formats argument name t b s true x i w h e = typed_sound formats argument name t b s x i w (eqb-true b comma h) e
 behind_comma formats argument name t b s false x i w h e = absurd (no_ok e)
@@ -164,7 +164,7 @@ behind_comma formats argument name t b s false x i w h e = absurd (no_ok e)
 behind_closing : (formats : Formats) (argument name t : List ℕ) (b : ℕ) (s : List ℕ) (v : Bool) (x : Head × List ℕ)
     → IsNameOrNumber argument name t → after_white t ≡ b ∷ s
     → (b == closing) ≡ v
-    → (if v then Ok (Plain name, s) else if b == comma then typed_front formats argument name s else Err (fault_at ExpectedEnd (b ∷ s)))
+    → (if v then Ok (Plain name, s) else if b == comma then typed_front formats argument name s else Err (pattern_fault_at ExpectedEnd (b ∷ s)))
     ≡ Ok x
     → BehindName formats argument name (b ∷ s) x.0 x.1
 behind_closing formats argument name t b s true x i w h e =
@@ -195,7 +195,7 @@ head_sound formats s x e =
 
 exact_by : (kind : ArgumentKind) (b : ℕ) (s : List ℕ) (v : Bool) (x : Selector × List ℕ) → b ≡ equals → is_counting kind ≡ true
     → is_number (class_front Number s) ≡ v
-    → (if v then Ok (Exactly (class_front Number s), behind_run Number s) else Err (missing ExpectedValue s)) ≡ Ok x
+    → (if v then Ok (Exactly (class_front Number s), behind_run Number s) else Err (missing_front_fault ExpectedValue s)) ≡ Ok x
     → IsSelector kind (b ∷ s) x.0 x.1
 exact_by kind b s true x h c t e =
     subst (λ (y : Selector × List ℕ). IsSelector kind (b ∷ s) y.0 y.1) (same_ok e) (s, ap (λ (n : ℕ). n ∷ s) h, c, is_longest Number s, t)
@@ -208,7 +208,7 @@ exact_sound kind b s x h c e = exact_by kind b s (is_number (class_front Number 
 
 keyword_sound : (kind : ArgumentKind) (s : List ℕ) (x : Selector × List ℕ) → keyword_front s ≡ Ok x → IsSelector kind s x.0 x.1
 keyword_sound kind s x e =
-    let g = guard_ok (is_empty_text (class_front Name s)) (missing ExpectedSelector s) _ x e in
+    let g = guard_ok (is_empty_text (class_front Name s)) (missing_front_fault ExpectedSelector s) _ x e in
     subst (λ (y : Selector × List ℕ). IsSelector kind s y.0 y.1) (same_ok g.1) (is_longest Name s, nonempty_of (class_front Name s) g.0)
 
 and_true : (a b : Bool) → (a && b) ≡ true → (a ≡ true) × (b ≡ true)
@@ -229,7 +229,7 @@ BranchIs kind other s (branch.Opens sel rest) = (t : List ℕ) × IsSelector kin
 
 opens_step : (kind : ArgumentKind) (other : Bool) (s t : List ℕ) (sel : Selector) (b : ℕ) (u : List ℕ) (v : Bool) (x : BranchFront)
     → IsSelector kind s sel t → after_white t ≡ b ∷ u → (b == opening) ≡ v
-    → (if v then Ok (branch.Opens sel u) else Err (fault_at ExpectedBranch (b ∷ u))) ≡ Ok x → BranchIs kind other s x
+    → (if v then Ok (branch.Opens sel u) else Err (pattern_fault_at ExpectedBranch (b ∷ u))) ≡ Ok x → BranchIs kind other s x
 opens_step kind other s t sel b u true x i w h e =
     subst (λ (y : BranchFront). BranchIs kind other s y) (same_ok e) (t, i, w ∙ ap (λ (c : ℕ). c ∷ u) (eqb-true b opening h))
 opens_step kind other s t sel b u false x i w h e = absurd (no_ok e)
@@ -240,14 +240,14 @@ opens_sound kind other s t sel [] x i w e = absurd (no_ok e)
 opens_sound kind other s t sel (b ∷ u) x i w e = opens_step kind other s t sel b u (b == opening) x i w refl e
 
 closes_step : (kind : ArgumentKind) (other : Bool) (b : ℕ) (s : List ℕ) (x : BranchFront) → b ≡ closing
-    → (if other then Ok (branch.Closes s) else Err (fault_at MissingOther (b ∷ s))) ≡ Ok x → BranchIs kind other (b ∷ s) x
+    → (if other then Ok (branch.Closes s) else Err (pattern_fault_at MissingOther (b ∷ s))) ≡ Ok x → BranchIs kind other (b ∷ s) x
 closes_step kind true b s x h e =
     subst (λ (y : BranchFront). BranchIs kind true (b ∷ s) y) (same_ok e) (refl, ap (λ (c : ℕ). c ∷ s) h)
 closes_step kind false b s x h e = absurd (no_ok e)
 
 next_step : (kind : ArgumentKind) (other : Bool) (b : ℕ) (s : List ℕ) (v : Bool) (x : BranchFront) → (b == closing) ≡ v
-    → (if v then (if other then Ok (branch.Closes s) else Err (fault_at MissingOther (b ∷ s)))
-    else and_then (selector_front kind b s) (λ y. branch_opens y.0 (after_white y.1))) ≡ Ok x → BranchIs kind other (b ∷ s) x
+    → (if v then (if other then Ok (branch.Closes s) else Err (pattern_fault_at MissingOther (b ∷ s)))
+    else head_and_then (selector_front kind b s) (λ y. branch_opens y.0 (after_white y.1))) ≡ Ok x → BranchIs kind other (b ∷ s) x
 next_step kind other b s true x h e = closes_step kind other b s x (eqb-true b closing h) e
 next_step kind other b s false x h e =
     let k = bind_ok (selector_front kind b s) _ x e in

@@ -8,10 +8,10 @@ use Rattle.message_pattern.specs.declared.error.FaultKind.TheVariants.{TooDeep}
 use Rattle.message_pattern.specs.declared.part.ArgumentKind.{ArgumentKind}
 use Rattle.message_pattern.specs.declared.reader.TheConstants.{DEPTH_LIMIT}
 use Rattle.message_pattern.specs.declared.text.Context.{Context}
-use Rattle.message_pattern.specs.PatternText.{Front, End, Closes, Opens, Takes, front, is_nested}
+use Rattle.message_pattern.specs.PatternText.{Front, End, Closes, Opens, Takes, message_front, is_nested}
 use Rattle.message_pattern.specs.PatternParts.{Part, PatternPiece, Selector, Argument, Begin, Branch}
 use Rattle.message_pattern.specs.PatternParts as piece
-use Rattle.message_pattern.specs.PatternHeads.{Head, Plain, Choice, BranchFront, head_front, branch_front, is_other, unclosed, fault_at}
+use Rattle.message_pattern.specs.PatternHeads.{Head, Plain, Choice, BranchFront, head_front, branch_front, is_other, unclosed, pattern_fault_at}
 use Rattle.message_pattern.specs.PatternHeads as branch
 use Rattle.message_pattern.specs.PatternReading.{PatternPlace, InMessage, InArgument, InBranches, ReadStep, Ends, Fails, Goes, Calls, ReadOutcome, Read, Faulty, ReadsTo, ends, fails, goes, calls, breaks, read_step, one, at_most_one, context_of, message_step, argument_step, branches_step}
 use Rattle.message_pattern.specs.PatternGrammar.{IsReadAt, message_ends, message_closes, message_text, message_argument, none_arg, simple_arg, complex_arg, style_branch, style_ends}
@@ -77,12 +77,12 @@ IsGrammatical formats place s (Calls parts next after t) =
     (inner more : List Part) (u rest : List ℕ) → IsReadAt formats next t inner u → IsReadAt formats after u more rest
     → IsReadAt formats place s (parts ++ (inner ++ more)) rest
 
-end_step : (formats : Formats) (c : Context) (d : ℕ) (q : Bool) (s : List ℕ) (n : Bool) → front c q s ≡ End → is_nested c ≡ n
+end_step : (formats : Formats) (c : Context) (d : ℕ) (q : Bool) (s : List ℕ) (n : Bool) → message_front c q s ≡ End → is_nested c ≡ n
     → IsGrammatical formats (InMessage c d q) s (if n then Fails unclosed else Ends [] [])
 end_step formats c d q s true e h = tt
 end_step formats c d q s false e h = message_ends c d q s e h
 
-message_by : (formats : Formats) (c : Context) (d : ℕ) (q : Bool) (s : List ℕ) (f : Front) → front c q s ≡ f
+message_by : (formats : Formats) (c : Context) (d : ℕ) (q : Bool) (s : List ℕ) (f : Front) → message_front c q s ≡ f
     → IsGrammatical formats (InMessage c d q) s (message_step c d f)
 message_by formats c d q s End e = end_step formats c d q s (is_nested c) e refl
 message_by formats c d q s (Closes rest) e = message_closes c d q s rest e
@@ -107,7 +107,7 @@ opens_by : (formats : Formats) (kind : ArgumentKind) (d : ℕ) (other : Bool) (s
     → nat_lt d DEPTH_LIMIT ≡ v
     → IsGrammatical formats (InBranches kind d other) s
     (if v then Calls (one d (Branch sel)) (InMessage (context_of kind) (d + 1) false) (InBranches kind d (other || is_other sel)) t
-    else Fails (fault_at TooDeep t))
+    else Fails (pattern_fault_at TooDeep t))
 opens_by formats kind d other s t sel true e room = λ inner more u rest h k.
     let b = branch_sound kind other s (branch.Opens sel t) e in
     style_branch d kind other sel s b.0 t u rest inner more b.1 b.2 (ltb-true d DEPTH_LIMIT room) h k
@@ -123,7 +123,7 @@ branches_by formats kind d other s (Ok (branch.Closes rest)) e =
 branches_by formats kind d other s (Ok (branch.Opens sel t)) e = opens_by formats kind d other s t sel (nat_lt d DEPTH_LIMIT) e refl
 
 step_by : (formats : Formats) (place : PatternPlace) (s : List ℕ) → IsGrammatical formats place s (read_step formats place s)
-step_by formats (InMessage c d q) s = message_by formats c d q s (front c q s) refl
+step_by formats (InMessage c d q) s = message_by formats c d q s (message_front c q s) refl
 step_by formats (InArgument d) s = argument_by formats d s (head_front formats s) refl
 step_by formats (InBranches kind d other) s = branches_by formats kind d other s (branch_front kind other s) refl
 

@@ -4,7 +4,7 @@ use Rattle.pattern_bytes.specs.declared.bytes.Class.TheVariants.{Letter}
 use Rattle.message_pattern.specs.declared.error.FaultKind.TheVariants.{ExpectedType}
 use Rattle.message_pattern.specs.declared.part.ArgumentKind.{ArgumentKind}
 use Rattle.pattern_bytes.specs.PatternBytes.{is_empty_text, class_front, behind_run, after_white}
-use Rattle.message_pattern.specs.PatternHeads.{missing, kind_named, kind_before, kind_front}
+use Rattle.message_pattern.specs.PatternHeads.{missing_front_fault, kind_named, kind_before, kind_front}
 
 -- a list that has a length isn't empty
 pub nonempty : (w : List ℕ) (b : Bool) → b ≡ (length w == 0) → b ≡ false → is_empty_text w ≡ false
@@ -16,7 +16,7 @@ pub kind_front_is : (s w r a : List ℕ) (k : Option ArgumentKind) → w ≡ cla
     → r ≡ behind_run Letter s → a ≡ after_white r → k ≡ kind_named w → kind_before s k a ≡ kind_front s
 kind_front_is s w r a k e1 e2 e3 e4 e5 = sym
     (ap
-    (λ (b : Bool). if b then Err (missing ExpectedType s)
+    (λ (b : Bool). if b then Err (missing_front_fault ExpectedType s)
     else kind_before s (kind_named (class_front Letter s)) (after_white (behind_run Letter s)))
     (ap is_empty_text (sym e1) ∙ e2)
     ∙ (ap (λ (v : List ℕ). kind_before s (kind_named v) (after_white (behind_run Letter s))) (sym e1)

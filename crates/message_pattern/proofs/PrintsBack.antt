@@ -10,7 +10,7 @@ use Rattle.message_pattern.specs.declared.text.Context.{Context}
 use Rattle.message_pattern.specs.declared.text.Context.TheVariants.{Whole}
 use Rattle.pattern_bytes.specs.PatternBytes.{apostrophe, hash, comma, opening, closing, class_front, behind_run, after_white}
 use Rattle.pattern_bytes.specs.declared.bytes.Class.TheVariants as class
-use Rattle.message_pattern.specs.PatternText.{Front, Closes, Opens, Takes, takes_text, front, is_nested, is_counted, is_quotable, apostrophe_front, quoted_apostrophe}
+use Rattle.message_pattern.specs.PatternText.{Front, Closes, Opens, Takes, takes_text, message_front, is_nested, is_counted, is_quotable, apostrophe_front, quoted_apostrophe}
 use Rattle.message_pattern.specs.PatternParts.{Part, PatternPiece, Text, Hash, Argument, Begin, Branch, Selector}
 use Rattle.message_pattern.specs.PatternParts as piece
 use Rattle.message_pattern.specs.PatternHeads.{is_other}
@@ -19,7 +19,7 @@ use Rattle.message_pattern.specs.PatternGrammar.{IsSimpleText, IsReadAt, IsSelec
 use Rattle.message_pattern.specs.PatternPrinting.{letters, spelled, end_of_quote, text_text, quoted_behind, kind_text, offset_text, selector_text, IsPrinted, PrintsAs, IsReadAlike}
 use Rattle.message_pattern.specs.PatternPrinting as prints
 use Rattle.message_pattern.specs.PatternAnswers.{IsTextOf}
-use Rattle.message_pattern.specs.StyledParts.{name_of, unstyled_part, unstyled, UnstyledPrintsBack}
+use Rattle.message_pattern.specs.StyledParts.{argument_name_of, unstyled_part, unstyled, UnstyledPrintsBack}
 use Rattle.pattern_bytes.specs.declared.bytes.Class.TheVariants.{Name}
 use Rattle.message_pattern.proofs.Longest.{longest_run}
 use Rattle.message_pattern.proofs.BeforeBrace.{name_alone}
@@ -58,7 +58,7 @@ quoted_piece : (c : Context) (s : List ℕ) → IsMessagePiece c (quoted_apostro
 quoted_piece c [] = tt
 quoted_piece c (b ∷ s) = chosen c (b == apostrophe) (takes_text (apostrophe ∷ []) true s) (Takes None false (b ∷ s)) tt tt
 
-front_piece : (c : Context) (q : Bool) (s : List ℕ) → IsMessagePiece c (front c q s)
+front_piece : (c : Context) (q : Bool) (s : List ℕ) → IsMessagePiece c (message_front c q s)
 front_piece c true [] = tt
 front_piece c false [] = tt
 front_piece c true (b ∷ s) =
@@ -75,7 +75,7 @@ front_piece c false (b ∷ s) =
     (hash_chosen c (b == hash) (is_counted c) s alone refl
     (chosen c (b == closing || b == hash) (takes_text (b ∷ []) false s) last tt tt))))
 
-piece_is : (c : Context) (q r : Bool) (s t : List ℕ) (p : Option PatternPiece) → front c q s ≡ Takes p r t → IsMessagePiece c (Takes p r t)
+piece_is : (c : Context) (q r : Bool) (s t : List ℕ) (p : Option PatternPiece) → message_front c q s ≡ Takes p r t → IsMessagePiece c (Takes p r t)
 piece_is c q r s t p e = subst (λ (f : Front). IsMessagePiece c f) e (front_piece c q s)
 
 -- ---- what follows a message
@@ -88,7 +88,7 @@ stop_quotes : (c : Context) (t rest : List ℕ) → Stops c t rest → quotes t 
 stop_quotes c t rest (inl h) = ap quotes h.1
 stop_quotes c t rest (inr h) = ap quotes h.1
 
-closes_front : (c : Context) (s : List ℕ) → is_nested c ≡ true → front c false (closing ∷ s) ≡ Closes s
+closes_front : (c : Context) (s : List ℕ) → is_nested c ≡ true → message_front c false (closing ∷ s) ≡ Closes s
 closes_front c s e = ap (λ (v : Bool). if v then Closes s else takes_text (closing ∷ []) false s) e
 
 stop_read : {formats : Formats} (c : Context) (d : ℕ) (t rest : List ℕ) → Stops c t rest → IsReadAs formats (InMessage c d false) t [] rest
@@ -131,7 +131,7 @@ text_part {formats = formats} c d k s more h t rest e =
           (text_back c d k s (m.0 ++ t) (spelled more) rest m.2),
     )
 
-hash_front : (c : Context) (s : List ℕ) → is_counted c ≡ true → front c false (hash ∷ s) ≡ Takes (Some Hash) false s
+hash_front : (c : Context) (s : List ℕ) → is_counted c ≡ true → message_front c false (hash ∷ s) ≡ Takes (Some Hash) false s
 hash_front c s e = ap (λ (v : Bool). if v then Takes (Some Hash) false s else takes_text (hash ∷ []) false s) e
 
 hash_part : {formats : Formats} (c : Context) (d : ℕ) (k : Bool) (more : List Part) → is_counted c ≡ true
@@ -356,9 +356,9 @@ unstyled_back (message_argument c d q s t u rest inner more e h k) = λ j.
     subst (λ (l : List Part). MessageBack Refused c d j l) (sym (map-append unstyled_part inner more))
     (argument_part c d j (unstyled inner) (unstyled more) (unstyled_back h) (unstyled_back k false))
 unstyled_back (none_arg d s name t rest i e) =
-    name_back_as d (after_white s) name t (name_of name) i (name_alone (after_white s) name t i.bytes)
+    name_back_as d (after_white s) name t (argument_name_of name) i (name_alone (after_white s) name t i.bytes)
 unstyled_back (simple_arg d s text name word rest style a w h) =
-    name_back_as d text name h.behind_name (name_of text) h.named (longest_run Name text name h.behind_name h.named.bytes)
+    name_back_as d text name h.behind_name (argument_name_of text) h.named (longest_run Name text name h.behind_name h.named.bytes)
 unstyled_back (complex_arg d kind offset s name t u v w x rest more i e j f o h) =
     complex_back d kind offset (after_white s) name t w x (unstyled more) i o (unstyled_back h)
 unstyled_back (style_branch d kind other sel s t u v rest inner more i e room h k) =

@@ -9,7 +9,7 @@ use Rattle.message_pattern.specs.declared.part.ArgumentKind.{ArgumentKind}
 use Rattle.message_pattern.specs.declared.part.ArgumentKind.TheVariants.{Plural, Ordinal, Select}
 use Rattle.message_pattern.specs.declared.text.Context.{Context}
 use Rattle.pattern_bytes.specs.PatternBytes.{apostrophe, hash, opening, closing, behind_run, skip, white_width, after_white, after_word}
-use Rattle.message_pattern.specs.PatternText.{Front, End, Closes, Opens, Takes, takes_text, front, is_nested, is_counted, is_quotable, apostrophe_front, quoted_apostrophe}
+use Rattle.message_pattern.specs.PatternText.{Front, End, Closes, Opens, Takes, takes_text, message_front, is_nested, is_counted, is_quotable, apostrophe_front, quoted_apostrophe}
 use Rattle.message_pattern.specs.PatternParts.{Selector, Exactly, Keyword, Hash}
 use Rattle.message_pattern.specs.PatternHeads.{Head, Plain, Choice, BranchFront}
 use Rattle.message_pattern.specs.PatternHeads as branch
@@ -106,7 +106,7 @@ plain_by false false false true c b s t =
 plain_by false false false false c b s t = let k : length (behind_run class.Plain s) ≤ length s =
     behind_le class.Plain s in omega (arith, k)
 
-pub front_shorter : (c : Context) (q : Bool) (s : List ℕ) → IsShorter (front c q s) s
+pub front_shorter : (c : Context) (q : Bool) (s : List ℕ) → IsShorter (message_front c q s) s
 front_shorter c true [] = tt
 front_shorter c false [] = tt
 front_shorter c true (b ∷ s) = quoted_by (b == apostrophe) b s _

@@ -8,7 +8,7 @@ use Rattle.pattern_bytes.specs.declared.bytes.Class.TheVariants.{Name, Letter}
 use Rattle.message_pattern.specs.declared.error.Fault.{Fault}
 use Rattle.message_pattern.specs.declared.error.FaultKind.TheVariants.{ExpectedEnd}
 use Rattle.pattern_bytes.specs.PatternBytes.{comma, closing, begins, is_in, class_front, behind_run, white_width, skip, after_white}
-use Rattle.message_pattern.specs.PatternHeads.{Head, Plain, Choice, fault_at, is_simple_type, text_before, styled_front, simple_front}
+use Rattle.message_pattern.specs.PatternHeads.{Head, Plain, Choice, pattern_fault_at, is_simple_type, text_before, styled_front, simple_front}
 use Rattle.message_pattern.specs.PatternGrammar.{IsLongest, IsNameOrNumber, IsSimpleText, IsStyleBehind}
 use Rattle.message_pattern.specs.PatternStyles.{behind_style}
 use Rattle.message_pattern.proofs.Longest.{is_longest, longest_run, longest_rest, longest_begins}
@@ -160,7 +160,7 @@ comma_step : (argument name t u : List ℕ) (b : ℕ) (v : List ℕ) (c : Bool) 
     → after_white t ≡ comma ∷ u
     → is_simple_type (class_front Letter (after_white u)) ≡ true → after_white (behind_run Letter (after_white u)) ≡ b ∷ v
     → (b == comma) ≡ c
-    → (if c then styled_front argument (behind_style 0 false v) else Err (fault_at ExpectedEnd (b ∷ v))) ≡ Ok x
+    → (if c then styled_front argument (behind_style 0 false v) else Err (pattern_fault_at ExpectedEnd (b ∷ v))) ≡ Ok x
     → IsSimpleHead argument x.0 x.1
 comma_step argument name t u b v true x i e w a h k =
     styled_step argument name t u v (behind_style 0 false v) x i e w (a ∙ ap (λ (n : ℕ). n ∷ v) (eqb-true b comma h)) refl k
@@ -171,7 +171,7 @@ closing_step : (argument name t u : List ℕ) (b : ℕ) (v : List ℕ) (c : Bool
     → is_simple_type (class_front Letter (after_white u)) ≡ true → after_white (behind_run Letter (after_white u)) ≡ b ∷ v
     → (b == closing) ≡ c
     → (if c then Ok (Plain (text_before argument v), v)
-    else if b == comma then styled_front argument (behind_style 0 false v) else Err (fault_at ExpectedEnd (b ∷ v))) ≡ Ok x
+    else if b == comma then styled_front argument (behind_style 0 false v) else Err (pattern_fault_at ExpectedEnd (b ∷ v))) ≡ Ok x
     → IsSimpleHead argument x.0 x.1
 closing_step argument name t u b v true x i e w a h k =
     let f : after_white (behind_run Letter (after_white u)) ≡ closing ∷ v = a ∙ ap (λ (n : ℕ). n ∷ v) (eqb-true b closing h) in

@@ -8,24 +8,24 @@ use Rattle.message_pattern.specs.declared.error.Fault.{Fault}
 use Rattle.message_pattern.specs.declared.error.FaultKind.TheVariants.{TooDeep}
 use Rattle.message_pattern.specs.declared.part.ArgumentKind.{ArgumentKind}
 use Rattle.message_pattern.specs.declared.text.Context.{Context}
-use Rattle.message_pattern.specs.PatternText.{Front, End, Closes, Opens, Takes, front, is_nested}
+use Rattle.message_pattern.specs.PatternText.{Front, End, Closes, Opens, Takes, message_front, is_nested}
 use Rattle.message_pattern.specs.PatternParts.{Part, PatternPiece, Selector, Argument, Begin, Branch}
 use Rattle.message_pattern.specs.PatternParts as piece
-use Rattle.message_pattern.specs.PatternHeads.{Head, Plain, Choice, BranchFront, head_front, branch_front, is_other, unclosed, fault_at}
+use Rattle.message_pattern.specs.PatternHeads.{Head, Plain, Choice, BranchFront, head_front, branch_front, is_other, unclosed, pattern_fault_at}
 use Rattle.message_pattern.specs.PatternHeads as branch
 use Rattle.message_pattern.specs.PatternReading.{InMessage, InArgument, InBranches, Ends, Fails, Calls, ReadOutcome, Read, Faulty, ReadsTo, ends, fails, goes, calls, breaks, read_step, one, at_most_one, context_of, message_step, argument_step, opens_branch, branches_step}
 
 -- ---- in a message
 
--- what stands at the front decides the step
+-- what stands at the message_front decides the step
 pub front_decides : {formats : Formats} (c : Context) (d : ℕ) (q : Bool) (s : List ℕ) (f : Front) (before : List Part) (o : ReadOutcome)
-    → front c q s ≡ f → ReadsTo formats (message_step c d f) before o → ReadsTo formats (read_step formats (InMessage c d q) s) before o
+    → message_front c q s ≡ f → ReadsTo formats (message_step c d f) before o → ReadsTo formats (read_step formats (InMessage c d q) s) before o
 front_decides {formats = formats} c d q s f before o e h = subst (λ (g : Front). ReadsTo formats (message_step c d g) before o) (sym e) h
 
 -- a piece is a part
 pub piece_read : {formats : Formats} (c : Context) (d : ℕ) (q r : Bool) (s rest : List ℕ) (p : Option PatternPiece)
     (before after : List Part) (o : ReadOutcome)
-    → front c q s ≡ Takes p r rest → after ≡ before ++ at_most_one d p → ReadsTo formats (read_step formats (InMessage c d r) rest) after o
+    → message_front c q s ≡ Takes p r rest → after ≡ before ++ at_most_one d p → ReadsTo formats (read_step formats (InMessage c d r) rest) after o
     → ReadsTo formats (read_step formats (InMessage c d q) s) before o
 piece_read {formats = formats} c d q r s rest p before after o e f h =
     goes _ before _ (InMessage c d r) rest o (ap (message_step c d) e)
@@ -110,7 +110,7 @@ pub may_open : (k : ArgumentKind) (d : ℕ) (b : Bool) (sel : Selector) (rest : 
 may_open k d b sel rest room =
     ap (λ (fits : Bool). if fits
     then Calls (one d (Branch sel)) (InMessage (context_of k) (d + 1) false) (InBranches k d (b || is_other sel)) rest
-    else Fails (fault_at TooDeep rest)) (lt-ltb d DEPTH_LIMIT room)
+    else Fails (pattern_fault_at TooDeep rest)) (lt-ltb d DEPTH_LIMIT room)
 
 pub branch_read : {formats : Formats} (k : ArgumentKind) (d : ℕ) (b later : Bool) (c : Context) (s rest end : List ℕ)
     (sel : Selector) (before after inner : List Part) (o : ReadOutcome)
@@ -141,10 +141,10 @@ branch_broken {formats = formats} k d b c s rest sel before after fault e room s
 
 pub too_deep : {formats : Formats} (k : ArgumentKind) (d : ℕ) (b : Bool) (s rest : List ℕ) (sel : Selector) (before : List Part)
     → branch_front k b s ≡ Ok (branch.Opens sel rest) → DEPTH_LIMIT ≤ d
-    → ReadsTo formats (read_step formats (InBranches k d b) s) before (Faulty (fault_at TooDeep rest))
+    → ReadsTo formats (read_step formats (InBranches k d b) s) before (Faulty (pattern_fault_at TooDeep rest))
 too_deep k d b s rest sel before e deep =
     fails _ before _
     (ap (branches_step k d b) e
     ∙ ap (λ (fits : Bool). if fits
     then Calls (one d (Branch sel)) (InMessage (context_of k) (d + 1) false) (InBranches k d (b || is_other sel)) rest
-    else Fails (fault_at TooDeep rest)) (le-ltb d DEPTH_LIMIT deep))
+    else Fails (pattern_fault_at TooDeep rest)) (le-ltb d DEPTH_LIMIT deep))

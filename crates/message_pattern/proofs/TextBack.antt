@@ -6,7 +6,7 @@ use Rattle.pattern_bytes.specs.declared.bytes.Class.{Class}
 use Rattle.pattern_bytes.specs.declared.bytes.Class.TheVariants.{Plain, Unquoted}
 use Rattle.message_pattern.specs.declared.text.Context.{Context}
 use Rattle.pattern_bytes.specs.PatternBytes.{apostrophe, hash, opening, closing, begins, class_front, behind_run}
-use Rattle.message_pattern.specs.PatternText.{Front, End, Closes, Opens, Takes, takes_text, front, is_nested, is_counted, is_quotable, apostrophe_front, quoted_apostrophe}
+use Rattle.message_pattern.specs.PatternText.{Front, End, Closes, Opens, Takes, takes_text, message_front, is_nested, is_counted, is_quotable, apostrophe_front, quoted_apostrophe}
 use Rattle.message_pattern.specs.PatternParts.{Part, PatternPiece, Text, Hash}
 use Rattle.message_pattern.specs.PatternReading.{PatternPlace, InMessage, InArgument, InBranches, one, at_most_one}
 use Rattle.message_pattern.specs.PatternGrammar.{IsReadAt, message_ends, message_closes, message_text, message_argument, none_arg, simple_arg, complex_arg, style_branch, style_ends}
@@ -18,10 +18,10 @@ IsReadAs formats place s parts rest = (again : List Part) × IsReadAt formats pl
 
 -- ---- a message that begins with a piece
 
--- a message whose front is a piece is that piece and the message behind it
+-- a message whose message_front is a piece is that piece and the message behind it
 abbrev pub BeginsWith : Formats → PatternPlace → List ℕ → List Part → List ℕ → Type 0
 BeginsWith formats (InMessage c d q) s parts rest =
-    (p : Option PatternPiece) (r : Bool) (t : List ℕ) → front c q s ≡ Takes p r t
+    (p : Option PatternPiece) (r : Bool) (t : List ℕ) → message_front c q s ≡ Takes p r t
     → (more : List Part) × IsReadAt formats (InMessage c d r) t more rest × (parts ≡ at_most_one d p ++ more)
 BeginsWith formats (InArgument d) s parts rest = Unit {0}
 BeginsWith formats (InBranches k d o) s parts rest = Unit {0}
@@ -62,10 +62,10 @@ begins_with (style_ends d kind s rest e) = tt
 
 -- ---- a byte before a text
 
--- at a byte of the class, the front is the run
+-- at a byte of the class, the message_front is the run
 abbrev IsRunFront : Context → Bool → Class → Type 0
 IsRunFront c q k = (b : ℕ) (s : List ℕ) → begins k (b ∷ s) ≡ true
-    → front c q (b ∷ s) ≡ takes_text (class_front k (b ∷ s)) q (behind_run k (b ∷ s))
+    → message_front c q (b ∷ s) ≡ takes_text (class_front k (b ∷ s)) q (behind_run k (b ∷ s))
 
 takes_one : (k : Class) (b : ℕ) (t : List ℕ) (q : Bool) → begins k (b ∷ t) ≡ true
     → takes_text (class_front k (b ∷ t)) q (behind_run k (b ∷ t)) ≡ takes_text (b ∷ class_front k t) q (behind_run k t)
@@ -166,7 +166,7 @@ doubled c d false t parts rest h = (
 )
 
 -- a byte that needs no quotes: `#` where it isn't the number, or one that stands for itself
-hash_alone : (c : Context) (s : List ℕ) → is_counted c ≡ false → front c false (hash ∷ s) ≡ takes_text (hash ∷ []) false s
+hash_alone : (c : Context) (s : List ℕ) → is_counted c ≡ false → message_front c false (hash ∷ s) ≡ takes_text (hash ∷ []) false s
 hash_alone c s e = ap (λ (n : Bool). if n then Takes (Some Hash) false s else takes_text (hash ∷ []) false s) e
 
 bare_hash : {formats : Formats} (c : Context) (d b : ℕ) (t : List ℕ) (parts : List Part) (rest : List ℕ) → b ≡ hash → is_counted c ≡ false
@@ -175,7 +175,7 @@ bare_hash : {formats : Formats} (c : Context) (d b : ℕ) (t : List ℕ) (parts 
 bare_hash c d b t parts rest e f h = (
   one d (Text (b ∷ [])) ++ h.0,
   message_text c d false false (b ∷ t) t rest (Some (Text (b ∷ []))) h.0
-      (subst (λ (x : ℕ). front c false (x ∷ t) ≡ takes_text (x ∷ []) false t) (sym e) (hash_alone c t f)) h.1,
+      (subst (λ (x : ℕ). message_front c false (x ∷ t) ≡ takes_text (x ∷ []) false t) (sym e) (hash_alone c t f)) h.1,
   ap (λ (l : List Part). letters d (b ∷ []) ++ l) h.2,
 )
 
@@ -243,12 +243,12 @@ text_back {formats = formats} c d q (b ∷ s) t parts rest h =
 
 -- ---- the end of quoted text
 
--- an apostrophe is at the front
+-- an apostrophe is at the message_front
 abbrev pub quotes : List ℕ → Bool
 quotes [] = false
 quotes (b ∷ s) = b == apostrophe
 
-ends_quote : (c : Context) (s : List ℕ) → quotes s ≡ false → front c true (apostrophe ∷ s) ≡ Takes None false s
+ends_quote : (c : Context) (s : List ℕ) → quotes s ≡ false → message_front c true (apostrophe ∷ s) ≡ Takes None false s
 ends_quote c [] e = refl
 ends_quote c (b ∷ s) e = ap (λ (v : Bool). if v then takes_text (apostrophe ∷ []) true s else Takes None false (b ∷ s)) e
 

@@ -6,9 +6,9 @@ use Rattle.message_pattern.specs.declared.error.FaultKind.TheVariants.{TooDeep}
 use Rattle.message_pattern.specs.declared.part.ArgumentKind.{ArgumentKind}
 use Rattle.message_pattern.specs.declared.reader.TheConstants.{DEPTH_LIMIT}
 use Rattle.message_pattern.specs.declared.text.Context.{Context}
-use Rattle.message_pattern.specs.PatternText.{Front, End, Closes, Opens, Takes, front, is_nested}
+use Rattle.message_pattern.specs.PatternText.{Front, End, Closes, Opens, Takes, message_front, is_nested}
 use Rattle.message_pattern.specs.PatternParts.{Part, Selector, Branch}
-use Rattle.message_pattern.specs.PatternHeads.{Head, Plain, Choice, BranchFront, head_front, branch_front, is_other, unclosed, fault_at}
+use Rattle.message_pattern.specs.PatternHeads.{Head, Plain, Choice, BranchFront, head_front, branch_front, is_other, unclosed, pattern_fault_at}
 use Rattle.message_pattern.specs.PatternHeads as branch
 use Rattle.message_pattern.specs.PatternReading.{PatternPlace, InMessage, InArgument, InBranches, ReadStep, Ends, Fails, Goes, Calls, ReadOutcome, Read, Faulty, ReadsTo, ends, fails, goes, calls, breaks, read_step, one, context_of, message_step, argument_step, branches_step}
 use Rattle.message_pattern.specs.Inner.PatternViews.{IsShorter}
@@ -51,7 +51,7 @@ argument_less formats d s (Ok (Choice kind name offset, rest)) e =
 opens_less : (k : ArgumentKind) (d : ℕ) (o : Bool) (s t : List ℕ) (sel : Selector) (v : Bool) → length t < length s
     → LeavesLess (2 * length s) s
     (if v then Calls (one d (Branch sel)) (InMessage (context_of k) (d + 1) false) (InBranches k d (o || is_other sel)) t
-    else Fails (fault_at TooDeep t))
+    else Fails (pattern_fault_at TooDeep t))
 opens_less k d o s t sel true h = (omega (arith, h), omega (arith, h), λ u l. omega (arith, h, l))
 opens_less k d o s t sel false h = tt
 
@@ -66,7 +66,7 @@ branches_less k d o s (Ok (branch.Opens sel t)) e =
     (branch_less k o s _ (branch.Opens sel t) refl (branch_sound k o s (branch.Opens sel t) e))
 
 step_less : (formats : Formats) (place : PatternPlace) (s : List ℕ) → LeavesLess (size place s) s (read_step formats place s)
-step_less formats (InMessage c d q) s = message_less c d s (front c q s) (front_shorter c q s)
+step_less formats (InMessage c d q) s = message_less c d s (message_front c q s) (front_shorter c q s)
 step_less formats (InArgument d) s = argument_less formats d s (head_front formats s) refl
 step_less formats (InBranches k d o) s = branches_less k d o s (branch_front k o s) refl
 

@@ -5,7 +5,7 @@ use Rattle.pattern_bytes.specs.declared.bytes.Class.TheVariants as class
 use Rattle.message_pattern.specs.declared.text.Context.{Context}
 use Rattle.message_pattern.specs.declared.text.Context.TheVariants.{Whole}
 use Rattle.pattern_bytes.specs.PatternBytes.{apostrophe, hash, opening, closing, class_front, behind_run}
-use Rattle.message_pattern.specs.PatternText.{Front, Closes, Opens, Takes, takes_text, front, is_quotable, apostrophe_front, quoted_apostrophe}
+use Rattle.message_pattern.specs.PatternText.{Front, Closes, Opens, Takes, takes_text, message_front, is_quotable, apostrophe_front, quoted_apostrophe}
 use Rattle.message_pattern.specs.PatternParts.{Part, Hash}
 use Rattle.message_pattern.specs.PatternReading.{PatternPlace, InMessage, InArgument, InBranches}
 use Rattle.message_pattern.specs.PatternGrammar.{IsReadAt, message_ends, message_closes, message_text, message_argument, none_arg, simple_arg, complex_arg, style_branch, style_ends}
@@ -35,7 +35,7 @@ quote_stays : (s : List ℕ) → NoClose (quoted_apostrophe s)
 quote_stays [] = tt
 quote_stays (b ∷ s) = either (b == apostrophe) (takes_text (apostrophe ∷ []) true s) (Takes None false (b ∷ s)) tt tt
 
-front_stays : (q : Bool) (s : List ℕ) → NoClose (front Whole q s)
+front_stays : (q : Bool) (s : List ℕ) → NoClose (message_front Whole q s)
 front_stays true [] = tt
 front_stays false [] = tt
 front_stays true (b ∷ s) =
@@ -62,7 +62,7 @@ pub to_its_end : {formats : Formats} {place : PatternPlace} {s rest : List ℕ} 
     → EndsWhole place rest
 to_its_end (message_ends c d q s e w) = λ h. refl
 to_its_end (message_closes c d q s rest e) = λ h.
-    absurd (subst NoClose (subst (λ (x : Context). front x q s ≡ Closes rest) h e) (front_stays q s))
+    absurd (subst NoClose (subst (λ (x : Context). message_front x q s ≡ Closes rest) h e) (front_stays q s))
 to_its_end (message_text c d q r s t rest p more e h) = to_its_end h
 to_its_end (message_argument c d q s t u rest inner more e h k) = to_its_end k
 to_its_end (none_arg d s name t rest i e) = tt

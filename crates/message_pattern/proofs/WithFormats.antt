@@ -10,7 +10,7 @@ use Rattle.message_pattern.specs.declared.styled_argument.SimpleFormat as format
 use Rattle.message_pattern.specs.PatternParts.{Part, part_view, parts_view}
 use Rattle.message_pattern.specs.PatternReading.{PatternPlace}
 use Rattle.message_pattern.specs.PatternGrammar.{IsReadAt, IsNameOrNumber, IsSimpleText, IsStyleBehind, message_ends, message_closes, message_text, message_argument, none_arg, simple_arg, complex_arg, style_branch, style_ends}
-use Rattle.message_pattern.specs.StyledParts.{Format, name_of, style_behind, format_behind, format_of, style_view, format_view, unstyled_part, unstyled}
+use Rattle.message_pattern.specs.StyledParts.{Format, argument_name_of, style_behind, format_behind, format_of, style_view, format_view, unstyled_part, unstyled}
 use Rattle.message_pattern.proofs.Longest.{longest_run, longest_rest}
 use Rattle.message_pattern.proofs.BeforeBrace.{name_alone, name_whole}
 
@@ -31,7 +31,7 @@ styled_too (style_branch d kind other sel s t u v rest inner more i e room h k) 
 styled_too (style_ends d kind s rest e) = style_ends d kind s rest e
 
 -- a name alone has no format
-pub name_apart : (s name rest : List ℕ) → IsNameOrNumber s name rest → (name_of name ≡ name) × (format_of name ≡ None)
+pub name_apart : (s name rest : List ℕ) → IsNameOrNumber s name rest → (argument_name_of name ≡ name) × (format_of name ≡ None)
 name_apart s name rest h =
     (name_alone s name rest h.bytes, ap (λ (l : List ℕ). format_behind (after_white l)) (name_whole s name rest h.bytes))
 
@@ -44,7 +44,7 @@ format word style = Some (record { format_type = word; style = style })
 
 -- the name and the format that the grammar finds
 pub format_apart : (text name word : List ℕ) (style : Option (List ℕ)) → IsSimpleText text name word style
-    → (name_of text ≡ name) × (format_of text ≡ Some (record { format_type = word; style = style }))
+    → (argument_name_of text ≡ name) × (format_of text ≡ Some (record { format_type = word; style = style }))
 format_apart text name word style h = (
   longest_run Name text name h.behind_name h.named.bytes,
   ap (λ (l : List ℕ). format_behind (after_white l)) (longest_rest Name text name h.behind_name h.named.bytes)

@@ -22,8 +22,8 @@ abbrev pub IsTextOf : Formats → List ℕ → List Part → Type 0
 IsTextOf formats text parts = IsReadAt formats (InMessage Whole 0 false) text parts []
 
 -- the text is none: its first fault is of this kind, at this byte
-abbrev pub HasFault : Formats → List ℕ → FaultKind → ℕ → Type 0
-HasFault formats text kind place =
+abbrev pub HasFirstFault : Formats → List ℕ → FaultKind → ℕ → Type 0
+HasFirstFault formats text kind place =
     (fault : Fault) × ReadsText formats text (Faulty fault) × (kind ≡ fault.kind) × (place ≡ length text - fault.left)
 
 -- the result is this one, unless memory ran out
@@ -32,7 +32,7 @@ IsUnlessMemory r answer = (r ≡ answer) ⊎ (r ≡ Err errors.Memory)
 
 -- the error is a fault that the text has, or out of memory
 abbrev pub IsFaultIn : Formats → List ℕ → error.PatternError → Type 0
-IsFaultIn formats text (errors.Fault kind place) = HasFault formats text kind place
+IsFaultIn formats text (errors.Fault kind place) = HasFirstFault formats text kind place
 IsFaultIn formats text errors.Memory = Unit {0}
 
 -- what is returned is what the text is read as
@@ -45,7 +45,7 @@ IsWhatIsRead formats text (Err e) = IsFaultIn formats text e
 pub record ReadsExactly (formats : Formats) (text : List ℕ) (r : Result (List Part) error.PatternError) : Type 0 where
   pub only : IsWhatIsRead formats text r
   pub read : (parts : List Part) → IsTextOf formats text parts → IsUnlessMemory r (Ok parts)
-  pub fault : (kind : FaultKind) (place : ℕ) → HasFault formats text kind place → IsUnlessMemory r (Err (errors.Fault kind place))
+  pub fault : (kind : FaultKind) (place : ℕ) → HasFirstFault formats text kind place → IsUnlessMemory r (Err (errors.Fault kind place))
 
 -- ---- patterns, without simple formats
 
@@ -55,16 +55,16 @@ IsPattern text parts = IsTextOf Refused text parts
 
 -- the text is none: its first fault is of this kind, at this byte
 abbrev pub HasPatternFault : List ℕ → FaultKind → ℕ → Type 0
-HasPatternFault text kind place = HasFault Refused text kind place
+HasPatternFault text kind place = HasFirstFault Refused text kind place
 
 -- the error is a fault that the text has, or out of memory
-abbrev pub IsFaultOf : List ℕ → error.PatternError → Type 0
-IsFaultOf text e = IsFaultIn Refused text e
+abbrev pub IsPatternFault : List ℕ → error.PatternError → Type 0
+IsPatternFault text e = IsFaultIn Refused text e
 
 -- parts are returned if and only if the text is a pattern with these parts, and a fault if and only
 -- if the text has it, out of memory aside
-abbrev pub ParsesExactly : List ℕ → Result (List Part) error.PatternError → Type 0
-ParsesExactly text r = ReadsExactly Refused text r
+abbrev pub ParsesPatternExactly : List ℕ → Result (List Part) error.PatternError → Type 0
+ParsesPatternExactly text r = ReadsExactly Refused text r
 
 -- ---- patterns with simple formats
 
@@ -74,7 +74,7 @@ abbrev pub IsStyledPattern : List ℕ → List Part → Type 0
 IsStyledPattern text parts = IsTextOf Allowed text parts
 
 abbrev pub HasStyledFault : List ℕ → FaultKind → ℕ → Type 0
-HasStyledFault text kind place = HasFault Allowed text kind place
+HasStyledFault text kind place = HasFirstFault Allowed text kind place
 
 abbrev pub ParsesStyledExactly : List ℕ → Result (List Part) error.PatternError → Type 0
 ParsesStyledExactly text r = ReadsExactly Allowed text r
@@ -86,13 +86,13 @@ abbrev pub AreReadOneWay : Type 0
 AreReadOneWay =
     (formats : Formats) (text : List ℕ)
     → ((a b : List Part) → IsTextOf formats text a → IsTextOf formats text b → a ≡ b)
-    × ((parts : List Part) (kind : FaultKind) (place : ℕ) → IsTextOf formats text parts → HasFault formats text kind place → ⊥)
-    × ((a b : FaultKind) (m n : ℕ) → HasFault formats text a m → HasFault formats text b n → (a ≡ b) × (m ≡ n))
+    × ((parts : List Part) (kind : FaultKind) (place : ℕ) → IsTextOf formats text parts → HasFirstFault formats text kind place → ⊥)
+    × ((a b : FaultKind) (m n : ℕ) → HasFirstFault formats text a m → HasFirstFault formats text b n → (a ≡ b) × (m ≡ n))
 
 -- a text is read as parts, or has a fault
 abbrev pub IsReadOrFaulty : Formats → List ℕ → Type 0
 IsReadOrFaulty formats text =
-    ((parts : List Part) × IsTextOf formats text parts) ⊎ ((kind : FaultKind) × (place : ℕ) × HasFault formats text kind place)
+    ((parts : List Part) × IsTextOf formats text parts) ⊎ ((kind : FaultKind) × (place : ℕ) × HasFirstFault formats text kind place)
 
 -- every text is read as parts, or has a fault
 abbrev pub EveryTextIsRead : Type 0
@@ -104,21 +104,21 @@ PatternsAreStyled = (text : List ℕ) (parts : List Part) → IsPattern text par
 
 -- ---- The texts that the errors print
 
-abbrev pub fault_kind_text : FaultKind → List ℕ
-fault_kind_text Unclosed = codes "a brace isn't closed"
-fault_kind_text ExpectedName = codes "expected the name of an argument"
-fault_kind_text BadNumber = codes "the number of an argument begins with a zero"
-fault_kind_text ExpectedEnd = codes "expected ',' or '}'"
-fault_kind_text ExpectedType = codes "expected the type of an argument"
-fault_kind_text UnsupportedType = codes "the type is none of plural, selectordinal and select"
-fault_kind_text ExpectedStyle = codes "expected ',' before the branches"
-fault_kind_text ExpectedOffset = codes "expected digits of an offset"
-fault_kind_text ExpectedSelector = codes "expected a selector"
-fault_kind_text ExpectedValue = codes "expected a number after '='"
-fault_kind_text ExpectedBranch = codes "expected '{' after a selector"
-fault_kind_text MissingOther = codes "no branch for 'other'"
-fault_kind_text TooDeep = codes "branches are nested too deep"
+abbrev pub pattern_fault_text : FaultKind → List ℕ
+pattern_fault_text Unclosed = codes "a brace isn't closed"
+pattern_fault_text ExpectedName = codes "expected the name of an argument"
+pattern_fault_text BadNumber = codes "the number of an argument begins with a zero"
+pattern_fault_text ExpectedEnd = codes "expected ',' or '}'"
+pattern_fault_text ExpectedType = codes "expected the type of an argument"
+pattern_fault_text UnsupportedType = codes "the type is none of plural, selectordinal and select"
+pattern_fault_text ExpectedStyle = codes "expected ',' before the branches"
+pattern_fault_text ExpectedOffset = codes "expected digits of an offset"
+pattern_fault_text ExpectedSelector = codes "expected a selector"
+pattern_fault_text ExpectedValue = codes "expected a number after '='"
+pattern_fault_text ExpectedBranch = codes "expected '{' after a selector"
+pattern_fault_text MissingOther = codes "no branch for 'other'"
+pattern_fault_text TooDeep = codes "branches are nested too deep"
 
 abbrev pub pattern_error_text : error.PatternError → List ℕ
-pattern_error_text (errors.Fault kind place) = fault_kind_text kind ++ codes " at byte " ++ decimal place
+pattern_error_text (errors.Fault kind place) = pattern_fault_text kind ++ codes " at byte " ++ decimal place
 pattern_error_text errors.Memory = codes "out of memory"

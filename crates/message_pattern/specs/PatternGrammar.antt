@@ -1,5 +1,5 @@
 -- The grammar of patterns, line by line as ICU's pages on MessageFormat, PluralFormat and
--- SelectFormat state it, with the parts. Each line says what is read from the front of a text, and
+-- SelectFormat state it, with the parts. Each line says what is read from the message_front of a text, and
 -- the rest that follows it.
 use Rattle.std.specs.Prelude.{◌≡◌, ◌≢◌, ℕ, ◌+◌, ◌<◌, List, [], ◌∷◌, ◌++◌, Bool, true, false, ◌||◌, Option, Some, None, length, drop, codes}
 use Rattle.pattern_bytes.specs.declared.bytes.Class.{Class}
@@ -11,14 +11,14 @@ use Rattle.message_pattern.specs.declared.part.ArgumentKind.TheVariants.{Select}
 use Rattle.message_pattern.specs.declared.reader.TheConstants.{DEPTH_LIMIT}
 use Rattle.message_pattern.specs.declared.text.Context.{Context}
 use Rattle.pattern_bytes.specs.PatternBytes.{comma, equals, opening, closing, begins, after_white, after_word}
-use Rattle.message_pattern.specs.PatternText.{front, is_nested, End, Closes, Opens, Takes}
+use Rattle.message_pattern.specs.PatternText.{message_front, is_nested, End, Closes, Opens, Takes}
 use Rattle.message_pattern.specs.PatternParts.{Part, PatternPiece, Selector, Exactly, Keyword, Argument, Begin, Branch}
 use Rattle.message_pattern.specs.PatternParts as piece
 use Rattle.message_pattern.specs.PatternHeads.{is_bad_number, kind_named, is_simple_type, is_counting, is_number, is_other}
 use Rattle.message_pattern.specs.PatternStyles.{IsStyle}
 use Rattle.message_pattern.specs.PatternReading.{PatternPlace, InMessage, InArgument, InBranches, one, at_most_one, context_of}
 
--- the longest front of the class, and the rest: at each place of the front a byte of the class
+-- the longest message_front of the class, and the rest: at each place of the message_front a byte of the class
 -- begins, which in a name is no white space, and at the rest none does
 pub record IsLongest (class : Class) (s taken rest : List ℕ) : Type 0 where
   pub whole : s ≡ taken ++ rest
@@ -80,14 +80,14 @@ IsSelector kind s (Exactly number) rest =
     (t : List ℕ) × (s ≡ equals ∷ t) × (is_counting kind ≡ true) × IsLongest Number t number rest × (is_number number ≡ true)
 IsSelector kind s (Keyword word) rest = IsLongest Name s word rest × (word ≢ [])
 
--- from a place on, these parts are read from the front of a text, and the rest follows
+-- from a place on, these parts are read from the message_front of a text, and the rest follows
 pub data IsReadAt (formats : Formats) : PatternPlace → List ℕ → List Part → List ℕ → Type 0 where
   -- message = messageText (argument messageText)*
-  message_ends : (c : Context) (d : ℕ) (q : Bool) (s : List ℕ) → front c q s ≡ End → is_nested c ≡ false → IsReadAt formats (InMessage c d q) s [] []
-  message_closes : (c : Context) (d : ℕ) (q : Bool) (s rest : List ℕ) → front c q s ≡ Closes rest → IsReadAt formats (InMessage c d q) s [] rest
-  message_text : (c : Context) (d : ℕ) (q r : Bool) (s t rest : List ℕ) (p : Option PatternPiece) (more : List Part) → front c q s ≡ Takes p r t
+  message_ends : (c : Context) (d : ℕ) (q : Bool) (s : List ℕ) → message_front c q s ≡ End → is_nested c ≡ false → IsReadAt formats (InMessage c d q) s [] []
+  message_closes : (c : Context) (d : ℕ) (q : Bool) (s rest : List ℕ) → message_front c q s ≡ Closes rest → IsReadAt formats (InMessage c d q) s [] rest
+  message_text : (c : Context) (d : ℕ) (q r : Bool) (s t rest : List ℕ) (p : Option PatternPiece) (more : List Part) → message_front c q s ≡ Takes p r t
       → IsReadAt formats (InMessage c d r) t more rest → IsReadAt formats (InMessage c d q) s (at_most_one d p ++ more) rest
-  message_argument : (c : Context) (d : ℕ) (q : Bool) (s t u rest : List ℕ) (inner more : List Part) → front c q s ≡ Opens t
+  message_argument : (c : Context) (d : ℕ) (q : Bool) (s t u rest : List ℕ) (inner more : List Part) → message_front c q s ≡ Opens t
       → IsReadAt formats (InArgument d) t inner u → IsReadAt formats (InMessage c d false) u more rest → IsReadAt formats (InMessage c d q) s (inner ++ more) rest
   -- noneArg = '{' argNameOrNumber '}'
   none_arg : (d : ℕ) (s name t rest : List ℕ) → IsNameOrNumber (after_white s) name t → after_white t ≡ closing ∷ rest

@@ -15,24 +15,24 @@ use Rattle.message_pattern.specs.PatternParts.{Selector, Exactly, Keyword}
 use Rattle.message_pattern.specs.PatternStyles.{behind_style}
 
 -- what follows a value; a fault is the result
-abbrev pub and_then : {A B : Type 0} → Result A Fault → (A → Result B Fault) → Result B Fault
-and_then (Ok x) f = f x
-and_then (Err e) f = Err e
+abbrev pub head_and_then : {A B : Type 0} → Result A Fault → (A → Result B Fault) → Result B Fault
+head_and_then (Ok x) f = f x
+head_and_then (Err e) f = Err e
 
 -- ---- faults
 
 -- the fault of this kind in front of s
-abbrev pub fault_at : FaultKind → List ℕ → Fault
-fault_at kind s = record { kind = kind; left = length s }
+abbrev pub pattern_fault_at : FaultKind → List ℕ → Fault
+pattern_fault_at kind s = record { kind = kind; left = length s }
 
 -- the text ends where more has to come
 abbrev pub unclosed : Fault
 unclosed = record { kind = Unclosed; left = 0 }
 
 -- what is expected isn't in front of s
-abbrev pub missing : FaultKind → List ℕ → Fault
-missing kind [] = unclosed
-missing kind (b ∷ s) = fault_at kind (b ∷ s)
+abbrev pub missing_front_fault : FaultKind → List ℕ → Fault
+missing_front_fault kind [] = unclosed
+missing_front_fault kind (b ∷ s) = pattern_fault_at kind (b ∷ s)
 
 -- ---- the head of an argument
 
@@ -51,8 +51,8 @@ is_bad_number (a ∷ s) = (a == 48 && not (is_empty_text s)) && is_empty_text (b
 -- the name in front of s, and what follows it and white space
 abbrev pub name_front : List ℕ → Result (List ℕ × List ℕ) Fault
 name_front s =
-    if is_empty_text (class_front Name s) then Err (missing ExpectedName s)
-    else if is_bad_number (class_front Name s) then Err (fault_at BadNumber s)
+    if is_empty_text (class_front Name s) then Err (missing_front_fault ExpectedName s)
+    else if is_bad_number (class_front Name s) then Err (pattern_fault_at BadNumber s)
     else Ok (class_front Name s, after_white (behind_run Name s))
 
 -- the kind that a type names, in letters of any case
@@ -66,23 +66,23 @@ kind_named word =
 -- a comma is in front of s, and then the argument's style
 abbrev pub style_front : ArgumentKind → List ℕ → Result (ArgumentKind × List ℕ) Fault
 style_front kind [] = Err unclosed
-style_front kind (b ∷ s) = if b == comma then Ok (kind, s) else Err (fault_at ExpectedStyle (b ∷ s))
+style_front kind (b ∷ s) = if b == comma then Ok (kind, s) else Err (pattern_fault_at ExpectedStyle (b ∷ s))
 
 -- a type is in front of s, which is followed by rest
 abbrev pub kind_before : List ℕ → Option ArgumentKind → List ℕ → Result (ArgumentKind × List ℕ) Fault
-kind_before s None rest = Err (fault_at UnsupportedType s)
+kind_before s None rest = Err (pattern_fault_at UnsupportedType s)
 kind_before s (Some kind) rest = style_front kind rest
 
 -- the type in front of s, which chooses, and what follows it and its comma
 abbrev pub kind_front : List ℕ → Result (ArgumentKind × List ℕ) Fault
 kind_front s =
-    if is_empty_text (class_front Letter s) then Err (missing ExpectedType s)
+    if is_empty_text (class_front Letter s) then Err (missing_front_fault ExpectedType s)
     else kind_before s (kind_named (class_front Letter s)) (after_white (behind_run Letter s))
 
 -- the digits in front of s
 abbrev pub digits_front : List ℕ → Result (Option (List ℕ) × List ℕ) Fault
 digits_front s =
-    if is_empty_text (class_front Digit s) then Err (missing ExpectedOffset s)
+    if is_empty_text (class_front Digit s) then Err (missing_front_fault ExpectedOffset s)
     else Ok (Some (class_front Digit s), behind_run Digit s)
 
 -- the offset behind `offset:`, if that is in front of s
@@ -98,7 +98,7 @@ offset_front _ s = offset_behind (after_word (codes "offset:") (after_white s)) 
 -- the argument with this name chooses: its type and its offset are in front of s
 abbrev pub choice_front : List ℕ → List ℕ → Result (Head × List ℕ) Fault
 choice_front name s =
-    and_then (kind_front (after_white s)) (λ kind. and_then (offset_front kind.0 kind.1) (λ offset.
+    head_and_then (kind_front (after_white s)) (λ kind. head_and_then (offset_front kind.0 kind.1) (λ offset.
     Ok (Choice kind.0 name offset.0, offset.1)))
 
 -- the word is the type of a simple format: any but those that choose, and `choice`, in letters of
@@ -122,7 +122,7 @@ simple_front s [] = Err unclosed
 simple_front s (b ∷ t) =
     if b == closing then Ok (Plain (text_before s t), t)
     else if b == comma then styled_front s (behind_style 0 false t)
-    else Err (fault_at ExpectedEnd (b ∷ t))
+    else Err (pattern_fault_at ExpectedEnd (b ∷ t))
 
 -- the argument s has a type, of which t follows the comma
 abbrev pub typed_front : Formats → List ℕ → List ℕ → List ℕ → Result (Head × List ℕ) Fault
@@ -137,11 +137,11 @@ behind_name formats s name [] = Err unclosed
 behind_name formats s name (b ∷ t) =
     if b == closing then Ok (Plain name, t)
     else if b == comma then typed_front formats s name t
-    else Err (fault_at ExpectedEnd (b ∷ t))
+    else Err (pattern_fault_at ExpectedEnd (b ∷ t))
 
 -- the head of an argument in front of s
 abbrev pub head_front : Formats → List ℕ → Result (Head × List ℕ) Fault
-head_front formats s = and_then (name_front (after_white s)) (λ name. behind_name formats (after_white s) name.0 name.1)
+head_front formats s = head_and_then (name_front (after_white s)) (λ name. behind_name formats (after_white s) name.0 name.1)
 
 -- ---- what stands before a branch
 
@@ -174,12 +174,12 @@ is_number (b ∷ s) = if b == minus_sign then is_unsigned s else is_unsigned (b 
 abbrev pub exact_front : List ℕ → Result (Selector × List ℕ) Fault
 exact_front s =
     if is_number (class_front Number s) then Ok (Exactly (class_front Number s), behind_run Number s)
-    else Err (missing ExpectedValue s)
+    else Err (missing_front_fault ExpectedValue s)
 
 -- the keyword in front of s
 abbrev pub keyword_front : List ℕ → Result (Selector × List ℕ) Fault
 keyword_front s =
-    if is_empty_text (class_front Name s) then Err (missing ExpectedSelector s)
+    if is_empty_text (class_front Name s) then Err (missing_front_fault ExpectedSelector s)
     else Ok (Keyword (class_front Name s), behind_run Name s)
 
 -- the selector in front of a text: an argument that counts may compare with a number
@@ -190,14 +190,14 @@ selector_front kind b s = if b == equals && is_counting kind then exact_front s 
 abbrev pub branch_opens : Selector → List ℕ → Result BranchFront Fault
 branch_opens selector [] = Err unclosed
 branch_opens selector (b ∷ s) =
-    if b == opening then Ok (Opens selector s) else Err (fault_at ExpectedBranch (b ∷ s))
+    if b == opening then Ok (Opens selector s) else Err (pattern_fault_at ExpectedBranch (b ∷ s))
 
 -- in front of a text is the next branch, or the end: a branch `other` has to stand before it
 abbrev pub next_branch : ArgumentKind → Bool → List ℕ → Result BranchFront Fault
 next_branch kind has_other [] = Err unclosed
 next_branch kind has_other (b ∷ s) =
-    if b == closing then (if has_other then Ok (Closes s) else Err (fault_at MissingOther (b ∷ s)))
-    else and_then (selector_front kind b s) (λ x. branch_opens x.0 (after_white x.1))
+    if b == closing then (if has_other then Ok (Closes s) else Err (pattern_fault_at MissingOther (b ∷ s)))
+    else head_and_then (selector_front kind b s) (λ x. branch_opens x.0 (after_white x.1))
 
 abbrev pub branch_front : ArgumentKind → Bool → List ℕ → Result BranchFront Fault
 branch_front kind has_other s = next_branch kind has_other (after_white s)

@@ -8,10 +8,10 @@ use Rattle.message_pattern.specs.declared.part.ArgumentKind.{ArgumentKind}
 use Rattle.message_pattern.specs.declared.part.ArgumentKind.TheVariants.{Plural, Ordinal, Select}
 use Rattle.message_pattern.specs.declared.text.Context.{Context}
 use Rattle.message_pattern.specs.declared.text.Context.TheVariants.{Whole, Counted, Selected}
-use Rattle.message_pattern.specs.PatternText.{Front, End, Closes, Opens, Takes, front, is_nested}
+use Rattle.message_pattern.specs.PatternText.{Front, End, Closes, Opens, Takes, message_front, is_nested}
 use Rattle.message_pattern.specs.PatternParts.{Part, PatternPiece, Selector}
 use Rattle.message_pattern.specs.PatternParts as piece
-use Rattle.message_pattern.specs.PatternHeads.{Head, Plain, Choice, BranchFront, head_front, branch_front, is_other, unclosed, fault_at}
+use Rattle.message_pattern.specs.PatternHeads.{Head, Plain, Choice, BranchFront, head_front, branch_front, is_other, unclosed, pattern_fault_at}
 use Rattle.message_pattern.specs.PatternHeads as branch
 
 -- where a reading stands
@@ -30,7 +30,7 @@ pub data ReadOutcome : Type 0 where
   -- the first fault
   Faulty : Fault → ReadOutcome
 
--- what stands in front of a text at a place
+-- what stands in message_front of a text at a place
 pub data ReadStep : Type 0 where
   -- the end of what is read there: the last parts, and what follows
   Ends : List Part → List ℕ → ReadStep
@@ -78,16 +78,16 @@ abbrev pub opens_branch : ArgumentKind → ℕ → Bool → Selector → List �
 opens_branch kind depth has_other selector rest =
     if nat_lt depth DEPTH_LIMIT
     then Calls (one depth (piece.Branch selector)) (InMessage (context_of kind) (depth + 1) false) (InBranches kind depth (has_other || is_other selector)) rest
-    else Fails (fault_at TooDeep rest)
+    else Fails (pattern_fault_at TooDeep rest)
 
 abbrev pub branches_step : ArgumentKind → ℕ → Bool → Result BranchFront Fault → ReadStep
 branches_step kind depth has_other (Err fault) = Fails fault
 branches_step kind depth has_other (Ok (branch.Closes rest)) = Ends (one depth piece.End) rest
 branches_step kind depth has_other (Ok (branch.Opens selector rest)) = opens_branch kind depth has_other selector rest
 
--- what stands in front of s at a place
+-- what stands in message_front of s at a place
 abbrev pub read_step : Formats → PatternPlace → List ℕ → ReadStep
-read_step formats (InMessage context depth quoted) s = message_step context depth (front context quoted s)
+read_step formats (InMessage context depth quoted) s = message_step context depth (message_front context quoted s)
 read_step formats (InArgument depth) s = argument_step depth (head_front formats s)
 read_step formats (InBranches kind depth has_other) s = branches_step kind depth has_other (branch_front kind has_other s)
 

@@ -1,4 +1,4 @@
--- What stands at the front of a message's text: text, an apostrophe that quotes or doesn't, `#`, or
+-- What stands at the message_front of a message's text: text, an apostrophe that quotes or doesn't, `#`, or
 -- a brace. It is ICU's page on MessageFormat, Quoting and Escaping, in the mode DOUBLE_OPTIONAL.
 use Rattle.std.specs.Prelude.{ℕ, ◌==◌, List, [], ◌∷◌, Bool, true, false, ◌&&◌, ◌||◌, Option, Some, None, if◌then◌else◌}
 use Rattle.pattern_bytes.specs.declared.bytes.Class.TheVariants.{Plain, Unquoted}
@@ -7,7 +7,7 @@ use Rattle.message_pattern.specs.declared.text.Context.TheVariants.{Whole, Count
 use Rattle.message_pattern.specs.PatternParts.{PatternPiece, Text, Hash}
 use Rattle.pattern_bytes.specs.PatternBytes.{apostrophe, hash, opening, closing, class_front, behind_run}
 
--- what stands at the front, and what follows it
+-- what stands at the message_front, and what follows it
 pub data Front : Type 0 where
   -- nothing: the text ends
   End : Front
@@ -71,6 +71,6 @@ quoted_front (b ∷ s) =
     if b == apostrophe then quoted_apostrophe s
     else takes_text (class_front Unquoted (b ∷ s)) true (behind_run Unquoted (b ∷ s))
 
--- the front of text, quoted or not
-abbrev pub front : Context → Bool → List ℕ → Front
-front context quoted s = if quoted then quoted_front s else plain_front context s
+-- the message_front of text, quoted or not
+abbrev pub message_front : Context → Bool → List ℕ → Front
+message_front context quoted s = if quoted then quoted_front s else plain_front context s

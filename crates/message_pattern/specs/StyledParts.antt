@@ -16,8 +16,8 @@ pub record Format : Type 0 where
   pub style : Option (List ℕ)
 
 -- the name in the text between the braces of an argument that doesn't choose
-abbrev pub name_of : List ℕ → List ℕ
-name_of text = class_front Name text
+abbrev pub argument_name_of : List ℕ → List ℕ
+argument_name_of text = class_front Name text
 
 -- all behind the comma
 abbrev pub style_behind : List ℕ → Option (List ℕ)
@@ -37,9 +37,9 @@ format_of text = format_behind (after_white (behind_run Name text))
 -- the name and the format are those that the grammar finds in the text
 abbrev pub TextsAreTakenApart : Type 0
 TextsAreTakenApart =
-    ((s name rest : List ℕ) → IsNameOrNumber s name rest → (name_of name ≡ name) × (format_of name ≡ None))
+    ((s name rest : List ℕ) → IsNameOrNumber s name rest → (argument_name_of name ≡ name) × (format_of name ≡ None))
     × ((text name word : List ℕ) (style : Option (List ℕ)) → IsSimpleText text name word style
-    → (name_of text ≡ name) × (format_of text ≡ Some (record { format_type = word; style = style })))
+    → (argument_name_of text ≡ name) × (format_of text ≡ Some (record { format_type = word; style = style })))
 
 -- ---- the same of the types of the code
 
@@ -57,7 +57,7 @@ format_view (Some f) = Some (record { format_type = f.format_type.now; style = s
 abbrev pub unstyled_piece : PatternPiece → PatternPiece
 unstyled_piece (Text s) = Text s
 unstyled_piece Hash = Hash
-unstyled_piece (Argument text) = Argument (name_of text)
+unstyled_piece (Argument text) = Argument (argument_name_of text)
 unstyled_piece (Begin kind name offset) = Begin kind name offset
 unstyled_piece (Branch selector) = Branch selector
 unstyled_piece End = End

@@ -2,7 +2,7 @@
 
 ghost use Rattle.std.specs.Prelude.{◌≡◌, ◌∷◌, ◌≤◌, ◌<◌, IfOk, length};
 ghost use Rattle.pattern_bytes.specs.PatternBytes.{after_white};
-ghost use Rattle.message_pattern.specs.PatternHeads.{and_then, is_counting, is_fraction, is_unsigned, is_number, exact_front, keyword_front, selector_front, branch_opens, next_branch, branch_front, is_other};
+ghost use Rattle.message_pattern.specs.PatternHeads.{head_and_then, is_counting, is_fraction, is_unsigned, is_number, exact_front, keyword_front, selector_front, branch_opens, next_branch, branch_front, is_other};
 ghost use Rattle.message_pattern.specs.PatternParts.{selector_view};
 ghost use Rattle.message_pattern.specs.Inner.PatternViews.{seen, branch_view, IsBranchBehind};
 
@@ -121,7 +121,7 @@ fn selected_branch<'p>(
     rest: &'p [u8],
 ) -> Result<BranchFront<'p>, Fault>
     requires { text.now ≡ first ∷ rest.now }
-    ensures branch { seen branch_view result ≡ and_then (selector_front kind first rest.now) (λ x. branch_opens x.0 (after_white x.1)) }
+    ensures branch { seen branch_view result ≡ head_and_then (selector_front kind first rest.now) (λ x. branch_opens x.0 (after_white x.1)) }
     ensures shorter { IfOk result (λ x. IsBranchBehind (branch_view x) text.now) }
 {
     let (selector, after) = selector_front(kind, text, first, rest)?;

@@ -38,9 +38,9 @@ pub enum FaultKind {
 
 impl fmt::Display for FaultKind {
     ghost use Rattle.std.specs.Prelude.{Some};
-    ghost use Rattle.message_pattern.specs.PatternAnswers.{fault_kind_text};
+    ghost use Rattle.message_pattern.specs.PatternAnswers.{pattern_fault_text};
 
-    ghost output = { λ kind. Some (fault_kind_text kind) };
+    ghost output = { λ kind. Some (pattern_fault_text kind) };
 
     fn fmt<W: fmt::Write>(&self, f: &mut fmt::Formatter<W>) -> fmt::Result {
         f.write_str(match self {

@@ -1,7 +1,7 @@
 //! The head of an argument: what stands between its brace and its end or its branches.
 
 ghost use Rattle.std.specs.Prelude.{◌≡◌, ◌∷◌, ◌≤◌, ◌<◌, IfOk, false, length};
-ghost use Rattle.message_pattern.specs.PatternHeads.{fault_at, unclosed, missing, is_bad_number, name_front, kind_named, style_front, kind_before, kind_front, digits_front, offset_front, choice_front, is_simple_type, text_before, styled_front, simple_front, typed_front, behind_name, head_front};
+ghost use Rattle.message_pattern.specs.PatternHeads.{pattern_fault_at, unclosed, missing_front_fault, is_bad_number, name_front, kind_named, style_front, kind_before, kind_front, digits_front, offset_front, choice_front, is_simple_type, text_before, styled_front, simple_front, typed_front, behind_name, head_front};
 ghost use Rattle.message_pattern.specs.PatternStyles.{behind_style};
 ghost use Rattle.message_pattern.specs.Inner.PatternViews.{seen, head_view, digits_view};
 
@@ -26,7 +26,7 @@ pub(crate) enum Head<'p> {
 
 // The fault of this kind in front of the text.
 pub(crate) fn fault_at(kind: FaultKind, text: &[u8]) -> Fault
-    ensures { result ≡ fault_at kind text.now }
+    ensures { result ≡ pattern_fault_at kind text.now }
 {
     Fault {
         kind,
@@ -46,7 +46,7 @@ pub(crate) fn unclosed() -> Fault
 
 // What is expected isn't in front of the text.
 pub(crate) fn missing(kind: FaultKind, text: &[u8]) -> Fault
-    ensures { result ≡ missing kind text.now }
+    ensures { result ≡ missing_front_fault kind text.now }
 {
     match text {
         [] => unclosed(),

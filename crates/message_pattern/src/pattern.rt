@@ -2,7 +2,7 @@
 
 ghost use Rattle.std.specs.Prelude.{◌≡◌, IfOk};
 ghost use Rattle.message_pattern.specs.PatternParts.{parts_view};
-ghost use Rattle.message_pattern.specs.PatternAnswers.{ParsesExactly, ReadsExactly};
+ghost use Rattle.message_pattern.specs.PatternAnswers.{ParsesPatternExactly, ReadsExactly};
 ghost use Rattle.message_pattern.specs.PatternPrinting.{PrintsExactly};
 ghost use Rattle.message_pattern.specs.Inner.PatternViews.{parts_read, pattern_error};
 
@@ -46,7 +46,7 @@ impl<'p> Pattern<'p> {
     /// the list of parts. The error is the text's first fault, with the byte where it is, or out of
     /// memory.
     pub fn parse(alloc: Global, text: &'p [u8]) -> Result<Pattern<'p>, PatternError>
-        ensures { ParsesExactly text.now result }
+        ensures { ParsesPatternExactly text.now result }
     {
         match read(alloc, Formats::Refused, text) {
             Ok(parts) => Ok(Pattern { parts }),

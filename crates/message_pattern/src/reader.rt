@@ -62,7 +62,8 @@ fn pieces<'p>(
     text: &'p [u8],
     parts: &mut Vec<Part<'p>>,
 ) -> Result<Stop<'p>, ReadError>
-    ensures read { IfOk result (λ stop. (formats : Formats) (outcome : ReadOutcome) → ReadsTo formats (message_step context depth (stop_view stop)) (parts_view parts.new.items) outcome
+    ensures read { IfOk result (λ stop. (formats : Formats) (outcome : ReadOutcome)
+        → ReadsTo formats (message_step context depth (stop_view stop)) (parts_view parts.new.items) outcome
         → ReadsTo formats (read_step formats (InMessage context depth false) text.now) (parts_view parts.old.items) outcome) }
     ensures shorter { IfOk result (λ stop. IsShorter (stop_view stop) text.now) }
     ensures err { IfErr result (λ e. e ≡ ReadError.Memory) }

@@ -3,7 +3,7 @@
 ghost use Rattle.std.specs.Prelude.{◌≡◌};
 ghost use Rattle.pattern_bytes.specs.declared.bytes.Class.TheVariants.{Letter};
 ghost use Rattle.pattern_bytes.specs.PatternBytes.{after_white, behind_run, class_front};
-ghost use Rattle.message_pattern.specs.StyledParts.{format_behind, format_of, format_view, name_of, style_behind, style_view};
+ghost use Rattle.message_pattern.specs.StyledParts.{format_behind, format_of, format_view, argument_name_of, style_behind, style_view};
 
 use pattern_bytes::{Class, after_white, split_run};
 
@@ -30,7 +30,7 @@ impl<'p> StyledArgument<'p> {
     /// [`Argument`](crate::Piece::Argument) of a [`StyledPattern`](crate::StyledPattern) has. Of
     /// another text it is the name in front of it, and what stands where a format would.
     pub fn of(text: &'p [u8]) -> StyledArgument<'p>
-        ensures name { result.name.now ≡ name_of text.now }
+        ensures name { result.name.now ≡ argument_name_of text.now }
         ensures format { format_view result.format ≡ format_of text.now }
     {
         let (name, rest) = split_run(Class::Name, text);

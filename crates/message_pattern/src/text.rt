@@ -2,7 +2,7 @@
 
 ghost use Rattle.std.specs.Prelude.{◌≡◌, ◌∷◌, [], ◌≤◌, ◌<◌, ◌+◌, ℕ, List, length};
 ghost use Rattle.pattern_bytes.specs.PatternBytes.{apostrophe};
-ghost use Rattle.message_pattern.specs.PatternText.{is_nested, is_counted, is_quotable, apostrophe_front, plain_front, takes_text, quoted_front, front};
+ghost use Rattle.message_pattern.specs.PatternText.{is_nested, is_counted, is_quotable, apostrophe_front, plain_front, takes_text, quoted_front, message_front};
 ghost use Rattle.message_pattern.specs.Inner.PatternViews.{front_view, IsShorter};
 
 use crate::part::Piece;
@@ -78,7 +78,7 @@ impl Context {
 
 // The front of text, quoted or not.
 pub(crate) fn front_of(context: Context, quoted: bool, text: &[u8]) -> Front<'_>
-    ensures front { front_view result ≡ front context quoted text.now }
+    ensures front { front_view result ≡ message_front context quoted text.now }
     ensures shorter { IsShorter (front_view result) text.now }
 {
     let [first, rest @ ..] = text else {

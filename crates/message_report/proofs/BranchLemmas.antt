@@ -9,10 +9,10 @@ use Rattle.message_pattern.specs.declared.part.Piece as pieces
 use Rattle.message_pattern.specs.declared.part.Piece.TheVariants as piece
 use Rattle.message_pattern.specs.declared.part.Selector as selectors
 use Rattle.message_report.specs.FormFaults.{Language}
-use Rattle.message_report.specs.FoundInMessages.{Found}
+use Rattle.message_report.specs.FoundInMessages.{MessageFound}
 use Rattle.message_report.specs.Inner.ArgumentViews.{branching}
-use Rattle.message_report.specs.Inner.ToldFindings.{Tells, remembered}
-use Rattle.message_report.specs.MessageFindings.{Finding}
+use Rattle.message_report.specs.Inner.ToldFindings.{TellsFindings, remembered}
+use Rattle.message_report.specs.MessageFindings.{MessageFinding}
 use Rattle.message_report.specs.MessagePlaces.{ArgumentPlace}
 use Rattle.message_report.specs.MessagesReport.{branch_findings, findings_at, most_compared}
 use Rattle.message_report.specs.PatternFaults.{PluralArgument, branch_fault}
@@ -57,15 +57,15 @@ other_part depth ps rest p is low not = rw is (by p.piece refl)
 -- ---- In a loop
 
 -- the findings of the remaining branches complete those that were told
-abbrev pub GoingOn : Language → ArgumentPlace → PluralArgument → ℕ → Found → ℕ → Found → List Selector → List parts.Part → List Finding
+abbrev pub GoingOn : Language → ArgumentPlace → PluralArgument → ℕ → MessageFound → ℕ → MessageFound → List Selector → List parts.Part → List MessageFinding
     → Type 0
 GoingOn language place a first old count now seen left all =
     (before : List Selector) × (seen ≡ take most_compared before)
     × Going first old count now (branch_findings language place a before (branches_of a.depth (parts_view left))) all
 
 -- a part is passed
-pub passes : (language : Language) (place : ArgumentPlace) (a : PluralArgument) (first : ℕ) (old : Found) (count : ℕ) (now : Found)
-    (seen : List Selector) (ps rest : List parts.Part) (p : parts.Part) (all : List Finding) → ps ≡ p ∷ rest → a.depth < p.depth
+pub passes : (language : Language) (place : ArgumentPlace) (a : PluralArgument) (first : ℕ) (old : MessageFound) (count : ℕ) (now : MessageFound)
+    (seen : List Selector) (ps rest : List parts.Part) (p : parts.Part) (all : List MessageFinding) → ps ≡ p ∷ rest → a.depth < p.depth
     → GoingOn language place a first old count now seen ps all → GoingOn language place a first old count now seen rest all
 passes language place a first old count now seen ps rest p all is deep so_far = (
   so_far.0,
@@ -74,13 +74,13 @@ passes language place a first old count now seen ps rest p all is deep so_far = 
 )
 
 -- a branch is told
-pub tells_branch : (language : Language) (place : ArgumentPlace) (a : PluralArgument) (first : ℕ) (old : Found) (count : ℕ) (now : Found)
-    (seen : List Selector) (ps rest : List parts.Part) (p : parts.Part) (selector : selectors.Selector) (all : List Finding)
-    (fault : Option BranchFault) (next : ℕ) (new : Found) (after : List Selector)
+pub tells_branch : (language : Language) (place : ArgumentPlace) (a : PluralArgument) (first : ℕ) (old : MessageFound) (count : ℕ) (now : MessageFound)
+    (seen : List Selector) (ps rest : List parts.Part) (p : parts.Part) (selector : selectors.Selector) (all : List MessageFinding)
+    (fault : Option BranchFault) (next : ℕ) (new : MessageFound) (after : List Selector)
     → ps ≡ p ∷ rest → p.depth ≤ a.depth → p.piece ≡ piece.Branch selector
     → GoingOn language place a first old count now seen ps all
     → fault ≡ branch_fault language a seen (branching selector rest)
-    → Tells count now next new (findings_at place (selector_view selector) fault)
+    → TellsFindings count now next new (findings_at place (selector_view selector) fault)
     → after ≡ remembered seen (selector_view selector)
     → GoingOn language place a first old next new after rest all
 tells_branch language place a first old count now seen ps rest p selector all fault next new after is low branch so_far found told more = (
@@ -97,9 +97,9 @@ tells_branch language place a first old count now seen ps rest p selector all fa
     whole = rw (at_selector a.depth ps rest p selector is low branch, found, so_far.1) refl
 
 -- no branch is left
-pub ends_branches : (language : Language) (place : ArgumentPlace) (a : PluralArgument) (first : ℕ) (old : Found) (count : ℕ) (now : Found)
-    (seen : List Selector) (ps : List parts.Part) (all : List Finding) → branches_of a.depth (parts_view ps) ≡ []
-    → GoingOn language place a first old count now seen ps all → Tells first old count now all
+pub ends_branches : (language : Language) (place : ArgumentPlace) (a : PluralArgument) (first : ℕ) (old : MessageFound) (count : ℕ) (now : MessageFound)
+    (seen : List Selector) (ps : List parts.Part) (all : List MessageFinding) → branches_of a.depth (parts_view ps) ≡ []
+    → GoingOn language place a first old count now seen ps all → TellsFindings first old count now all
 ends_branches language place a first old count now seen ps all none so_far =
     completes first old count now (branch_findings language place a so_far.0 (branches_of a.depth (parts_view ps))) all
     (rw none refl) so_far.2

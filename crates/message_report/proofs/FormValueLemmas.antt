@@ -8,8 +8,8 @@ use Rattle.std.proofs.lemmas.Map.Text.{is_eq-slice_cmp}
 use Rattle.serde_json.specs.Data.{Data, Members, member, object}
 use Rattle.serde_json.specs.Find.{as_object, get_member}
 use Rattle.message_report.specs.FormFaults.{Language}
-use Rattle.message_report.specs.FoundInMessages.{Found}
-use Rattle.message_report.specs.Inner.FormValues.{first_of, under_key, value_under, IsFoundByValues}
+use Rattle.message_report.specs.FoundInMessages.{MessageFound}
+use Rattle.message_report.specs.Inner.FormValues.{first_of, under_key, value_of_form, IsFoundByValues}
 use Rattle.message_report.specs.MessageForms.{form_under, is_form_name}
 use Rattle.message_report.specs.MessagePlaces.{MessagePlace}
 use Rattle.message_report.specs.MessagesReport.{other_keys, IsFoundInForm}
@@ -68,7 +68,7 @@ object_with value members is = by value is
 
 -- what is found by the values is what is found in the message that has them
 pub found_by_values : (language : Option Language) (needs_number : Bool) (place : MessagePlace) (values : FormValues) (message : Data)
-    → ((form : Form) → value_under form values ≡ form_under form message) → (form : Form) (found : Found)
+    → ((form : Form) → value_of_form form values ≡ form_under form message) → (form : Form) (found : MessageFound)
     → IsFoundByValues language needs_number place values form found → IsFoundInForm language needs_number place message form found
 found_by_values language needs_number place values message are form found by_values =
     let zero = are ExplicitZero in

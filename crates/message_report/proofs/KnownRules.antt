@@ -10,8 +10,8 @@ use Rattle.plural_fallback.specs.UnknownLanguages.{is_unknown}
 use Rattle.plural_fallback.specs.declared.error.FallbackError.{FallbackError}
 use Rattle.plural_fallback.specs.declared.first_key.TheConstants.{MOST_LOCALES}
 use Rattle.plural_fallback.specs.declared.locales.Part.{Part}
-use Rattle.message_report.specs.Inner.KnownLanguages.{GivesKnown}
-use Rattle.message_report.specs.RulesSource.{HasRules, HasText, IsKnown, RulesSource, chain_key, source_of}
+use Rattle.message_report.specs.Inner.LanguageViews.{GivesKnown}
+use Rattle.message_report.specs.RulesSource.{HasRules, HasText, IsKnownInSource, RulesSource, chain_key, source_of}
 
 module _ (cardinal ordinal : List ℕ → Option FiveRules) (texts : Part → List ℕ → PluralCategory → Option (List ℕ))
     (keys : Part → List (List ℕ))
@@ -21,7 +21,7 @@ module _ (cardinal ordinal : List ℕ → Option FiveRules) (texts : Part → Li
 
   -- a language with a key of a type is known
   known_by : (type : PluralRuleType) (key : List ℕ) → IsFirstKey MOST_LOCALES (chain_key source type locale) key
-      → (is_unknown locale key ≡ false) ⊎ IsKnown source locale → IsKnown source locale
+      → (is_unknown locale key ≡ false) ⊎ IsKnownInSource source locale → IsKnownInSource source locale
   known_by Cardinal key first (inl own) = inl (key, first, own)
   known_by Ordinal key first (inl own) = inr (key, first, own)
   known_by Cardinal key first (inr known) = known

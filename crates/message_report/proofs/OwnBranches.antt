@@ -6,7 +6,7 @@ use Rattle.fixed_decimal.specs.Written.{CompactNumber, WritesCompact}
 use Rattle.fixed_decimal.specs.declared.sign.Sign.TheVariants as sign
 use Rattle.message_format.specs.FormatBranches.{Equals, HasBranchOfValue}
 use Rattle.message_pattern.specs.PatternParts.{Branching, Selector, Exactly, Keyword}
-use Rattle.message_report.specs.Inner.BranchKinds.{has_number_branch, is_of_number}
+use Rattle.message_report.specs.Inner.BranchKinds.{has_number_branch, is_number_selector}
 use Rattle.message_report.specs.PatternBranches.{IsOwn}
 
 -- behind an offset none has
@@ -18,7 +18,7 @@ pub not_so : (b : Bool) → not b ≡ true → b ≡ false
 not_so true e = cc
 not_so false e = refl
 
-head_not : (x : CompactNumber) (s : Selector) (rest : Bool) → (is_of_number s || rest) ≡ false → (Equals x s → ⊥) × (rest ≡ false)
+head_not : (x : CompactNumber) (s : Selector) (rest : Bool) → (is_number_selector s || rest) ≡ false → (Equals x s → ⊥) × (rest ≡ false)
 head_not x (Exactly number) rest none = cc
 head_not x (Keyword word) rest none = ((λ is. is), none)
 

@@ -8,8 +8,8 @@ use Rattle.serde_json.specs.Find.{as_object, get}
 use Rattle.serde_json.specs.View.{members_view}
 use Rattle.serde_json.specs.declared.Value.{Value}
 use Rattle.message_report.specs.FormFaults.{Language}
-use Rattle.message_report.specs.FoundInMessages.{Found}
-use Rattle.message_report.specs.MessagePlaces.{LocalePlace, type_name}
+use Rattle.message_report.specs.FoundInMessages.{MessageFound}
+use Rattle.message_report.specs.MessagePlaces.{FileLocalePlace, type_name}
 use Rattle.message_report.specs.Inner.NeededRules.{AreNeeded, has_members_in, is_filled, is_object_in}
 use Rattle.message_report.specs.Inner.NeededRules.{IsFoundInBothBy, IsFoundInMessagesBy, IsFoundInObjectBy, IsFoundInPartBy}
 use Rattle.message_report.specs.Inner.NeededRules.{IsFoundInPatternsObjectBy, IsFoundInPatternsPartBy}
@@ -34,8 +34,8 @@ filled_if (entry ∷ entries) true is = let none : length (entry ∷ entries) �
 filled_if (entry ∷ entries) false is = refl
 
 -- what is found in some messages under a language
-pub under_messages : (type : PluralRuleType) (locale : LocalePlace) (entries : List (String Global × Value))
-    (language : Option Language) (arguments : Option Data) (found : Found) → (length entries ≡ 0 → ⊥)
+pub under_messages : (type : PluralRuleType) (locale : FileLocalePlace) (entries : List (String Global × Value))
+    (language : Option Language) (arguments : Option Data) (found : MessageFound) → (length entries ≡ 0 → ⊥)
     → IsFoundUnder language arguments type locale (members_view entries) found
     → IsFoundInMessagesBy language arguments type locale (members_view entries) found
 under_messages type locale [] language arguments found some under = absurd (some refl)
@@ -51,42 +51,42 @@ either_second : (a b : Bool) → IsTrue b → IsTrue (a || b)
 either_second true b h = refl
 either_second false b h = h
 
-by_messages : (source : RulesSource) (arguments : Option Data) (type : PluralRuleType) (locale : LocalePlace)
+by_messages : (source : RulesSource) (arguments : Option Data) (type : PluralRuleType) (locale : FileLocalePlace)
     (language : Option Language) (members : Members)
-    (found : Found) → (IsTrue (is_filled (Some members)) → HasLanguage source type locale.locale language)
+    (found : MessageFound) → (IsTrue (is_filled (Some members)) → HasLanguage source type locale.locale language)
     → IsFoundInMessagesBy language arguments type locale members found → IsFoundInMessages source arguments type locale members found
 by_messages source arguments type locale language no_members found has by = by
 by_messages source arguments type locale language (member key value left) found has by = (language, has refl, by)
 
-by_object : (source : RulesSource) (arguments : Option Data) (type : PluralRuleType) (locale : LocalePlace)
+by_object : (source : RulesSource) (arguments : Option Data) (type : PluralRuleType) (locale : FileLocalePlace)
     (language : Option Language) (members : Option Members)
-    (found : Found) → (IsTrue (is_filled members) → HasLanguage source type locale.locale language)
+    (found : MessageFound) → (IsTrue (is_filled members) → HasLanguage source type locale.locale language)
     → IsFoundInObjectBy language arguments type locale members found → IsFoundInObject source arguments type locale members found
 by_object source arguments type locale language None found has by = by
 by_object source arguments type locale language (Some all) found has by = by_messages source arguments type locale language all found has by
 
-by_part : (source : RulesSource) (arguments : Option Data) (type : PluralRuleType) (locale : LocalePlace) (language : Option Language)
+by_part : (source : RulesSource) (arguments : Option Data) (type : PluralRuleType) (locale : FileLocalePlace) (language : Option Language)
     (part : Option Data)
-    (found : Found) → (IsTrue (has_members_in part) → HasLanguage source type locale.locale language)
+    (found : MessageFound) → (IsTrue (has_members_in part) → HasLanguage source type locale.locale language)
     → IsFoundInPartBy language arguments type locale part found → IsFoundInPart source arguments type locale part found
 by_part source arguments type locale language None found has by = by
 by_part source arguments type locale language (Some part) found has by =
     by_object source arguments type locale language (as_object part) found has by
 
-by_patterns : (source : RulesSource) (locale : LocalePlace) (two : TwoLanguages) (members : Option Members) (found : Found)
+by_patterns : (source : RulesSource) (locale : FileLocalePlace) (two : TwoLanguages) (members : Option Members) (found : MessageFound)
     → (IsTrue (is_some members) → HaveLanguages source locale.locale two) → IsFoundInPatternsObjectBy two locale members found
     → IsFoundInPatternsObject source locale members found
 by_patterns source locale two None found has by = by
 by_patterns source locale two (Some all) found has by = (two, has refl, by)
 
-by_patterns_part : (source : RulesSource) (locale : LocalePlace) (two : TwoLanguages) (part : Option Data) (found : Found)
+by_patterns_part : (source : RulesSource) (locale : FileLocalePlace) (two : TwoLanguages) (part : Option Data) (found : MessageFound)
     → (IsTrue (is_object_in part) → HaveLanguages source locale.locale two) → IsFoundInPatternsPartBy two locale part found
     → IsFoundInPatternsPart source locale part found
 by_patterns_part source locale two None found has by = by
 by_patterns_part source locale two (Some part) found has by = by_patterns source locale two (as_object part) found has by
 
 -- under the languages that are needed, the messages
-pub by_both : (source : RulesSource) (locale : LocalePlace) (value : Data) (two : TwoLanguages) (found : Found)
+pub by_both : (source : RulesSource) (locale : FileLocalePlace) (value : Data) (two : TwoLanguages) (found : MessageFound)
     → AreNeeded source locale.locale value two → IsFoundInBothBy two locale value found → IsFoundInBoth source locale value found
 by_both source locale value two found needed by = (
   by.0,
@@ -102,7 +102,7 @@ by_both source locale value two found needed by = (
     patterns = is_object_in (get patterns_name value)
 
 -- and the patterns
-pub by_needed : (source : RulesSource) (locale : LocalePlace) (value : Data) (two : TwoLanguages) (found : Found)
+pub by_needed : (source : RulesSource) (locale : FileLocalePlace) (value : Data) (two : TwoLanguages) (found : MessageFound)
     → AreNeeded source locale.locale value two → IsFoundInPatternsPartBy two locale (get patterns_name value) found
     → IsFoundInPatternsPart source locale (get patterns_name value) found
 by_needed source locale value two found needed by =

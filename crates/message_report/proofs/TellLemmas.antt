@@ -9,14 +9,14 @@ use Rattle.std.proofs.lemmas.Bool.Decides.{nat_tests}
 use Rattle.std.proofs.lemmas.List.{append-nil, length-append, length-take-le, take_all, take-append-le}
 use Rattle.message_pattern.specs.PatternParts.{Selector}
 use Rattle.message_report.specs.FindingCauses.{severity_of}
-use Rattle.message_report.specs.FoundInMessages.{Found, count_faults, count_notes, counted_alone, faults_of, findings_alone}
-use Rattle.message_report.specs.FoundInMessages.{one_finding, rest_of, together}
-use Rattle.message_report.specs.Inner.ToldFindings.{Tells, count_findings, count_next, remembered, told_findings, told_next}
-use Rattle.message_report.specs.MessageFindings.{Finding}
-use Rattle.message_report.specs.MessagePlaces.{PatternPlace, at_pattern}
+use Rattle.message_report.specs.FoundInMessages.{MessageFound, count_faults, count_notes, counted_alone, faults_of_severity, message_findings_alone}
+use Rattle.message_report.specs.FoundInMessages.{one_finding, further_message_faults, messages_together}
+use Rattle.message_report.specs.Inner.ToldFindings.{TellsFindings, count_findings, count_next, remembered, told_findings, told_next}
+use Rattle.message_report.specs.MessageFindings.{MessageFinding}
+use Rattle.message_report.specs.MessagePlaces.{FilePatternPlace, at_pattern}
 use Rattle.message_report.specs.MessagesReport.{count_told, found_of_findings, most_compared}
-use Rattle.plural_documents.specs.FirstLines.{most_told}
-use Rattle.message_report.proofs.MessagesFound.{none_added, nothing-together, together-nothing, together_assoc}
+use Rattle.plural_documents.specs.PrintedKeys.{most_told}
+use Rattle.message_report.proofs.MessagesFound.{none_added, nothing-together, messages_together-nothing, messages_together_assoc}
 
 -- the first part and the rest
 pub headed : {A : Type 0} (ps : List A) (d : A) (n : ℕ) → 1 ≤ length ps → n ≡ length ps → ps ≡ get_or ps 0 d ∷ take (n - 1) (drop 1 ps)
@@ -29,39 +29,39 @@ none_left {A} [] h = refl
 none_left {A} (p ∷ ps) h = absurd (omega arith)
 
 -- nothing is told
-pub tells_none : (before : ℕ) (old : Found) → Tells before old before old []
+pub tells_none : (before : ℕ) (old : MessageFound) → TellsFindings before old before old []
 tells_none before old = record { found = none_added old; counted = refl }
 
 -- what is told first, and what is told then
-told_both : (before : ℕ) (xs ys : List Finding)
-    → together (told_findings before xs) (told_findings (count_findings before xs) ys) ≡ told_findings before (xs ++ ys)
+told_both : (before : ℕ) (xs ys : List MessageFinding)
+    → messages_together (told_findings before xs) (told_findings (count_findings before xs) ys) ≡ told_findings before (xs ++ ys)
 told_both before [] ys = nothing-together (told_findings before ys)
 told_both before (x ∷ xs) ys =
     let middle = count_next before x in
-    together_assoc (told_next before x) (told_findings middle xs) (told_findings (count_findings middle xs) ys)
-    ∙ ap (λ (f : Found). together (told_next before x) f) (told_both middle xs ys)
+    messages_together_assoc (told_next before x) (told_findings middle xs) (told_findings (count_findings middle xs) ys)
+    ∙ ap (λ (f : MessageFound). messages_together (told_next before x) f) (told_both middle xs ys)
 
-counted_both : (before : ℕ) (xs ys : List Finding) → count_findings (count_findings before xs) ys ≡ count_findings before (xs ++ ys)
+counted_both : (before : ℕ) (xs ys : List MessageFinding) → count_findings (count_findings before xs) ys ≡ count_findings before (xs ++ ys)
 counted_both before [] ys = refl
 counted_both before (x ∷ xs) ys = counted_both (count_next before x) xs ys
 
-pub tells_both : (before : ℕ) (old : Found) (middle : ℕ) (now : Found) (count : ℕ) (new : Found) (xs ys : List Finding)
-    → Tells before old middle now xs → Tells middle now count new ys → Tells before old count new (xs ++ ys)
+pub tells_both : (before : ℕ) (old : MessageFound) (middle : ℕ) (now : MessageFound) (count : ℕ) (new : MessageFound) (xs ys : List MessageFinding)
+    → TellsFindings before old middle now xs → TellsFindings middle now count new ys → TellsFindings before old count new (xs ++ ys)
 tells_both before old middle now count new xs ys first then_ = record {
   found =
       then_.found
-      ∙ ap (λ (f : Found). together f (told_findings middle ys)) first.found
-      ∙ together_assoc old (told_findings before xs) (told_findings middle ys)
-      ∙ ap (λ (n : ℕ). together old (together (told_findings before xs) (told_findings n ys))) first.counted
-      ∙ ap (λ (f : Found). together old f) (told_both before xs ys);
+      ∙ ap (λ (f : MessageFound). messages_together f (told_findings middle ys)) first.found
+      ∙ messages_together_assoc old (told_findings before xs) (told_findings middle ys)
+      ∙ ap (λ (n : ℕ). messages_together old (messages_together (told_findings before xs) (told_findings n ys))) first.counted
+      ∙ ap (λ (f : MessageFound). messages_together old f) (told_both before xs ys);
   counted = then_.counted ∙ ap (λ (n : ℕ). count_findings n ys) first.counted ∙ counted_both before xs ys;
 }
 
 -- one is told
-pub tells_finding : (before : ℕ) (old : Found) (count : ℕ) (new : Found) (finding : Finding) → before < most_told
-    → new ≡ together old (one_finding finding) → count ≡ before + 1 → Tells before old count new (finding ∷ [])
+pub tells_finding : (before : ℕ) (old : MessageFound) (count : ℕ) (new : MessageFound) (finding : MessageFinding) → before < most_told
+    → new ≡ messages_together old (one_finding finding) → count ≡ before + 1 → TellsFindings before old count new (finding ∷ [])
 tells_finding before old count new finding few told counted = record {
-  found = told ∙ ap (λ (f : Found). together old f) (rw test (sym (together-nothing (one_finding finding))));
+  found = told ∙ ap (λ (f : MessageFound). messages_together old f) (rw test (sym (messages_together-nothing (one_finding finding))));
   counted = counted ∙ rw test refl;
 }
   where
@@ -69,11 +69,11 @@ tells_finding before old count new finding few told counted = record {
     test = grind (arith, nat_tests)
 
 -- or only counted
-pub tells_count : (before : ℕ) (old : Found) (count : ℕ) (new : Found) (finding : Finding) → most_told ≤ before
-    → new ≡ together old (counted_alone (severity_of finding.cause)) → count ≡ before + faults_of (severity_of finding.cause)
-    → Tells before old count new (finding ∷ [])
+pub tells_count : (before : ℕ) (old : MessageFound) (count : ℕ) (new : MessageFound) (finding : MessageFinding) → most_told ≤ before
+    → new ≡ messages_together old (counted_alone (severity_of finding.cause)) → count ≡ before + faults_of_severity (severity_of finding.cause)
+    → TellsFindings before old count new (finding ∷ [])
 tells_count before old count new finding many told counted = record {
-  found = told ∙ ap (λ (f : Found). together old f) (rw test (sym (together-nothing (counted_alone (severity_of finding.cause)))));
+  found = told ∙ ap (λ (f : MessageFound). messages_together old f) (rw test (sym (messages_together-nothing (counted_alone (severity_of finding.cause)))));
   counted = counted ∙ rw test refl;
 }
   where
@@ -82,12 +82,12 @@ tells_count before old count new finding many told counted = record {
 
 -- ---- All at once
 
-drop_nil : (n : ℕ) → drop {A = Finding} n [] ≡ []
+drop_nil : (n : ℕ) → drop {A = MessageFinding} n [] ≡ []
 drop_nil zero = refl
 drop_nil (suc n) = refl
 
 -- so many come before these
-abbrev closed : ℕ → List Finding → Found
+abbrev closed : ℕ → List MessageFinding → MessageFound
 closed before findings = record {
   findings = take (most_told - before) findings;
   faults = count_faults findings;
@@ -96,8 +96,8 @@ closed before findings = record {
   forms = 0;
 }
 
-told_is : (before : ℕ) (findings : List Finding) → told_findings before findings ≡ closed before findings
-told_is before [] = rw (take-nil {A = Finding} (most_told - before)) refl
+told_is : (before : ℕ) (findings : List MessageFinding) → told_findings before findings ≡ closed before findings
+told_is before [] = rw (take-nil {A = MessageFinding} (most_told - before)) refl
 told_is before (f ∷ fs) = by (nat_lt before most_told) refl (λ (n : ℕ). told_is n fs)
   where
     by : (few : Bool) → nat_lt before most_told ≡ few → ((n : ℕ) → told_findings n fs ≡ closed n fs)
@@ -105,19 +105,19 @@ told_is before (f ∷ fs) = by (nat_lt before most_told) refl (λ (n : ℕ). tol
     by true few rest =
         let low : before < most_told = ltb-true before most_told few in
         let left : most_told - before ≡ suc (most_told - (before + 1)) = omega arith in
-        rw few (ap (λ (g : Found). together (one_finding f) g) (rest (before + 1)) ∙ rw left refl)
+        rw few (ap (λ (g : MessageFound). messages_together (one_finding f) g) (rest (before + 1)) ∙ rw left refl)
     by false many rest =
         let high : most_told ≤ before = ltb-false before most_told many in
-        let after = before + faults_of (severity_of f.cause) in
+        let after = before + faults_of_severity (severity_of f.cause) in
         let none : most_told - before ≡ 0 = omega arith in
-        let none_after : most_told - (before + faults_of (severity_of f.cause)) ≡ 0 = omega arith in
+        let none_after : most_told - (before + faults_of_severity (severity_of f.cause)) ≡ 0 = omega arith in
         rw many
-        (ap (λ (g : Found). together (counted_alone (severity_of f.cause)) g) (rest after) ∙ rw (none, none_after) refl)
+        (ap (λ (g : MessageFound). messages_together (counted_alone (severity_of f.cause)) g) (rest after) ∙ rw (none, none_after) refl)
 
-counted_is : (before : ℕ) (findings : List Finding)
+counted_is : (before : ℕ) (findings : List MessageFinding)
     → count_findings before findings
     ≡ before + (length (take (most_told - before) findings) + count_faults (drop (most_told - before) findings))
-counted_is before [] = rw (take-nil {A = Finding} (most_told - before), drop_nil (most_told - before)) (sym (add-zero before))
+counted_is before [] = rw (take-nil {A = MessageFinding} (most_told - before), drop_nil (most_told - before)) (sym (add-zero before))
 counted_is before (f ∷ fs) = by (nat_lt before most_told) refl (λ (n : ℕ). counted_is n fs)
   where
     by : (few : Bool) → nat_lt before most_told ≡ few
@@ -134,49 +134,49 @@ counted_is before (f ∷ fs) = by (nat_lt before most_told) refl (λ (n : ℕ). 
         rw few (rest (before + 1) ∙ rw left more)
     by false many rest =
         let high : most_told ≤ before = ltb-false before most_told many in
-        let n = faults_of (severity_of f.cause) in
+        let n = faults_of_severity (severity_of f.cause) in
         let none : most_told - before ≡ 0 = omega arith in
-        let none_after : most_told - (before + faults_of (severity_of f.cause)) ≡ 0 = omega arith in
+        let none_after : most_told - (before + faults_of_severity (severity_of f.cause)) ≡ 0 = omega arith in
         let more : before + n + (0 + count_faults fs) ≡ before + (0 + (n + count_faults fs)) = omega arith in
         rw many (rest (before + n) ∙ rw (none, none_after) more)
 
 -- at the end the rest is
-pub all_findings : (place : PatternPlace) (findings : List Finding) (count : ℕ) (first now new : Found) → Tells 0 first count now findings
-    → new ≡ together now (findings_alone (rest_of (at_pattern place) count)) → new ≡ together first (found_of_findings place findings)
+pub all_findings : (place : FilePatternPlace) (findings : List MessageFinding) (count : ℕ) (first now new : MessageFound) → TellsFindings 0 first count now findings
+    → new ≡ messages_together now (message_findings_alone (further_message_faults (at_pattern place) count)) → new ≡ messages_together first (found_of_findings place findings)
 all_findings place findings count first now new told rest =
     rest
-    ∙ ap (λ (f : Found). together f (findings_alone (rest_of (at_pattern place) count))) told.found
-    ∙ together_assoc first (told_findings 0 findings) (findings_alone (rest_of (at_pattern place) count))
-    ∙ ap (λ (f : Found). together first f) joined
+    ∙ ap (λ (f : MessageFound). messages_together f (message_findings_alone (further_message_faults (at_pattern place) count))) told.found
+    ∙ messages_together_assoc first (told_findings 0 findings) (message_findings_alone (further_message_faults (at_pattern place) count))
+    ∙ ap (λ (f : MessageFound). messages_together first f) joined
   where
     same : count ≡ count_told findings
     same = told.counted ∙ counted_is 0 findings ∙ zero-add (count_told findings)
 
-    joined : together (told_findings 0 findings) (findings_alone (rest_of (at_pattern place) count)) ≡ found_of_findings place findings
+    joined : messages_together (told_findings 0 findings) (message_findings_alone (further_message_faults (at_pattern place) count)) ≡ found_of_findings place findings
     joined = rw (same, told_is 0 findings, add-zero (count_faults findings), add-zero (count_notes findings)) refl
 
 -- ---- In a loop
 
 -- these were told, and with the remaining ones they are all
-abbrev pub Going : ℕ → Found → ℕ → Found → List Finding → List Finding → Type 0
-Going before old count now rest all = (told : List Finding) × Tells before old count now told × (told ++ rest ≡ all)
+abbrev pub Going : ℕ → MessageFound → ℕ → MessageFound → List MessageFinding → List MessageFinding → Type 0
+Going before old count now rest all = (told : List MessageFinding) × TellsFindings before old count now told × (told ++ rest ≡ all)
 
-pub starts : (before : ℕ) (old : Found) (all : List Finding) → Going before old before old all all
+pub starts : (before : ℕ) (old : MessageFound) (all : List MessageFinding) → Going before old before old all all
 starts before old all = ([], tells_none before old, refl)
 
-pub continues : (before : ℕ) (old : Found) (count : ℕ) (now : Found) (next : ℕ) (new : Found) (xs rest whole all : List Finding)
-    → whole ≡ xs ++ rest → Going before old count now whole all → Tells count now next new xs → Going before old next new rest all
+pub continues : (before : ℕ) (old : MessageFound) (count : ℕ) (now : MessageFound) (next : ℕ) (new : MessageFound) (xs rest whole all : List MessageFinding)
+    → whole ≡ xs ++ rest → Going before old count now whole all → TellsFindings count now next new xs → Going before old next new rest all
 continues before old count now next new xs rest whole all parts so_far more = (
   so_far.0 ++ xs,
   tells_both before old count now next new so_far.0 xs so_far.1 more,
-  append_assoc so_far.0 xs rest ∙ ap (λ (l : List Finding). so_far.0 ++ l) (sym parts) ∙ so_far.2,
+  append_assoc so_far.0 xs rest ∙ ap (λ (l : List MessageFinding). so_far.0 ++ l) (sym parts) ∙ so_far.2,
 )
 
-pub completes : (before : ℕ) (old : Found) (count : ℕ) (now : Found) (rest all : List Finding) → rest ≡ []
-    → Going before old count now rest all → Tells before old count now all
+pub completes : (before : ℕ) (old : MessageFound) (count : ℕ) (now : MessageFound) (rest all : List MessageFinding) → rest ≡ []
+    → Going before old count now rest all → TellsFindings before old count now all
 completes before old count now rest all none so_far =
-    subst (λ (l : List Finding). Tells before old count now l)
-    (sym (append-nil so_far.0) ∙ ap (λ (l : List Finding). so_far.0 ++ l) (sym none) ∙ so_far.2) so_far.1
+    subst (λ (l : List MessageFinding). TellsFindings before old count now l)
+    (sym (append-nil so_far.0) ∙ ap (λ (l : List MessageFinding). so_far.0 ++ l) (sym none) ∙ so_far.2) so_far.1
 
 -- ---- The selectors that are remembered
 
@@ -202,8 +202,8 @@ remembers before seen selector same =
 -- ---- What a call tells
 
 -- what is told first, and by the call
-pub tells_if_ok : {E : Type 0} (before : ℕ) (old : Found) (middle : ℕ) (now new : Found) (xs ys : List Finding) (r : Result ℕ E)
-    → Tells before old middle now xs → IfOk r (λ count. Tells middle now count new ys)
-    → IfOk r (λ count. Tells before old count new (xs ++ ys))
+pub tells_if_ok : {E : Type 0} (before : ℕ) (old : MessageFound) (middle : ℕ) (now new : MessageFound) (xs ys : List MessageFinding) (r : Result ℕ E)
+    → TellsFindings before old middle now xs → IfOk r (λ count. TellsFindings middle now count new ys)
+    → IfOk r (λ count. TellsFindings before old count new (xs ++ ys))
 tells_if_ok {E} before old middle now new xs ys (Ok count) first then_ = tells_both before old middle now count new xs ys first then_
 tells_if_ok {E} before old middle now new xs ys (Err e) first then_ = tt

@@ -10,7 +10,7 @@ use Rattle.serde_json.specs.Find.{as_array, as_str}
 use Rattle.serde_json.specs.View.{items_of, items_view, view}
 use Rattle.serde_json.specs.declared.Value.{Value}
 use Rattle.plural_message.specs.Messages.{placeholder}
-use Rattle.message_report.specs.Inner.ListedTexts.{all_pass, is_other}
+use Rattle.message_report.specs.Inner.NeededRules.{all_pass, is_other_text}
 use Rattle.message_report.specs.SourceArguments.{IsTextList, IsWithoutNumber, text_list}
 
 -- a test of texts that passes those of a kind
@@ -22,7 +22,7 @@ record IsTestOf (P : List ℕ → Type 0) (passes : Option (List ℕ) → Bool) 
 is_some_tests : IsTestOf (λ text. ⊤) is_some
 is_some_tests = record { none = refl; only = λ text h. tt; each = λ text h. refl }
 
-is_other_tests : IsTestOf (λ text. text ≢ placeholder) is_other
+is_other_tests : IsTestOf (λ text. text ≢ placeholder) is_other_text
 is_other_tests = record {
   none = refl;
   only = λ text other same. let no : not true ≡ true =
@@ -115,9 +115,9 @@ text_list_if value values answer is answers =
     )
 
 pub without_number_if : (value : Data) (values : Items) (answer : Bool) → Some values ≡ as_array value
-    → answer ≡ all_pass is_other values → IsTrue answer ↔ IsWithoutNumber value
+    → answer ≡ all_pass is_other_text values → IsTrue answer ↔ IsWithoutNumber value
 without_number_if value values answer is answers =
-    tells (λ text. text ≢ placeholder) is_other value values answer is_other_tests is answers
+    tells (λ text. text ≢ placeholder) is_other_text value values answer is_other_tests is answers
 
 -- what has no list is none of texts
 pub no_list : (value : Data) (texts : List (List ℕ)) → None ≡ as_array value → ¬ (value ≡ text_list texts)

@@ -1,5 +1,5 @@
 -- What is printed for what is wrong at a place.
---     cause_text cause      the text after the place
+--     message_cause_text cause      the text after the place
 --     severity_of cause      how grave it is
 use Rattle.std.specs.Prelude.{ℕ, List, ◌++◌, codes}
 use Rattle.std.specs.Fmt.{decimal}
@@ -22,17 +22,17 @@ abbrev pub no_rules_text : PluralRuleType → List ℕ
 no_rules_text Cardinal = codes "no cardinal rules"
 no_rules_text Ordinal = codes "no ordinal rules"
 
-abbrev pub cause_text : Cause → List ℕ
-cause_text cause.NoObject = codes "no object"
-cause_text cause.NotAPart = codes "not a part"
-cause_text cause.NoTextList = codes "no list of texts"
-cause_text (cause.NoRules type) = no_rules_text type
-cause_text (cause.Form fault) = form_fault_text fault
-cause_text cause.NotAForm = codes "not a form"
-cause_text cause.NoText = codes "no text"
-cause_text (cause.NoPattern kind byte) = codes "no pattern: " ++ pattern_error_text (error.Fault kind byte)
-cause_text (cause.Branch fault) = branch_fault_text fault
-cause_text (cause.More count) = codes "and " ++ (decimal count ++ codes " more")
+abbrev pub message_cause_text : Cause → List ℕ
+message_cause_text cause.NoObject = codes "no object"
+message_cause_text cause.NotAPart = codes "not a part"
+message_cause_text cause.NoTextList = codes "no list of texts"
+message_cause_text (cause.NoRules type) = no_rules_text type
+message_cause_text (cause.Form fault) = form_fault_text fault
+message_cause_text cause.NotAForm = codes "not a form"
+message_cause_text cause.NoText = codes "no text"
+message_cause_text (cause.NoPattern kind byte) = codes "no pattern: " ++ pattern_error_text (error.Fault kind byte)
+message_cause_text (cause.Branch fault) = branch_fault_text fault
+message_cause_text (cause.More count) = codes "and " ++ (decimal count ++ codes " more")
 
 -- what only large numbers, compact ones or fractions choose may be missing
 abbrev pub form_severity : FormFault → Severity
@@ -62,3 +62,9 @@ severity_of cause.NoText = Error
 severity_of (cause.NoPattern kind byte) = Error
 severity_of (cause.Branch fault) = branch_severity fault
 severity_of (cause.More count) = Error
+
+-- ---- the word of a severity
+
+abbrev pub severity_name : Severity → List ℕ
+severity_name Error = codes "error"
+severity_name Note = codes "note"

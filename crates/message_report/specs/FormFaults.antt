@@ -15,7 +15,7 @@ use Rattle.icu_plurals.specs.declared.PluralCategory.TheVariants.{Zero, One, Two
 use Rattle.icu_plurals.specs.Categories.{name_of}
 use Rattle.icu_plurals.specs.FiveRules.{FiveRules}
 use Rattle.plural_message.specs.Messages.{placeholder}
-use Rattle.plural_checker.specs.FirstSamples.{AreFirstSamples, sample_text}
+use Rattle.plural_checker.specs.FirstSamples.{AreFirstSamples, kept_sample_text}
 use Rattle.plural_checker.specs.declared.Sample.{Sample}
 use Rattle.number_categories.specs.WholeNumbers.{AreTwoLeastOf}
 use Rattle.message_report.specs.MessageForms.{Chooses, form_under, has_form}
@@ -82,14 +82,14 @@ no_number category None second = None
 no_number category (Some first) None = None
 no_number category (Some first) (Some second) = Some (NoNumber category first second)
 
-abbrev pub HasTextFault : PluralCategory → TwoNumbers → List ℕ → Option FormFault → Type 0
-HasTextFault category numbers text fault =
+abbrev pub HasFormTextFault : PluralCategory → TwoNumbers → List ℕ → Option FormFault → Type 0
+HasFormTextFault category numbers text fault =
     (HasSubslice text placeholder × (fault ≡ None))
     ⊎ ((¬ (HasSubslice text placeholder)) × (fault ≡ no_number category numbers.first numbers.second))
 
 abbrev pub HasTextFaultIfText : PluralCategory → TwoNumbers → Option (List ℕ) → Option FormFault → Type 0
 HasTextFaultIfText category numbers None fault = fault ≡ Some NoText
-HasTextFaultIfText category numbers (Some text) fault = HasTextFault category numbers text fault
+HasTextFaultIfText category numbers (Some text) fault = HasFormTextFault category numbers text fault
 
 -- of a value that numbers choose
 abbrev pub HasPresentFault : PluralCategory → TwoNumbers → Data → Option FormFault → Type 0
@@ -150,7 +150,7 @@ missing_numbers_text category first second = missing_text category (Some (decima
 
 -- of samples
 abbrev pub missing_samples_text : PluralCategory → Option Sample → Option Sample → List ℕ
-missing_samples_text category first second = missing_text category (option_map sample_text first) (option_map sample_text second)
+missing_samples_text category first second = missing_text category (option_map kept_sample_text first) (option_map kept_sample_text second)
 
 abbrev pub form_fault_text : FormFault → List ℕ
 form_fault_text NoText = codes "no text"

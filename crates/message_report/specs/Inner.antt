@@ -3,11 +3,8 @@ pub mod ArgumentViews
 pub mod BranchKinds
 pub mod FormSteps
 pub mod FormValues
-pub mod KnownLanguages
 pub mod KnownNumbers
 pub mod LanguageViews
-pub mod ListedTexts
-pub mod MessageSums
 pub mod NeededRules
 pub mod ToldFindings
 pub mod ToldKeys

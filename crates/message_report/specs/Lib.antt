@@ -1,7 +1,6 @@
 -- keys, forms, and the numbers that choose them
 pub mod PrintedKeys
 pub mod MessageForms
-pub mod MessageSets
 pub mod WholeNumberLaws
 pub mod SourceArguments
 pub mod FormFaults
@@ -9,7 +8,6 @@ pub mod FormFaults
 pub mod PatternBranches
 pub mod PatternFaults
 -- findings
-pub mod Severities
 pub mod MessagePlaces
 pub mod FindingCauses
 pub mod MessageFindings

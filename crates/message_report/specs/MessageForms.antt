@@ -13,6 +13,7 @@ use Rattle.message_report.specs.declared.form.Form.TheVariants.{ExplicitZero, Ex
 use Rattle.icu_plurals.specs.declared.PluralCategory.{PluralCategory}
 use Rattle.icu_plurals.specs.FiveRules.{FiveRules}
 use Rattle.number_categories.specs.WholeNumbers.{HasWhole}
+use Rattle.plural_checker.specs.declared.CategorySet.{CategorySet}
 
 abbrev pub form_name : Form → List ℕ
 form_name ExplicitZero = codes "explicit_zero"
@@ -41,3 +42,18 @@ has_form form message = is_some (form_under form message)
 abbrev pub Chooses : FiveRules → PluralCategory → Bool → Bool → ℕ → Type 0
 Chooses rules category own_zero own_one n =
     HasWhole rules category n × (IsTrue own_zero → n ≢ 0) × (IsTrue own_one → n ≢ 1)
+
+-- ---- the set of the categories that a message has forms for; other is left out
+
+-- the message has a form of the category
+abbrev pub has_category : Data → PluralCategory → Bool
+has_category message category = has_form (Category category) message
+
+abbrev pub categories_in : Data → CategorySet
+categories_in message = record {
+  zero = has_category message Zero;
+  one = has_category message One;
+  two = has_category message Two;
+  few = has_category message Few;
+  many = has_category message Many;
+}

@@ -7,7 +7,7 @@ use Rattle.std.specs.Io.KnownBytes.{Appends, Keeps}
 use Rattle.plural_documents.specs.Inputs.{IsPartWritten}
 use Rattle.message_report.specs.MessagesReport.{IsFoundInFiles}
 use Rattle.message_report.specs.MessagesReportText.{counts_found, messages_report_text}
-use Rattle.message_report.specs.FoundInMessages.{Found}
+use Rattle.message_report.specs.FoundInMessages.{MessageFound}
 use Rattle.message_report.specs.RulesSource.{RulesSource}
 use Rattle.message_report.specs.declared.counts.Counts.{Counts}
 use Rattle.message_report.specs.declared.error.ReportError.{ReportError}
@@ -16,12 +16,12 @@ use Rattle.message_report.specs.declared.file.MessageFile.{MessageFile}
 
 -- The report and its counts; or the writer failed, and took a beginning of the report, or memory
 -- ran out, and it took nothing.
-abbrev pub IsReportedAs : (Found → List ℕ) → RulesSource → List MessageFile → Option (List ℕ) → Option (List ℕ)
+abbrev pub IsReportedAs : (MessageFound → List ℕ) → RulesSource → List MessageFile → Option (List ℕ) → Option (List ℕ)
     → Result Counts ReportError → Type 0
 IsReportedAs text_of source files old new (Ok counts) =
-    (found : Found) × IsFoundInFiles source files found × (counts ≡ counts_found found) × Appends old new (text_of found)
+    (found : MessageFound) × IsFoundInFiles source files found × (counts ≡ counts_found found) × Appends old new (text_of found)
 IsReportedAs text_of source files old new (Err Write) =
-    (found : Found) × IsFoundInFiles source files found × IsPartWritten old new (text_of found)
+    (found : MessageFound) × IsFoundInFiles source files found × IsPartWritten old new (text_of found)
 IsReportedAs text_of source files old new (Err Memory) = Keeps old new
 
 -- printed as lines

@@ -34,8 +34,8 @@ pub record PluralArgument : Type 0 where
   pub own_one : Bool
 
 -- the argument at a depth, of which these parts follow its beginning
-abbrev pub argument_at : List ℕ → Bool → ℕ → List Part → Bool → Bool → PluralArgument
-argument_at name has_offset depth ps own_zero own_one = record {
+abbrev pub plural_argument_at : List ℕ → Bool → ℕ → List Part → Bool → Bool → PluralArgument
+plural_argument_at name has_offset depth ps own_zero own_one = record {
   name = name;
   has_offset = has_offset;
   depth = depth;
@@ -47,7 +47,7 @@ argument_at name has_offset depth ps own_zero own_one = record {
 abbrev pub IsArgumentAt : List ℕ → Bool → ℕ → List Part → PluralArgument → Type 0
 IsArgumentAt name has_offset depth ps a =
     (own_zero own_one : Bool) × IsOwn (codes "0") has_offset (branches_of depth ps) own_zero
-    × IsOwn (codes "1") has_offset (branches_of depth ps) own_one × (a ≡ argument_at name has_offset depth ps own_zero own_one)
+    × IsOwn (codes "1") has_offset (branches_of depth ps) own_one × (a ≡ plural_argument_at name has_offset depth ps own_zero own_one)
 
 -- the type of the rules that choose its branch; a select needs none
 abbrev pub type_of_kind : ArgumentKind → Option PluralRuleType
@@ -67,8 +67,8 @@ language_of two Ordinal = two.ordinal
 -- ---- The numbers that choose a branch
 
 -- the two least that choose the branch of a category; with an offset those less the offset
-abbrev pub numbers_of : Language → PluralArgument → PluralCategory → TwoNumbers
-numbers_of language a category = language.numbers category a.own_zero a.own_one
+abbrev pub numbers_of_branch : Language → PluralArgument → PluralCategory → TwoNumbers
+numbers_of_branch language a category = language.numbers category a.own_zero a.own_one
 
 -- ---- Faults
 
@@ -87,7 +87,7 @@ abbrev pub missing_fault : Language → PluralArgument → PluralCategory → Op
 missing_fault language a category =
     if has_category_branch category a.branches then None
     else if language.has category
-    then missing_by category (numbers_of language a category).first (numbers_of language a category).second
+    then missing_by category (numbers_of_branch language a category).first (numbers_of_branch language a category).second
     (language.numbers category false false).first (language.samples category)
     else None
 
@@ -104,7 +104,7 @@ category_fault language a inside category =
     if language.has category
     then (
     if a.has_offset || has_number a.depth a.name inside then None
-    else no_hash category (numbers_of language a category).first (numbers_of language a category).second
+    else no_hash category (numbers_of_branch language a category).first (numbers_of_branch language a category).second
     )
     else Some (Unused category)
 

@@ -56,8 +56,8 @@ abbrev pub chain_key : RulesSource → PluralRuleType → List ℕ → ℕ → O
 chain_key source type locale = key_at (source.keys type) (next_of source.parent) locale
 
 -- the language of a locale is known, or it is unknown
-abbrev pub IsKnown : RulesSource → List ℕ → Type 0
-IsKnown source locale = IsKnownLanguage (source.keys Cardinal) (source.keys Ordinal) (next_of source.parent) locale
+abbrev pub IsKnownInSource : RulesSource → List ℕ → Type 0
+IsKnownInSource source locale = IsKnownLanguage (source.keys Cardinal) (source.keys Ordinal) (next_of source.parent) locale
 
 abbrev pub IsUnknown : RulesSource → List ℕ → Type 0
 IsUnknown source locale = IsUnknownLanguage (source.keys Cardinal) (source.keys Ordinal) (next_of source.parent) locale
@@ -67,7 +67,7 @@ IsUnknown source locale = IsUnknownLanguage (source.keys Cardinal) (source.keys 
 abbrev pub HasRules : RulesSource → PluralRuleType → List ℕ → Option FiveRules → Type 0
 HasRules source type locale (Some rules) =
     (key : List ℕ) × IsFirstKey MOST_LOCALES (chain_key source type locale) key × (source.under type key ≡ Some rules)
-    × IsKnown source locale
+    × IsKnownInSource source locale
 HasRules source type locale None =
     IsUnknown source locale
     ⊎ ((error : FallbackError)

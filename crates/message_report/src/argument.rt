@@ -3,7 +3,7 @@
 ghost use Rattle.std.specs.Prelude.{◌≡◌, ◌<◌, IfOk, map};
 ghost use Rattle.message_pattern.specs.PatternParts.{branches_of, Exactly, Keyword, part_view, parts_view, selector_view};
 ghost use Rattle.fixed_decimal.specs.Written.{CompactNumber, WritesCompact};
-ghost use Rattle.message_report.specs.Inner.ArgumentViews.{argument_view};
+ghost use Rattle.message_report.specs.Inner.ArgumentViews.{plural_argument_view};
 ghost use Rattle.message_report.specs.Inner.BranchKinds.{has_number_branch};
 ghost use Rattle.message_report.specs.PatternFaults.{IsArgumentAt};
 ghost use Rattle.message_report.specs.PatternBranches.{IsOwn, has_number, inside_of};
@@ -24,7 +24,7 @@ pub(crate) fn argument_at<'a, 'p>(
     depth: usize,
     parts: &'p [Part<'a>],
 ) -> Result<Argument<'a, 'p>, AllocError>
-    ensures { IfOk result (λ a. IsArgumentAt name.now has_offset depth (parts_view parts.now) (argument_view a)) }
+    ensures { IfOk result (λ a. IsArgumentAt name.now has_offset depth (parts_view parts.now) (plural_argument_view a)) }
 {
     let kinds = BranchKinds::of(depth, parts);
     let own_zero = is_own(alloc, "0", has_offset, depth, parts, kinds)?;

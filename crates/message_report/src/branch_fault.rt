@@ -2,11 +2,11 @@
 
 ghost use Rattle.std.specs.Prelude.{◌≡◌, Some, map};
 ghost use Rattle.message_pattern.specs.PatternParts.{parts_view, selector_view};
-ghost use Rattle.message_report.specs.Inner.ArgumentViews.{argument_view};
+ghost use Rattle.message_report.specs.Inner.ArgumentViews.{plural_argument_view};
 ghost use Rattle.message_report.specs.Inner.LanguageViews.{language_view};
 ghost use Rattle.message_report.specs.PatternBranches.{inside_of};
 ghost use Rattle.message_report.specs.PatternFaults.{branch_fault, branch_fault_text, category_fault, category_fault_if, category_named};
-ghost use Rattle.message_report.specs.PatternFaults.{missing_by, missing_fault, no_hash, numbers_of, rare_by, selector_fault};
+ghost use Rattle.message_report.specs.PatternFaults.{missing_by, missing_fault, no_hash, numbers_of_branch, rare_by, selector_fault};
 ghost use Rattle.message_report.specs.Inner.ArgumentViews.{branching};
 
 use crate::argument::{has_number, stands_in};
@@ -65,7 +65,7 @@ fn numbers_of(
     argument: Argument<'_, '_>,
     category: PluralCategory,
 ) -> TwoNumbers
-    ensures { result ≡ numbers_of (language_view language.now) (argument_view argument.entry) category }
+    ensures { result ≡ numbers_of_branch (language_view language.now) (plural_argument_view argument.entry) category }
 {
     language.numbers(category, argument.own_zero, argument.own_one)
 }
@@ -76,7 +76,7 @@ pub(crate) fn missing_fault(
     argument: Argument<'_, '_>,
     category: PluralCategory,
 ) -> Option<BranchFault>
-    ensures { result ≡ missing_fault (language_view language.now) (argument_view argument.entry) category }
+    ensures { result ≡ missing_fault (language_view language.now) (plural_argument_view argument.entry) category }
 {
     if argument.kinds.has(category) {
         return None;
@@ -134,7 +134,7 @@ fn category_fault(
     parts: &[Part<'_>],
     category: PluralCategory,
 ) -> Option<BranchFault>
-    ensures { result ≡ category_fault (language_view language.now) (argument_view argument.entry)
+    ensures { result ≡ category_fault (language_view language.now) (plural_argument_view argument.entry)
         (inside_of argument.entry.depth (parts_view parts.now)) category }
 {
     if !language.has(category) {
@@ -160,7 +160,7 @@ fn category_fault_if(
     parts: &[Part<'_>],
     category: Option<PluralCategory>,
 ) -> Option<BranchFault>
-    ensures { result ≡ category_fault_if (language_view language.now) (argument_view argument.entry)
+    ensures { result ≡ category_fault_if (language_view language.now) (plural_argument_view argument.entry)
         (inside_of argument.entry.depth (parts_view parts.now)) category }
 {
     match category {
@@ -176,7 +176,7 @@ fn selector_fault(
     selector: Selector<'_>,
     parts: &[Part<'_>],
 ) -> Option<BranchFault>
-    ensures { result ≡ selector_fault (language_view language.now) (argument_view argument.entry)
+    ensures { result ≡ selector_fault (language_view language.now) (plural_argument_view argument.entry)
         (selector_view selector.entry) (inside_of argument.entry.depth (parts_view parts.now)) }
 {
     match selector {
@@ -195,7 +195,7 @@ pub(crate) fn branch_fault(
     selector: Selector<'_>,
     parts: &[Part<'_>],
 ) -> Option<BranchFault>
-    ensures { result ≡ branch_fault (language_view language.now) (argument_view argument.entry)
+    ensures { result ≡ branch_fault (language_view language.now) (plural_argument_view argument.entry)
         (map selector_view before.now) (branching selector.entry parts.now) }
 {
     if stands_in(selector, before) {

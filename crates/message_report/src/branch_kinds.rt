@@ -5,7 +5,7 @@ ghost use Rattle.icu_plurals.specs.Categories.{name_of};
 ghost use Rattle.icu_plurals.specs.declared.PluralCategory.{PluralCategory as Category};
 ghost use Rattle.message_format.specs.FormatBranches.{is_keyword};
 ghost use Rattle.message_pattern.specs.PatternParts.{branches_of, parts_view, selector_view};
-ghost use Rattle.message_report.specs.Inner.BranchKinds.{has_kind, has_number_branch, is_of_number};
+ghost use Rattle.message_report.specs.Inner.BranchKinds.{has_kind, has_number_branch, is_number_selector};
 ghost use Rattle.message_report.specs.PatternBranches.{has_category_branch};
 
 use icu_plurals::{Five, PluralCategory};
@@ -61,7 +61,7 @@ impl BranchKinds {
 
     // Sees the selector of a branch.
     fn see(&mut self, selector: Selector<'_>)
-        ensures number { self.new.number ≡ self.old.number || is_of_number (selector_view selector.entry) }
+        ensures number { self.new.number ≡ self.old.number || is_number_selector (selector_view selector.entry) }
         ensures category { (category : Category) → has_kind category self.new
             ≡ has_kind category self.old || is_keyword (name_of category) (selector_view selector.entry) }
     {

@@ -1,7 +1,7 @@
 //! What is wrong at a place.
 
 ghost use Rattle.std.specs.Prelude.{◌≡◌, Some};
-ghost use Rattle.message_report.specs.FindingCauses.{branch_severity, cause_text, form_severity, no_rules_text, severity_of};
+ghost use Rattle.message_report.specs.FindingCauses.{branch_severity, message_cause_text, form_severity, no_rules_text, severity_of};
 
 use crate::branch_fault::BranchFault;
 use crate::fault::FormFault;
@@ -70,7 +70,7 @@ fn branch_severity(fault: BranchFault) -> Severity
 }
 
 impl fmt::Display for Cause {
-    ghost output = { λ cause. Some (cause_text cause) };
+    ghost output = { λ cause. Some (message_cause_text cause) };
 
     fn fmt<W: fmt::Write>(&self, f: &mut fmt::Formatter<W>) -> fmt::Result {
         match *self {

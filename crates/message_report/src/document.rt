@@ -1,10 +1,10 @@
 //! What is found in a document of messages.
 
 ghost use Rattle.std.specs.Prelude.{◌≡◌, OnOk, Some};
-ghost use Rattle.message_report.specs.FoundInMessages.{together, HasGrownBy, IsFoundInMembers};
+ghost use Rattle.message_report.specs.FoundInMessages.{messages_together, HasGrownInMessages, IsFoundInMessageMembers};
 ghost use Rattle.message_report.specs.Inner.ArgumentViews.{languages_view};
 ghost use Rattle.message_report.specs.Inner.NeededRules.{IsFoundInBothBy};
-ghost use Rattle.message_report.specs.MessagePlaces.{locale_place_view};
+ghost use Rattle.message_report.specs.MessagePlaces.{file_locale_place_view};
 ghost use Rattle.message_report.specs.MessagesReport.{found_of_part_key, is_locale_part};
 ghost use Rattle.message_report.specs.MessagesReport.{IsFoundInAll, IsFoundInMessagesDocument, IsFoundInLocale, IsFoundInLocaleKey, IsFoundInParts};
 ghost use Rattle.serde_json.specs.View.{members_view, view};
@@ -30,7 +30,7 @@ pub(crate) fn add_document<'a, S: RulesOfLocales>(
     document: &'a Value,
     found: &mut Found<'a>,
 ) -> Result<(), AllocError>
-    ensures { OnOk result (HasGrownBy (IsFoundInMessagesDocument (S.source source.now) file.now (view document.now)) found.old found.new) }
+    ensures { OnOk result (HasGrownInMessages (IsFoundInMessagesDocument (S.source source.now) file.now (view document.now)) found.old found.new) }
 {
     match document.as_object() {
         Some(locales) => add_members(alloc, &LocaleCheck { source, file }, locales, found),
@@ -75,7 +75,7 @@ fn add_locale<'a, S: RulesOfLocales>(
     members: &'a Map<String, Value>,
     found: &mut Found<'a>,
 ) -> Result<(), AllocError>
-    ensures { OnOk result (HasGrownBy (IsFoundInParts (S.source source.now) (locale_place_view locale.entry) (view value.now)
+    ensures { OnOk result (HasGrownInMessages (IsFoundInParts (S.source source.now) (file_locale_place_view locale.entry) (view value.now)
         (Some (members_view members.now.entries))) found.old found.new) }
 {
     add_part_keys(alloc, locale, members, found)?;
@@ -91,7 +91,7 @@ fn add_all<'a, S: RulesOfLocales>(
     value: &'a Value,
     found: &mut Found<'a>,
 ) -> Result<(), AllocError>
-    ensures { OnOk result (HasGrownBy (IsFoundInAll (S.source source.now) (locale_place_view locale.entry) (view value.now)) found.old found.new) }
+    ensures { OnOk result (HasGrownInMessages (IsFoundInAll (S.source source.now) (file_locale_place_view locale.entry) (view value.now)) found.old found.new) }
 {
     let languages = Languages::needed(alloc, source, locale.locale, value);
     add_parts(alloc, &languages, locale, value, found)?;
@@ -106,8 +106,8 @@ fn add_parts<'a>(
     value: &'a Value,
     found: &mut Found<'a>,
 ) -> Result<(), AllocError>
-    ensures { OnOk result (HasGrownBy
-        (IsFoundInBothBy (languages_view languages.now) (locale_place_view locale.entry) (view value.now)) found.old found.new) }
+    ensures { OnOk result (HasGrownInMessages
+        (IsFoundInBothBy (languages_view languages.now) (file_locale_place_view locale.entry) (view value.now)) found.old found.new) }
 {
     let (cardinal, ordinal) = (PluralRuleType::Cardinal, PluralRuleType::Ordinal);
     add_part(
@@ -128,8 +128,8 @@ fn add_part_keys<'a>(
     members: &'a Map<String, Value>,
     found: &mut Found<'a>,
 ) -> Result<(), AllocError>
-    ensures { OnOk result (HasGrownBy
-        (IsFoundInMembers (IsFoundInLocaleKey (locale_place_view locale.entry)) (members_view members.now.entries)) found.old found.new) }
+    ensures { OnOk result (HasGrownInMessages
+        (IsFoundInMessageMembers (IsFoundInLocaleKey (file_locale_place_view locale.entry)) (members_view members.now.entries)) found.old found.new) }
 {
     add_members(alloc, &PartKeyCheck { locale }, members, found)
 }
@@ -141,7 +141,7 @@ struct PartKeyCheck<'a> {
 }
 
 impl<'a> MemberCheck<'a, Found<'a>> for PartKeyCheck<'a> {
-    ghost finds = { λ check. IsFoundInLocaleKey (locale_place_view check.locale) };
+    ghost finds = { λ check. IsFoundInLocaleKey (file_locale_place_view check.locale) };
 
     fn add(
         &self,
@@ -160,7 +160,7 @@ fn add_part_key<'a>(
     key: &'a str,
     found: &mut Found<'a>,
 ) -> Result<(), AllocError>
-    ensures { OnOk result (found.new ≡ together found.old (found_of_part_key (locale_place_view locale.entry) key.now)) }
+    ensures { OnOk result (found.new ≡ messages_together found.old (found_of_part_key (file_locale_place_view locale.entry) key.now)) }
 {
     if is_part_name(key) {
         return Ok(());

@@ -4,7 +4,7 @@ ghost use Rattle.std.specs.Prelude.{◌≡◌, Some, None, option_map};
 ghost use Rattle.std.specs.Fmt.{DisplaysOnOk};
 ghost use Rattle.std.specs.Option.{option_and_then};
 ghost use Rattle.message_report.specs.FormFaults.{form_fault_text, form_value_fault, missing_form, missing_numbers_text, missing_samples_text, no_number, told_of};
-ghost use Rattle.message_report.specs.FormFaults.{HasFaultUnder, HasPresentFault, HasTextFault};
+ghost use Rattle.message_report.specs.FormFaults.{HasFaultUnder, HasPresentFault, HasFormTextFault};
 ghost use Rattle.message_report.specs.Inner.FormSteps.{HasFaultOf, language_lent, value_lent};
 ghost use Rattle.message_report.specs.Inner.LanguageViews.{language_view};
 ghost use Rattle.message_report.specs.declared.form.Form.TheVariants.{Category};
@@ -230,7 +230,7 @@ fn text_fault(
     category: PluralCategory,
     text: &str,
 ) -> Option<FormFault>
-    ensures { HasTextFault category ((language_view language.now).numbers category own.zero own.one) text.now result }
+    ensures { HasFormTextFault category ((language_view language.now).numbers category own.zero own.one) text.now result }
 {
     if text.contains("{}") {
         None

@@ -1,7 +1,7 @@
 //! What is found in files of messages.
 
 ghost use Rattle.std.specs.Prelude.{IfOk, OnOk};
-ghost use Rattle.message_report.specs.FoundInMessages.{HasGrownBy};
+ghost use Rattle.message_report.specs.FoundInMessages.{HasGrownInMessages};
 ghost use Rattle.message_report.specs.MessagesReport.{IsFoundInFile, IsFoundInFiles};
 
 use crate::document::add_document;
@@ -42,7 +42,7 @@ fn add_files<'a, S: RulesOfLocales>(
     files: &[MessageFile<'a>],
     found: &mut Found<'a>,
 ) -> Result<(), AllocError>
-    ensures { OnOk result (HasGrownBy (IsFoundInFiles (S.source source.now) files.now) found.old found.new) }
+    ensures { OnOk result (HasGrownInMessages (IsFoundInFiles (S.source source.now) files.now) found.old found.new) }
 {
     for file in files {
         add_document(alloc, source, file.name, file.document, found)?;

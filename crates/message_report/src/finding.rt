@@ -1,7 +1,7 @@
 //! What is found in a file of messages.
 
 ghost use Rattle.std.specs.Prelude.{◌≡◌, IfOk, Some, string_bytes};
-ghost use Rattle.message_report.specs.MessageFindings.{finding_line, finding_view};
+ghost use Rattle.message_report.specs.MessageFindings.{message_finding_line, message_finding_view};
 
 use crate::cause::Cause;
 use crate::place::Place;
@@ -21,7 +21,7 @@ impl Finding<'_> {
     /// Returns the line that is printed: the file, the place, and what is wrong. It allocates; the
     /// only error is out of memory.
     pub fn line(&self, alloc: Global) -> Result<String, AllocError>
-        ensures { IfOk result (λ line. string_bytes line ≡ finding_line (finding_view self.now)) }
+        ensures { IfOk result (λ line. string_bytes line ≡ message_finding_line (message_finding_view self.now)) }
     {
         self.to_string(alloc)
     }
@@ -29,7 +29,7 @@ impl Finding<'_> {
 
 /// The line that is printed, without a newline: `ru.json: ru files two: no number is two`.
 impl fmt::Display for Finding<'_> {
-    ghost output = { λ finding. Some (finding_line (finding_view finding)) };
+    ghost output = { λ finding. Some (message_finding_line (message_finding_view finding)) };
 
     fn fmt<W: fmt::Write>(&self, f: &mut fmt::Formatter<W>) -> fmt::Result {
         write!(f, "{}: {}: {}", self.place.file(), self.place, self.cause)

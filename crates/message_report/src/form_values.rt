@@ -2,7 +2,7 @@
 
 ghost use Rattle.std.specs.Prelude.{◌≡◌, ◌||◌, [], IsFalse, None, Some, bytes_eq, not};
 ghost use Rattle.message_report.specs.Inner.FormSteps.{value_lent};
-ghost use Rattle.message_report.specs.Inner.FormValues.{first_of, own_forms, under_key, value_under};
+ghost use Rattle.message_report.specs.Inner.FormValues.{first_of, own_forms, under_key, value_of_form};
 ghost use Rattle.message_report.specs.MessageForms.{form_name, is_form_name};
 ghost use Rattle.message_report.specs.MessagesReport.{other_keys};
 ghost use Rattle.message_report.specs.declared.form.Form.{Form};
@@ -27,7 +27,7 @@ pub(crate) struct FormValues<'a> {
 impl<'a> FormValues<'a> {
     // What a message with these members has. They are walked once.
     pub(crate) fn of(members: &'a Map<String, Value>) -> FormValues<'a>
-        ensures values { (form : Form) → value_under form result ≡ get_member (form_name form) (members_view members.now.entries) }
+        ensures values { (form : Form) → value_of_form form result ≡ get_member (form_name form) (members_view members.now.entries) }
         ensures keys { IsFalse result.has_other_keys → other_keys (members_view members.now.entries) ≡ [] }
     {
         let mut values = FormValues::none();
@@ -39,7 +39,7 @@ impl<'a> FormValues<'a> {
 
     // Nothing.
     fn none() -> FormValues<'a>
-        ensures values { (form : Form) → value_under form result ≡ None }
+        ensures values { (form : Form) → value_of_form form result ≡ None }
         ensures keys { IsFalse result.has_other_keys }
     {
         FormValues {
@@ -53,8 +53,8 @@ impl<'a> FormValues<'a> {
 
     // Takes a member, unless there is one of its form. Frequent forms are looked for first.
     fn put(&mut self, key: &str, value: &'a Value)
-        ensures values { (form : Form) → value_under form self.new
-            ≡ first_of (value_under form self.old) (under_key (bytes_eq (form_name form) key.now) (view value.now)) }
+        ensures values { (form : Form) → value_of_form form self.new
+            ≡ first_of (value_of_form form self.old) (under_key (bytes_eq (form_name form) key.now) (view value.now)) }
         ensures keys { self.new.has_other_keys ≡ self.old.has_other_keys || not (is_form_name key.now) }
     {
         match key {
@@ -72,7 +72,7 @@ impl<'a> FormValues<'a> {
 
     // What stands under the key of a form.
     pub(crate) fn value(&self, form: Form) -> Option<&'a Value>
-        ensures { value_lent result ≡ value_under form self.now }
+        ensures { value_lent result ≡ value_of_form form self.now }
     {
         match form {
             Form::ExplicitZero => self.zero,

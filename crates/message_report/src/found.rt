@@ -1,10 +1,10 @@
 //! What is found in files of messages.
 
 ghost use Rattle.std.specs.Prelude.{◌≡◌, ◌∷◌, [], OnOk, map};
-ghost use Rattle.message_report.specs.FoundInMessages.{findings_alone, faults_alone, finding_at};
-ghost use Rattle.message_report.specs.FoundInMessages.{counted_alone, fault_at, found_at, one_form, one_message, rest_of, together};
+ghost use Rattle.message_report.specs.FoundInMessages.{message_findings_alone, message_faults_alone, message_finding_at};
+ghost use Rattle.message_report.specs.FoundInMessages.{counted_alone, message_fault_at, counted_finding_at, one_form, one_message, further_message_faults, messages_together};
 ghost use Rattle.message_report.specs.Inner.ToldFindings.{note_at};
-ghost use Rattle.message_report.specs.MessageFindings.{finding_view};
+ghost use Rattle.message_report.specs.MessageFindings.{message_finding_view};
 ghost use Rattle.message_report.specs.MessagePlaces.{place_view};
 ghost use Rattle.message_report.specs.MessagesReportText.{counts_found};
 
@@ -33,12 +33,12 @@ pub struct Found<'a> {
 impl<'a> Model for Found<'a> {
     ghost use Rattle.std.specs.Prelude.{map};
     ghost use Rattle.message_report.specs.FoundInMessages as seen;
-    ghost use Rattle.message_report.specs.MessageFindings.{finding_view};
+    ghost use Rattle.message_report.specs.MessageFindings.{message_finding_view};
 
-    ghost Value = { seen.Found };
+    ghost Value = { seen.MessageFound };
 
     ghost view = { λ found. record {
-      findings = map finding_view found.findings.items;
+      findings = map message_finding_view found.findings.items;
       faults = found.faults;
       notes = found.notes;
       messages = found.messages;
@@ -47,12 +47,12 @@ impl<'a> Model for Found<'a> {
 }
 
 impl<'a> Findings for Found<'a> {
-    ghost use Rattle.message_report.specs.Inner.MessageSums.{together-nothing, together_assoc};
+    ghost use Rattle.message_report.specs.Inner.ToldFindings.{messages_together-nothing, messages_together_assoc};
     ghost use Rattle.message_report.specs.FoundInMessages as seen;
 
-    ghost nothing = { seen.nothing_found };
+    ghost nothing = { seen.nothing_found_in_messages };
 
-    ghost together = { seen.together };
+    ghost together = { seen.messages_together };
 
     fn nothing(alloc: Global) -> Found<'a> {
         Found {
@@ -64,15 +64,15 @@ impl<'a> Findings for Found<'a> {
         }
     }
 
-    ghost ends = { together-nothing };
+    ghost ends = { messages_together-nothing };
 
-    ghost joins = { together_assoc };
+    ghost joins = { messages_together_assoc };
 }
 
 impl<'a> Found<'a> {
     /// Returns the findings, in their order.
     pub fn findings(&self) -> &[Finding<'a>]
-        ensures { map finding_view result.now ≡ self.now.findings }
+        ensures { map message_finding_view result.now ≡ self.now.findings }
     {
         self.findings.as_slice()
     }
@@ -91,7 +91,7 @@ impl<'a> Found<'a> {
 
     // Adds a finding.
     fn add_finding(&mut self, place: Place<'a>, cause: Cause) -> Result<(), AllocError>
-        ensures { OnOk result (self.new ≡ together self.old (findings_alone (finding_at (place_view place.entry) cause ∷ []))) }
+        ensures { OnOk result (self.new ≡ messages_together self.old (message_findings_alone (message_finding_at (place_view place.entry) cause ∷ []))) }
     {
         self.findings.push(Finding { place, cause })?;
         Ok(())
@@ -99,7 +99,7 @@ impl<'a> Found<'a> {
 
     // Adds a fault and its finding. A count that is too large is reported as out of memory.
     pub(crate) fn add_fault(&mut self, place: Place<'a>, cause: Cause) -> Result<(), AllocError>
-        ensures { OnOk result (self.new ≡ together self.old (fault_at (place_view place.entry) cause)) }
+        ensures { OnOk result (self.new ≡ messages_together self.old (message_fault_at (place_view place.entry) cause)) }
     {
         self.faults = sum(self.faults, 1)?;
         self.add_finding(place, cause)
@@ -107,7 +107,7 @@ impl<'a> Found<'a> {
 
     // Adds a note and its finding. A count that is too large is reported as out of memory.
     fn add_note(&mut self, place: Place<'a>, cause: Cause) -> Result<(), AllocError>
-        ensures { OnOk result (self.new ≡ together self.old (note_at (place_view place.entry) cause)) }
+        ensures { OnOk result (self.new ≡ messages_together self.old (note_at (place_view place.entry) cause)) }
     {
         self.notes = sum(self.notes, 1)?;
         self.add_finding(place, cause)
@@ -116,7 +116,7 @@ impl<'a> Found<'a> {
     // Adds a fault or a note, and its finding. A count that is too large is reported as out of
     // memory.
     pub(crate) fn add(&mut self, place: Place<'a>, cause: Cause) -> Result<(), AllocError>
-        ensures { OnOk result (self.new ≡ together self.old (found_at (place_view place.entry) cause)) }
+        ensures { OnOk result (self.new ≡ messages_together self.old (counted_finding_at (place_view place.entry) cause)) }
     {
         match cause.severity() {
             Severity::Error => self.add_fault(place, cause),
@@ -126,7 +126,7 @@ impl<'a> Found<'a> {
 
     // Counts a fault or a note. A count that is too large is reported as out of memory.
     pub(crate) fn count(&mut self, severity: Severity) -> Result<(), AllocError>
-        ensures { OnOk result (self.new ≡ together self.old (counted_alone severity)) }
+        ensures { OnOk result (self.new ≡ messages_together self.old (counted_alone severity)) }
     {
         match severity {
             Severity::Error => self.count_fault(),
@@ -136,7 +136,7 @@ impl<'a> Found<'a> {
 
     // Counts a note. A count that is too large is reported as out of memory.
     fn count_note(&mut self) -> Result<(), AllocError>
-        ensures { OnOk result (self.new ≡ together self.old (counted_alone Severity.Note)) }
+        ensures { OnOk result (self.new ≡ messages_together self.old (counted_alone Severity.Note)) }
     {
         self.notes = sum(self.notes, 1)?;
         Ok(())
@@ -144,7 +144,7 @@ impl<'a> Found<'a> {
 
     // Counts a fault. A count that is too large is reported as out of memory.
     pub(crate) fn count_fault(&mut self) -> Result<(), AllocError>
-        ensures { OnOk result (self.new ≡ together self.old (faults_alone 1)) }
+        ensures { OnOk result (self.new ≡ messages_together self.old (message_faults_alone 1)) }
     {
         self.faults = sum(self.faults, 1)?;
         Ok(())
@@ -153,7 +153,7 @@ impl<'a> Found<'a> {
     // Adds the finding that counts what isn't told of a place, if there are more faults than are
     // told.
     pub(crate) fn add_rest(&mut self, place: Place<'a>, count: u64) -> Result<(), AllocError>
-        ensures { OnOk result (self.new ≡ together self.old (findings_alone (rest_of (place_view place.entry) count))) }
+        ensures { OnOk result (self.new ≡ messages_together self.old (message_findings_alone (further_message_faults (place_view place.entry) count))) }
     {
         if count <= MOST_TOLD {
             return Ok(());
@@ -163,7 +163,7 @@ impl<'a> Found<'a> {
 
     // Counts a message. A count that is too large is reported as out of memory.
     pub(crate) fn count_message(&mut self) -> Result<(), AllocError>
-        ensures { OnOk result (self.new ≡ together self.old one_message) }
+        ensures { OnOk result (self.new ≡ messages_together self.old one_message) }
     {
         self.messages = sum(self.messages, 1)?;
         Ok(())
@@ -171,7 +171,7 @@ impl<'a> Found<'a> {
 
     // Counts a form. A count that is too large is reported as out of memory.
     pub(crate) fn count_form(&mut self) -> Result<(), AllocError>
-        ensures { OnOk result (self.new ≡ together self.old one_form) }
+        ensures { OnOk result (self.new ≡ messages_together self.old one_form) }
     {
         self.forms = sum(self.forms, 1)?;
         Ok(())

@@ -1,7 +1,7 @@
 //! The keys of a message that name no form.
 
 ghost use Rattle.std.specs.Prelude.{◌≡◌, [], IfOk, IsTrue, OnOk};
-ghost use Rattle.message_report.specs.FoundInMessages.{together};
+ghost use Rattle.message_report.specs.FoundInMessages.{messages_together};
 ghost use Rattle.message_report.specs.Inner.ToldKeys.{count_at, told_unless_form, told_key};
 ghost use Rattle.message_report.specs.MessagePlaces.{message_place_view};
 ghost use Rattle.message_report.specs.MessagesReport.{found_of_keys, other_keys};
@@ -23,7 +23,7 @@ pub(crate) fn add_keys<'a>(
     found: &mut Found<'a>,
 ) -> Result<(), AllocError>
     ensures { OnOk result (found.new
-        ≡ together found.old (found_of_keys (message_place_view place.entry) (other_keys (members_view members.now.entries)))) }
+        ≡ messages_together found.old (found_of_keys (message_place_view place.entry) (other_keys (members_view members.now.entries)))) }
 {
     let mut count = 0;
     for (key, _) in members.iter() {
@@ -39,7 +39,7 @@ fn add_key<'a>(
     before: u64,
     found: &mut Found<'a>,
 ) -> Result<u64, AllocError>
-    ensures found { OnOk result (found.new ≡ together found.old (told_unless_form (message_place_view place.entry) before key.now)) }
+    ensures found { OnOk result (found.new ≡ messages_together found.old (told_unless_form (message_place_view place.entry) before key.now)) }
     ensures count { IfOk result (λ count. count ≡ count_at before key.now) }
 {
     if is_form_name(key) {
@@ -56,7 +56,7 @@ fn tell<'a>(
     before: u64,
     found: &mut Found<'a>,
 ) -> Result<(), AllocError>
-    ensures { OnOk result (found.new ≡ together found.old (told_key (message_place_view place.entry) before key.now)) }
+    ensures { OnOk result (found.new ≡ messages_together found.old (told_key (message_place_view place.entry) before key.now)) }
 {
     if before >= MOST_TOLD {
         return found.count_fault();

@@ -1,11 +1,11 @@
 //! What is found in a message.
 
 ghost use Rattle.std.specs.Prelude.{◌≡◌, OnOk, Some};
-ghost use Rattle.message_report.specs.FoundInMessages.{together, HasGrownBy, IsFoundInEach};
+ghost use Rattle.message_report.specs.FoundInMessages.{messages_together, HasGrownInMessages, IsFoundInEach};
 ghost use Rattle.message_report.specs.Inner.FormSteps.{language_lent, value_count, value_lent};
 ghost use Rattle.message_report.specs.Inner.FormValues.{IsFoundByValues};
 ghost use Rattle.message_report.specs.MessageForms.{form_order};
-ghost use Rattle.message_report.specs.MessagePlaces.{locale_place_view, message_place_view};
+ghost use Rattle.message_report.specs.MessagePlaces.{file_locale_place_view, message_place_view};
 ghost use Rattle.message_report.specs.MessagesReport.{IsFoundInForms, IsFoundInMessage, found_of_fault};
 ghost use Rattle.serde_json.specs.Data.{object};
 ghost use Rattle.serde_json.specs.Find.{as_object};
@@ -47,7 +47,8 @@ pub(crate) struct MessageCheck<'l, 'a> {
 }
 
 impl<'l, 'a> MemberCheck<'a, Found<'a>> for MessageCheck<'l, 'a> {
-    ghost finds = { λ check. IsFoundInMessage (language_lent check.language) (value_lent check.arguments) check.rule_type (locale_place_view check.locale) };
+    ghost finds = { λ check. IsFoundInMessage (language_lent check.language) (value_lent check.arguments) check.rule_type
+        (file_locale_place_view check.locale) };
 
     fn add(
         &self,
@@ -85,7 +86,7 @@ fn add_forms<'a>(
     message: &'a Value,
     found: &mut Found<'a>,
 ) -> Result<(), AllocError>
-    ensures { OnOk result (HasGrownBy
+    ensures { OnOk result (HasGrownInMessages
         (IsFoundInForms (language_lent needs.entry.language) needs.entry.number (message_place_view place.entry) (view message.now)
         (as_object (view message.now))) found.old found.new) }
 {
@@ -102,7 +103,7 @@ fn add_all<'a>(
     members: &'a Map<String, Value>,
     found: &mut Found<'a>,
 ) -> Result<(), AllocError>
-    ensures { OnOk result (HasGrownBy
+    ensures { OnOk result (HasGrownInMessages
         (IsFoundInForms (language_lent needs.entry.language) needs.entry.number (message_place_view place.entry)
         (object (members_view members.now.entries)) (Some (members_view members.now.entries))) found.old found.new) }
 {
@@ -121,7 +122,7 @@ fn add_each_form<'a>(
     values: &FormValues<'_>,
     found: &mut Found<'a>,
 ) -> Result<(), AllocError>
-    ensures { OnOk result (HasGrownBy
+    ensures { OnOk result (HasGrownInMessages
         (IsFoundInEach (IsFoundByValues (language_lent needs.entry.language) needs.entry.number (message_place_view place.entry)
         values.now) form_order) found.old found.new) }
 {
@@ -139,7 +140,7 @@ fn add_form<'a>(
     form: Form,
     found: &mut Found<'a>,
 ) -> Result<(), AllocError>
-    ensures { OnOk result (HasGrownBy
+    ensures { OnOk result (HasGrownInMessages
         (IsFoundByValues (language_lent needs.entry.language) needs.entry.number (message_place_view place.entry) values.now form)
         found.old found.new) }
 {
@@ -151,7 +152,7 @@ fn add_form<'a>(
 
 // Counts what a message has under the key of a form, if there is something.
 fn count_value(value: Option<&Value>, found: &mut Found<'_>) -> Result<(), AllocError>
-    ensures { OnOk result (found.new ≡ together found.old (value_count (value_lent value.entry))) }
+    ensures { OnOk result (found.new ≡ messages_together found.old (value_count (value_lent value.entry))) }
 {
     match value {
         Some(_) => found.count_form(),
@@ -166,7 +167,7 @@ fn add_fault<'a>(
     fault: Option<FormFault>,
     found: &mut Found<'a>,
 ) -> Result<(), AllocError>
-    ensures { OnOk result (found.new ≡ together found.old (found_of_fault (message_place_view place.entry) form fault)) }
+    ensures { OnOk result (found.new ≡ messages_together found.old (found_of_fault (message_place_view place.entry) form fault)) }
 {
     match fault {
         Some(fault) => found.add(Place::Form(place, form), Cause::Form(fault)),

@@ -1,7 +1,7 @@
 //! The set of the categories that a message has forms for.
 
 ghost use Rattle.std.specs.Prelude.{◌≡◌};
-ghost use Rattle.message_report.specs.MessageSets.{categories_in, has_category};
+ghost use Rattle.message_report.specs.MessageForms.{categories_in, has_category};
 ghost use Rattle.serde_json.specs.View.{view};
 
 use crate::form::Form;

@@ -1,10 +1,10 @@
 //! What is found in the messages of a type.
 
 ghost use Rattle.std.specs.Prelude.{◌≡◌, OnOk};
-ghost use Rattle.message_report.specs.FoundInMessages.{together, HasGrownBy};
+ghost use Rattle.message_report.specs.FoundInMessages.{messages_together, HasGrownInMessages};
 ghost use Rattle.message_report.specs.Inner.FormSteps.{language_lent, value_lent};
 ghost use Rattle.message_report.specs.Inner.NeededRules.{IsFoundInMessagesBy, IsFoundInObjectBy, IsFoundInPartBy};
-ghost use Rattle.message_report.specs.MessagePlaces.{locale_place_view, type_name};
+ghost use Rattle.message_report.specs.MessagePlaces.{file_locale_place_view, type_name};
 ghost use Rattle.message_report.specs.MessagesReport.{found_of_language, IsFoundUnder};
 ghost use Rattle.message_report.specs.SourceArguments.{source_name};
 ghost use Rattle.serde_json.specs.Find.{as_object, get};
@@ -30,8 +30,8 @@ pub(crate) fn add_part<'a>(
     value: &'a Value,
     found: &mut Found<'a>,
 ) -> Result<(), AllocError>
-    ensures { OnOk result (HasGrownBy
-        (IsFoundInPartBy (language_lent language.entry) (get source_name (view value.now)) rule_type (locale_place_view locale.entry)
+    ensures { OnOk result (HasGrownInMessages
+        (IsFoundInPartBy (language_lent language.entry) (get source_name (view value.now)) rule_type (file_locale_place_view locale.entry)
         (get (type_name rule_type) (view value.now))) found.old found.new) }
 {
     match value.get(type_name(rule_type)) {
@@ -59,8 +59,8 @@ fn add_object<'a>(
     part: &'a Value,
     found: &mut Found<'a>,
 ) -> Result<(), AllocError>
-    ensures { OnOk result (HasGrownBy
-        (IsFoundInObjectBy (language_lent language.entry) (value_lent arguments.entry) rule_type (locale_place_view locale.entry)
+    ensures { OnOk result (HasGrownInMessages
+        (IsFoundInObjectBy (language_lent language.entry) (value_lent arguments.entry) rule_type (file_locale_place_view locale.entry)
         (as_object (view part.now))) found.old found.new) }
 {
     match part.as_object() {
@@ -81,8 +81,8 @@ fn add_messages<'a>(
     members: &'a Map<String, Value>,
     found: &mut Found<'a>,
 ) -> Result<(), AllocError>
-    ensures { OnOk result (HasGrownBy
-        (IsFoundInMessagesBy (language_lent language.entry) (value_lent arguments.entry) rule_type (locale_place_view locale.entry)
+    ensures { OnOk result (HasGrownInMessages
+        (IsFoundInMessagesBy (language_lent language.entry) (value_lent arguments.entry) rule_type (file_locale_place_view locale.entry)
         (members_view members.now.entries)) found.old found.new) }
 {
     if members.is_empty() {
@@ -103,8 +103,8 @@ fn add_under<'a>(
     members: &'a Map<String, Value>,
     found: &mut Found<'a>,
 ) -> Result<(), AllocError>
-    ensures { OnOk result (HasGrownBy
-        (IsFoundUnder (language_lent language.entry) (value_lent arguments.entry) rule_type (locale_place_view locale.entry)
+    ensures { OnOk result (HasGrownInMessages
+        (IsFoundUnder (language_lent language.entry) (value_lent arguments.entry) rule_type (file_locale_place_view locale.entry)
         (members_view members.now.entries)) found.old found.new) }
 {
     add_no_rules(language, rule_type, locale, found)?;
@@ -125,7 +125,7 @@ fn add_no_rules<'a>(
     found: &mut Found<'a>,
 ) -> Result<(), AllocError>
     ensures { OnOk result (found.new
-        ≡ together found.old (found_of_language rule_type (locale_place_view locale.entry) (language_lent language.entry))) }
+        ≡ messages_together found.old (found_of_language rule_type (file_locale_place_view locale.entry) (language_lent language.entry))) }
 {
     if language.is_some() {
         return Ok(());

@@ -2,9 +2,9 @@
 
 ghost use Rattle.std.specs.Prelude.{◌≡◌, OnOk};
 ghost use Rattle.message_pattern.specs.PatternParts.{parts_view};
-ghost use Rattle.message_report.specs.FoundInMessages.{fault_at, together, HasGrownBy};
+ghost use Rattle.message_report.specs.FoundInMessages.{message_fault_at, messages_together, HasGrownInMessages};
 ghost use Rattle.message_report.specs.Inner.ArgumentViews.{languages_view};
-ghost use Rattle.message_report.specs.MessagePlaces.{at_pattern, locale_place_view, pattern_place_view};
+ghost use Rattle.message_report.specs.MessagePlaces.{at_pattern, file_locale_place_view, pattern_place_view};
 ghost use Rattle.message_report.specs.MessagesReport.{IsFoundInArguments, IsFoundInPattern, IsFoundInText, IsFoundInTextIf};
 ghost use Rattle.message_report.specs.declared.cause.Cause.TheVariants.{NoPattern};
 ghost use Rattle.serde_json.specs.Find.{as_str};
@@ -28,7 +28,7 @@ pub(crate) struct PatternCheck<'l, 'a> {
 }
 
 impl<'l, 'a> MemberCheck<'a, Found<'a>> for PatternCheck<'l, 'a> {
-    ghost finds = { λ check. IsFoundInPattern (languages_view check.languages.now) (locale_place_view check.locale) };
+    ghost finds = { λ check. IsFoundInPattern (languages_view check.languages.now) (file_locale_place_view check.locale) };
 
     fn add(
         &self,
@@ -54,7 +54,7 @@ fn add_value<'a>(
     value: &'a Value,
     found: &mut Found<'a>,
 ) -> Result<(), AllocError>
-    ensures { OnOk result (HasGrownBy
+    ensures { OnOk result (HasGrownInMessages
         (IsFoundInTextIf (languages_view languages.now) (pattern_place_view place.entry) (as_str (view value.now))) found.old found.new) }
 {
     match value.as_str() {
@@ -71,7 +71,7 @@ fn add_text<'a>(
     text: &'a str,
     found: &mut Found<'a>,
 ) -> Result<(), AllocError>
-    ensures { OnOk result (HasGrownBy (IsFoundInText (languages_view languages.now) (pattern_place_view place.entry) text.now) found.old found.new) }
+    ensures { OnOk result (HasGrownInMessages (IsFoundInText (languages_view languages.now) (pattern_place_view place.entry) text.now) found.old found.new) }
 {
     match StyledPattern::parse(alloc, text.as_bytes()) {
         Ok(styled) => {
@@ -91,7 +91,7 @@ fn add_no_pattern<'a>(
     found: &mut Found<'a>,
 ) -> Result<(), AllocError>
     ensures { OnOk result (found.new
-        ≡ together found.old (fault_at (at_pattern (pattern_place_view place.entry)) (NoPattern kind byte))) }
+        ≡ messages_together found.old (message_fault_at (at_pattern (pattern_place_view place.entry)) (NoPattern kind byte))) }
 {
     found.add_fault(Place::Pattern(place), Cause::NoPattern(kind, byte))
 }
@@ -104,7 +104,7 @@ fn add_arguments<'a>(
     parts: &[Part<'a>],
     found: &mut Found<'a>,
 ) -> Result<(), AllocError>
-    ensures { OnOk result (HasGrownBy
+    ensures { OnOk result (HasGrownInMessages
         (IsFoundInArguments (languages_view languages.now) (pattern_place_view place.entry) (parts_view parts.now)) found.old found.new) }
 {
     let count = tell_pattern(alloc, languages, place, parts, found)?;

@@ -2,11 +2,11 @@
 
 ghost use Rattle.std.specs.Prelude.{◌≡◌, ◌∷◌, [], IfOk, OnOk, map};
 ghost use Rattle.message_pattern.specs.PatternParts.{parts_view, piece_view, selector_view};
-ghost use Rattle.message_report.specs.FoundInMessages.{faults_of, finding_at};
-ghost use Rattle.message_report.specs.Inner.ArgumentViews.{argument_view, languages_view};
+ghost use Rattle.message_report.specs.FoundInMessages.{faults_of_severity, message_finding_at};
+ghost use Rattle.message_report.specs.Inner.ArgumentViews.{plural_argument_view, languages_view};
 ghost use Rattle.message_report.specs.Inner.FormSteps.{language_lent};
 ghost use Rattle.message_report.specs.Inner.LanguageViews.{language_view};
-ghost use Rattle.message_report.specs.Inner.ToldFindings.{Tells, TellsThose, remembered};
+ghost use Rattle.message_report.specs.Inner.ToldFindings.{TellsFindings, TellsThose, remembered};
 ghost use Rattle.message_report.specs.MessagePlaces.{argument_place_view, pattern_place_view, place_view};
 ghost use Rattle.message_report.specs.MessagesReport.{argument_findings, branch_findings, category_order, findings_at};
 ghost use Rattle.message_report.specs.MessagesReport.{HasPatternFindings, HasPieceFindings, findings_under, language_findings, missing_findings};
@@ -112,8 +112,8 @@ fn tell_argument<'a>(
     before: u64,
     found: &mut Found<'a>,
 ) -> Result<u64, AllocError>
-    ensures { IfOk result (λ count. Tells before found.old count found.new
-        (argument_findings (languages_view languages.now) (pattern_place_view place.entry) rule_type (argument_view argument.entry))) }
+    ensures { IfOk result (λ count. TellsFindings before found.old count found.new
+        (argument_findings (languages_view languages.now) (pattern_place_view place.entry) rule_type (plural_argument_view argument.entry))) }
 {
     let Some(rule_type) = rule_type else {
         return Ok(before);
@@ -136,8 +136,8 @@ fn tell_under<'a>(
     before: u64,
     found: &mut Found<'a>,
 ) -> Result<u64, AllocError>
-    ensures { IfOk result (λ count. Tells before found.old count found.new
-        (findings_under rule_type (argument_place_view place.entry) (language_lent language.entry) (argument_view argument.entry))) }
+    ensures { IfOk result (λ count. TellsFindings before found.old count found.new
+        (findings_under rule_type (argument_place_view place.entry) (language_lent language.entry) (plural_argument_view argument.entry))) }
 {
     match language {
         Some(language) => tell_branches(alloc, language, place, argument, before, found),
@@ -159,8 +159,8 @@ fn tell_branches<'a>(
     before: u64,
     found: &mut Found<'a>,
 ) -> Result<u64, AllocError>
-    ensures { IfOk result (λ count. Tells before found.old count found.new
-        (language_findings (language_view language.now) (argument_place_view place.entry) (argument_view argument.entry))) }
+    ensures { IfOk result (λ count. TellsFindings before found.old count found.new
+        (language_findings (language_view language.now) (argument_place_view place.entry) (plural_argument_view argument.entry))) }
 {
     let count = tell_missing(language, place, argument, before, found)?;
     tell_each_branch(alloc, language, place, argument, count, found)
@@ -174,8 +174,8 @@ fn tell_missing<'a>(
     before: u64,
     found: &mut Found<'a>,
 ) -> Result<u64, AllocError>
-    ensures { IfOk result (λ count. Tells before found.old count found.new
-        (missing_findings (language_view language.now) (argument_place_view place.entry) (argument_view argument.entry) category_order)) }
+    ensures { IfOk result (λ count. TellsFindings before found.old count found.new
+        (missing_findings (language_view language.now) (argument_place_view place.entry) (plural_argument_view argument.entry) category_order)) }
 {
     let mut count = before;
     let mut left: &[PluralCategory] = &CATEGORY_ORDER;
@@ -197,9 +197,9 @@ fn tell_each_branch<'a>(
     before: u64,
     found: &mut Found<'a>,
 ) -> Result<u64, AllocError>
-    ensures { IfOk result (λ count. Tells before found.old count found.new
-        (branch_findings (language_view language.now) (argument_place_view place.entry) (argument_view argument.entry) []
-        (argument_view argument.entry).branches)) }
+    ensures { IfOk result (λ count. TellsFindings before found.old count found.new
+        (branch_findings (language_view language.now) (argument_place_view place.entry) (plural_argument_view argument.entry) []
+        (plural_argument_view argument.entry).branches)) }
 {
     let mut seen = Vec::new(alloc);
     let mut count = before;
@@ -237,7 +237,7 @@ fn tell_branch<'a>(
     before: u64,
     found: &mut Found<'a>,
 ) -> Result<u64, AllocError>
-    ensures { IfOk result (λ count. Tells before found.old count found.new
+    ensures { IfOk result (λ count. TellsFindings before found.old count found.new
         (findings_at (argument_place_view place.entry) (selector_view selector.entry) fault)) }
 {
     match fault {
@@ -259,7 +259,7 @@ fn tell<'a>(
     before: u64,
     found: &mut Found<'a>,
 ) -> Result<u64, AllocError>
-    ensures { IfOk result (λ count. Tells before found.old count found.new (finding_at (place_view place.entry) cause ∷ [])) }
+    ensures { IfOk result (λ count. TellsFindings before found.old count found.new (message_finding_at (place_view place.entry) cause ∷ [])) }
 {
     if before < MOST_TOLD {
         found.add(place, cause)?;
@@ -272,7 +272,7 @@ fn tell<'a>(
 
 // How many faults are of a severity: one or none.
 fn faults_of(severity: Severity) -> u64
-    ensures { result ≡ faults_of severity }
+    ensures { result ≡ faults_of_severity severity }
 {
     match severity {
         Severity::Error => 1,

@@ -1,10 +1,10 @@
 //! What is found in the patterns of a locale.
 
 ghost use Rattle.std.specs.Prelude.{OnOk};
-ghost use Rattle.message_report.specs.FoundInMessages.{HasGrownBy};
+ghost use Rattle.message_report.specs.FoundInMessages.{HasGrownInMessages};
 ghost use Rattle.message_report.specs.Inner.ArgumentViews.{languages_view};
 ghost use Rattle.message_report.specs.Inner.NeededRules.{IsFoundInPatternsBy, IsFoundInPatternsObjectBy, IsFoundInPatternsPartBy};
-ghost use Rattle.message_report.specs.MessagePlaces.{locale_place_view};
+ghost use Rattle.message_report.specs.MessagePlaces.{file_locale_place_view};
 ghost use Rattle.message_report.specs.MessagesReport.{patterns_name};
 ghost use Rattle.serde_json.specs.Find.{as_object, get};
 ghost use Rattle.serde_json.specs.View.{members_view, view};
@@ -26,7 +26,7 @@ pub(crate) fn add_patterns<'a>(
     value: &'a Value,
     found: &mut Found<'a>,
 ) -> Result<(), AllocError>
-    ensures { OnOk result (HasGrownBy (IsFoundInPatternsPartBy (languages_view languages.now) (locale_place_view locale.entry)
+    ensures { OnOk result (HasGrownInMessages (IsFoundInPatternsPartBy (languages_view languages.now) (file_locale_place_view locale.entry)
         (get patterns_name (view value.now))) found.old found.new) }
 {
     match value.get("patterns") {
@@ -43,7 +43,7 @@ fn add_object<'a>(
     part: &'a Value,
     found: &mut Found<'a>,
 ) -> Result<(), AllocError>
-    ensures { OnOk result (HasGrownBy (IsFoundInPatternsObjectBy (languages_view languages.now) (locale_place_view locale.entry)
+    ensures { OnOk result (HasGrownInMessages (IsFoundInPatternsObjectBy (languages_view languages.now) (file_locale_place_view locale.entry)
         (as_object (view part.now))) found.old found.new) }
 {
     match part.as_object() {
@@ -60,7 +60,7 @@ fn add_each<'a>(
     members: &'a Map<String, Value>,
     found: &mut Found<'a>,
 ) -> Result<(), AllocError>
-    ensures { OnOk result (HasGrownBy (IsFoundInPatternsBy (languages_view languages.now) (locale_place_view locale.entry)
+    ensures { OnOk result (HasGrownInMessages (IsFoundInPatternsBy (languages_view languages.now) (file_locale_place_view locale.entry)
         (members_view members.now.entries)) found.old found.new) }
 {
     let check = PatternCheck { languages, locale };

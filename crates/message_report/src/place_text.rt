@@ -4,8 +4,8 @@ ghost use Rattle.std.specs.Prelude.{◌≡◌, IfOk, Some, string_bytes};
 ghost use Rattle.std.specs.Fmt.{DisplaysOnOk};
 ghost use Rattle.message_pattern.specs.PatternParts.{selector_view};
 ghost use Rattle.message_report.specs.MessagePlaces.{argument_place_text, locale_text, message_place_text, pattern_place_text};
-ghost use Rattle.message_report.specs.MessagePlaces.{named, place_text, selector_text};
-ghost use Rattle.message_report.specs.MessagePlaces.{argument_place_view, locale_place_view, message_place_view, pattern_place_view, place_view};
+ghost use Rattle.message_report.specs.MessagePlaces.{named_file_place, file_place_text, branch_selector_text};
+ghost use Rattle.message_report.specs.MessagePlaces.{argument_place_view, file_locale_place_view, message_place_view, pattern_place_view, place_view};
 
 use crate::place::{ArgumentPlace, LocalePlace, MessagePlace, PatternPlace, Place, type_name};
 use crate::printed_key::{PrintedBytes, message_key};
@@ -19,7 +19,7 @@ impl Place<'_> {
     /// Returns what is printed for the place, after the name of its file. It allocates; the only
     /// error is out of memory.
     pub fn text(&self, alloc: Global) -> Result<String, AllocError>
-        ensures { IfOk result (λ text. string_bytes text ≡ place_text (place_view self.now)) }
+        ensures { IfOk result (λ text. string_bytes text ≡ file_place_text (place_view self.now)) }
     {
         self.to_string(alloc)
     }
@@ -27,7 +27,7 @@ impl Place<'_> {
 
 /// What is printed for the place, after the name of its file: `ru files one`.
 impl fmt::Display for Place<'_> {
-    ghost output = { λ place. Some (place_text (place_view place)) };
+    ghost output = { λ place. Some (file_place_text (place_view place)) };
 
     fn fmt<W: fmt::Write>(&self, f: &mut fmt::Formatter<W>) -> fmt::Result {
         match self {
@@ -57,7 +57,7 @@ fn write_named<W: fmt::Write>(
     name: &str,
 ) -> fmt::Result
     ensures { DisplaysOnOk W.write_str_gives f.old result
-        (Some (named (locale_text (locale_place_view locale.now)) name.now)) f.new }
+        (Some (named_file_place (locale_text (file_locale_place_view locale.now)) name.now)) f.new }
 {
     write!(f, "{locale} {name}")
 }
@@ -69,14 +69,14 @@ fn write_part<W: fmt::Write>(
     name: &str,
 ) -> fmt::Result
     ensures { DisplaysOnOk W.write_str_gives f.old result
-        (Some (named (message_place_text (message_place_view message.now)) name.now)) f.new }
+        (Some (named_file_place (message_place_text (message_place_view message.now)) name.now)) f.new }
 {
     write!(f, "{message} {name}")
 }
 
 /// The locale alone: `ru`.
 impl fmt::Display for LocalePlace<'_> {
-    ghost output = { λ place. Some (locale_text (locale_place_view place)) };
+    ghost output = { λ place. Some (locale_text (file_locale_place_view place)) };
 
     fn fmt<W: fmt::Write>(&self, f: &mut fmt::Formatter<W>) -> fmt::Result {
         write!(f, "{}", printed_name(self.locale))
@@ -120,7 +120,7 @@ impl fmt::Display for ArgumentPlace<'_> {
 struct PrintedSelector<'a>(Selector<'a>);
 
 impl fmt::Display for PrintedSelector<'_> {
-    ghost output = { λ it. Some (selector_text (selector_view it.0)) };
+    ghost output = { λ it. Some (branch_selector_text (selector_view it.0)) };
 
     fn fmt<W: fmt::Write>(&self, f: &mut fmt::Formatter<W>) -> fmt::Result {
         match self.0 {

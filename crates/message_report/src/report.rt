@@ -1,9 +1,9 @@
 //! The text of a report.
 
 ghost use Rattle.std.specs.Prelude.{◌≡◌, IfOk, string_bytes};
-ghost use Rattle.message_report.specs.MessageFindings.{finding_view};
+ghost use Rattle.message_report.specs.MessageFindings.{message_finding_view};
 ghost use Rattle.message_report.specs.MessageFindings as listed;
-ghost use Rattle.message_report.specs.MessagesReportText.{counts_line_with, message_counts_line, messages_report_text, notes_text, printed_finding};
+ghost use Rattle.message_report.specs.MessagesReportText.{counts_line_with, message_counts_line, messages_report_text, message_notes_text, printed_message_finding};
 
 use crate::counts::Counts;
 use crate::finding::Finding;
@@ -28,11 +28,11 @@ pub fn report_text(alloc: Global, found: &Found<'_>) -> Result<String, AllocErro
 struct FindingLines;
 
 impl<'a> LinePrinter<Finding<'a>> for FindingLines {
-    ghost Seen = { listed.Finding };
+    ghost Seen = { listed.MessageFinding };
 
-    ghost seen = { finding_view };
+    ghost seen = { message_finding_view };
 
-    ghost line_of = { λ lines. printed_finding };
+    ghost line_of = { λ lines. printed_message_finding };
 
     fn push(
         &mut self,
@@ -67,7 +67,7 @@ fn counts_line_with(alloc: Global, counts: Counts, notes: &str) -> Result<String
 
 // How many notes there are, behind a comma, if there are some.
 fn notes_text(alloc: Global, notes: u64) -> Result<String, AllocError>
-    ensures { IfOk result (λ text. string_bytes text ≡ notes_text notes) }
+    ensures { IfOk result (λ text. string_bytes text ≡ message_notes_text notes) }
 {
     if notes == 0 {
         return Ok(String::new(alloc));

@@ -10,7 +10,7 @@ pub trait ReportPrinter {
     ghost use Rattle.message_report.specs.FoundInMessages as seen;
 
     // The text of what is found.
-    ghost text_of: { Self → seen.Found → List ℕ };
+    ghost text_of: { Self → seen.MessageFound → List ℕ };
 
     /// Returns the text. It allocates; the only error is out of memory.
     fn print(&self, alloc: Global, found: &Found<'_>) -> Result<String, AllocError>

@@ -1,7 +1,7 @@
 //! How grave a finding is.
 
 ghost use Rattle.std.specs.Prelude.{◌≡◌};
-ghost use Rattle.message_report.specs.Severities.{severity_name};
+ghost use Rattle.message_report.specs.FindingCauses.{severity_name};
 
 /// How grave a finding is.
 #[derive(Clone, Copy, Debug, PartialEq, Eq)]

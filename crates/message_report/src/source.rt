@@ -2,7 +2,7 @@
 
 ghost use Rattle.std.specs.Prelude.{◌≡◌, option_map};
 ghost use Rattle.icu_plurals.specs.FiveRules.{rules_of};
-ghost use Rattle.message_report.specs.Inner.KnownLanguages.{GivesKnown};
+ghost use Rattle.message_report.specs.Inner.LanguageViews.{GivesKnown};
 ghost use Rattle.message_report.specs.RulesSource.{part_of};
 ghost use Rattle.plural_fallback.specs.Chain.{next_of};
 

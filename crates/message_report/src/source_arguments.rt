@@ -2,7 +2,7 @@
 
 ghost use Rattle.std.specs.Prelude.{◌≡◌, ◌↔◌, IsFalse, IsTrue, is_some};
 ghost use Rattle.message_report.specs.Inner.FormSteps.{value_lent};
-ghost use Rattle.message_report.specs.Inner.ListedTexts.{all_pass, is_other};
+ghost use Rattle.message_report.specs.Inner.NeededRules.{all_pass, is_other_text};
 ghost use Rattle.message_report.specs.SourceArguments.{IsTextList, IsWithoutNumber, IsWithoutNumberIf, LacksNumber};
 ghost use Rattle.serde_json.specs.Find.{as_str};
 ghost use Rattle.serde_json.specs.View.{items_view, view};
@@ -64,7 +64,7 @@ fn are_texts(values: &[Value]) -> bool
 
 // Whether all values are other texts than the number.
 fn are_others(values: &[Value]) -> bool
-    ensures { result ≡ all_pass is_other (items_view values.now) }
+    ensures { result ≡ all_pass is_other_text (items_view values.now) }
 {
     for value in values {
         if !is_other(value) {
@@ -76,7 +76,7 @@ fn are_others(values: &[Value]) -> bool
 
 // Whether a value is another text than the number.
 fn is_other(value: &Value) -> bool
-    ensures { result ≡ is_other (as_str (view value.now)) }
+    ensures { result ≡ is_other_text (as_str (view value.now)) }
 {
     match value.as_str() {
         Some(text) => text != "{}",

@@ -1,9 +1,9 @@
 //! What is found in the part of a locale that tells what the sources of its messages have.
 
 ghost use Rattle.std.specs.Prelude.{OnOk};
-ghost use Rattle.message_report.specs.FoundInMessages.{HasGrownBy};
+ghost use Rattle.message_report.specs.FoundInMessages.{HasGrownInMessages};
 ghost use Rattle.message_report.specs.Inner.FormSteps.{value_lent};
-ghost use Rattle.message_report.specs.MessagePlaces.{locale_place_view};
+ghost use Rattle.message_report.specs.MessagePlaces.{file_locale_place_view};
 ghost use Rattle.message_report.specs.MessagesReport.{IsFoundInSource, IsFoundInSourceObject, IsFoundInSourcePart};
 ghost use Rattle.serde_json.specs.Find.{as_object};
 ghost use Rattle.serde_json.specs.View.{view};
@@ -23,7 +23,7 @@ pub(crate) fn add_source_part<'a>(
     part: Option<&'a Value>,
     found: &mut Found<'a>,
 ) -> Result<(), AllocError>
-    ensures { OnOk result (HasGrownBy (IsFoundInSourcePart (locale_place_view locale.entry) (value_lent part.entry)) found.old found.new) }
+    ensures { OnOk result (HasGrownInMessages (IsFoundInSourcePart (file_locale_place_view locale.entry) (value_lent part.entry)) found.old found.new) }
 {
     match part {
         Some(part) => add_object(alloc, locale, part, found),
@@ -38,7 +38,7 @@ fn add_object<'a>(
     part: &'a Value,
     found: &mut Found<'a>,
 ) -> Result<(), AllocError>
-    ensures { OnOk result (HasGrownBy (IsFoundInSourceObject (locale_place_view locale.entry) (as_object (view part.now))) found.old found.new) }
+    ensures { OnOk result (HasGrownInMessages (IsFoundInSourceObject (file_locale_place_view locale.entry) (as_object (view part.now))) found.old found.new) }
 {
     match part.as_object() {
         Some(members) => add_members(alloc, &SourceCheck { locale }, members, found),
@@ -53,7 +53,7 @@ struct SourceCheck<'a> {
 }
 
 impl<'a> MemberCheck<'a, Found<'a>> for SourceCheck<'a> {
-    ghost finds = { λ check. IsFoundInSource (locale_place_view check.locale) };
+    ghost finds = { λ check. IsFoundInSource (file_locale_place_view check.locale) };
 
     fn add(
         &self,

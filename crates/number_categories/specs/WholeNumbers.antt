@@ -7,7 +7,7 @@
 --     AreTwoLeast rules category first second      the two least ones that have it
 --     AreLeastOfEach rules start least      the least one from a start of each category
 --     AreTwoLeastOfEach rules start least      the two least ones of each
-use Rattle.std.specs.Prelude.{◌≡◌, ◌+◌, ◌≤◌, ◌<◌, ℕ, Option, Some, None}
+use Rattle.std.specs.Prelude.{◌≡◌, ◌+◌, ◌≤◌, ◌<◌, ℕ, Option, Some, None, ◌≢◌, List, ◌++◌, codes}
 use Rattle.plural_base.specs.declared.category.PluralCategory.{PluralCategory}
 use Rattle.plural_base.specs.declared.category.PluralCategory.TheVariants.{Zero, One, Two, Few, Many, Other}
 use Rattle.plural_base.specs.FiveRules.{FiveRules, first_category}
@@ -15,6 +15,10 @@ use Rattle.plural_base.specs.Operands.{of_whole}
 use Rattle.plural_base.specs.PackedTruth.{packed_truth}
 use Rattle.number_categories.specs.declared.least_numbers.LeastNumbers.{LeastNumbers}
 use Rattle.number_categories.specs.declared.two_numbers.TwoNumbers.{TwoNumbers}
+use Rattle.fixed_decimal.specs.Written.{error_text}
+use Rattle.plural_base.specs.Categories.{name_of}
+use Rattle.number_categories.specs.declared.number_fault.NumberFault.{NumberFault}
+use Rattle.number_categories.specs.declared.number_fault.NumberFault.TheVariants.{Text, Outside, Category}
 
 -- the whole numbers that are looked at are those below this one
 abbrev pub whole_limit : ℕ
@@ -73,3 +77,16 @@ pub record AreLeastOfEach (rules : FiveRules) (start : ℕ) (least : LeastNumber
 
 pub record AreTwoLeastOfEach (rules : FiveRules) (start : ℕ) (least : LeastNumbers) : Type 0 where
   pub at : (c : PluralCategory) → AreTwoLeastFrom rules c start (least_at least c)
+
+-- ---- a number that is listed under a category, and what is wrong with it
+
+-- none if the number is listed under the category that is chosen for it
+abbrev pub IsCategoryFault : PluralCategory → PluralCategory → Option NumberFault → Type 0
+IsCategoryFault category chosen None = chosen ≡ category
+IsCategoryFault category chosen (Some (Category other)) = (other ≡ chosen) × (other ≢ category)
+IsCategoryFault category chosen (Some fault) = ⊥
+
+abbrev pub wrong_number_text : NumberFault → List ℕ
+wrong_number_text (Text error) = codes ": " ++ error_text error
+wrong_number_text Outside = codes " is outside the exactness bound"
+wrong_number_text (Category category) = codes " is " ++ name_of category

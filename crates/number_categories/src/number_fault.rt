@@ -3,7 +3,7 @@
 ghost use Rattle.std.specs.Prelude.{Some};
 ghost use Rattle.plural_base.specs.FiveRules.{first_category};
 ghost use Rattle.plural_base.specs.PackedTruth.{packed_truth};
-ghost use Rattle.number_categories.specs.NumberFaults.{IsCategoryFault, wrong_number_text};
+ghost use Rattle.number_categories.specs.WholeNumbers.{IsCategoryFault, wrong_number_text};
 
 use fixed_decimal::DecimalError;
 use plural_base::{AskedRules, PluralCategory, RawPluralCategory};

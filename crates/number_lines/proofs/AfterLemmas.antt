@@ -7,11 +7,11 @@ use Rattle.std.proofs.KnownBytes.{Appends-nil}
 use Rattle.plural_documents.specs.Inputs.{IsPartWritten}
 use Rattle.icu_plurals.specs.FiveRules.{FiveRules}
 use Rattle.icu_plurals.specs.declared.PluralCategory.{PluralCategory}
-use Rattle.number_lines.specs.InputLines.{HasNoEnd, lines_of}
-use Rattle.number_lines.specs.Inner.LineSteps.{EndsLine, Forgets, IsAfter, KeepsBytes, place_after}
+use Rattle.number_lines.specs.InputLines.{HasNoEnd, input_lines_of}
+use Rattle.number_lines.specs.Inner.LineSteps.{EndsLine, Forgets, IsAfterBytes, KeepsBytes, place_after}
 use Rattle.number_lines.specs.Inner.StreamSteps.{IsBegunAfter, IsWrittenAfter}
 use Rattle.number_lines.specs.NumberAnswers.{AreLineAnswers, IsAnswerAt, IsCategoryOf, most_number_bytes, next_place}
-use Rattle.number_lines.specs.PrintedTexts.{PrintedText, after_text, both_printed, nothing}
+use Rattle.number_lines.specs.PrintedTexts.{PrintedText, after_text, both_printed, nothing_printed}
 use Rattle.number_lines.specs.declared.printed.NumberFault.{NumberFault}
 use Rattle.number_lines.specs.declared.printed.Place.{Place}
 use Rattle.number_lines.specs.declared.printed.Place.TheVariants.{Line}
@@ -38,7 +38,7 @@ kept_answer rules place last kept printed is answered = (answered.0, kept_catego
 
 -- bytes that end no line
 pub after_more : (rules : FiveRules) (bytes text more : List ℕ) (old new : Lines) → HasNoEnd more → KeepsBytes more old new
-    → IsAfter rules bytes text old → IsAfter rules (bytes ++ more) text new
+    → IsAfterBytes rules bytes text old → IsAfterBytes rules (bytes ++ more) text new
 after_more rules bytes text more old new none keeps a =
     let short : length old.line.items ≤ most_number_bytes + 1 =
     subst (λ (l : List ℕ). length l ≤ most_number_bytes + 1) (sym a.kept) (kept_bound (most_number_bytes + 1) a.last) in
@@ -54,7 +54,7 @@ after_more rules bytes text more old new none keeps a =
     }
 
 -- one more line is answered
-answered_line : (rules : FiveRules) (bytes text line : List ℕ) (old new : Lines) (answer : PrintedText) (a : IsAfter rules bytes text old)
+answered_line : (rules : FiveRules) (bytes text line : List ℕ) (old new : Lines) (answer : PrintedText) (a : IsAfterBytes rules bytes text old)
     → IsAnswerAt rules (Line old.place) line answer → new.printed ≡ both_printed old.printed answer
     → AreLineAnswers rules (a.done ++ line ∷ []) (after_text text new.printed)
 answered_line rules bytes text line old new answer a answers printed =
@@ -66,18 +66,18 @@ answered_line rules bytes text line old new answer a answers printed =
 
 -- the lines that have ended then are answered
 answered_end : (rules : FiveRules) (bytes text : List ℕ) (old new : Lines) → EndsLine rules old.line.items old new
-    → (a : IsAfter rules bytes text old) → AreLineAnswers rules (a.done ++ a.last ∷ []) (after_text text new.printed)
+    → (a : IsAfterBytes rules bytes text old) → AreLineAnswers rules (a.done ++ a.last ∷ []) (after_text text new.printed)
 answered_end rules bytes text old new e a =
     answered_line rules bytes text a.last old new e.answer a
     (kept_answer rules (Line old.place) a.last old.line.items e.answer a.kept e.answers) e.printed
 
 -- a newline
 pub after_end : (rules : FiveRules) (bytes text : List ℕ) (old new : Lines) → EndsLine rules old.line.items old new
-    → IsAfter rules bytes text old → IsAfter rules (bytes ++ 10 ∷ []) text new
+    → IsAfterBytes rules bytes text old → IsAfterBytes rules (bytes ++ 10 ∷ []) text new
 after_end rules bytes text old new e a = record {
   done = a.done ++ a.last ∷ [];
   last = [];
-  cut = λ rest. rw (append_assoc bytes (10 ∷ []) rest, append_assoc a.done (a.last ∷ []) (lines_of rest))
+  cut = λ rest. rw (append_assoc bytes (10 ∷ []) rest, append_assoc a.done (a.last ∷ []) (input_lines_of rest))
       (a.cut (10 ∷ rest) ∙ ap (λ (ls : List (List ℕ)). a.done ++ ls) (ended a.last rest a.no_end));
   no_end = tt;
   kept = e.line ∙ sym (take-nil (most_number_bytes + 1));
@@ -85,9 +85,9 @@ after_end rules bytes text old new e a = record {
   answered = answered_end rules bytes text old new e a;
 }
 
--- a whole line, of which nothing was kept
+-- a whole line, of which nothing_printed was kept
 pub after_line : (rules : FiveRules) (bytes text line : List ℕ) (old new : Lines) → HasNoEnd line → old.line.items ≡ []
-    → EndsLine rules line old new → IsAfter rules bytes text old → IsAfter rules (bytes ++ (line ++ 10 ∷ [])) text new
+    → EndsLine rules line old new → IsAfterBytes rules bytes text old → IsAfterBytes rules (bytes ++ (line ++ 10 ∷ [])) text new
 after_line rules bytes text line old new none nothing_kept e a =
     let empty : a.last ≡ [] = kept_nothing most_number_bytes a.last (sym a.kept ∙ nothing_kept) in
     record {
@@ -96,9 +96,9 @@ after_line rules bytes text line old new none nothing_kept e a =
       cut = λ rest. rw (
         append_assoc bytes (line ++ 10 ∷ []) rest,
         append_assoc line (10 ∷ []) rest,
-        append_assoc a.done (line ∷ []) (lines_of rest),
+        append_assoc a.done (line ∷ []) (input_lines_of rest),
       )
-          (a.cut (line ++ 10 ∷ rest) ∙ ap (λ (l : List ℕ). a.done ++ lines_of (l ++ (line ++ 10 ∷ rest))) empty
+          (a.cut (line ++ 10 ∷ rest) ∙ ap (λ (l : List ℕ). a.done ++ input_lines_of (l ++ (line ++ 10 ∷ rest))) empty
           ∙ ap (λ (ls : List (List ℕ)). a.done ++ ls) (ended line rest none));
       no_end = tt;
       kept = e.line ∙ sym (take-nil (most_number_bytes + 1));
@@ -108,14 +108,14 @@ after_line rules bytes text line old new none nothing_kept e a =
 
 -- the end of a line of which bytes are kept
 pub after_kept : (rules : FiveRules) (bytes text line : List ℕ) (old mid new : Lines) → HasNoEnd line → KeepsBytes line old mid
-    → EndsLine rules mid.line.items mid new → IsAfter rules bytes text old → IsAfter rules (bytes ++ (line ++ 10 ∷ [])) text new
+    → EndsLine rules mid.line.items mid new → IsAfterBytes rules bytes text old → IsAfterBytes rules (bytes ++ (line ++ 10 ∷ [])) text new
 after_kept rules bytes text line old mid new none keeps e a =
-    subst (λ (b : List ℕ). IsAfter rules b text new) (append_assoc bytes line (10 ∷ []))
+    subst (λ (b : List ℕ). IsAfterBytes rules b text new) (append_assoc bytes line (10 ∷ []))
     (after_end rules (bytes ++ line) text mid new e (after_more rules bytes text line old mid none keeps a))
 
 -- ---- Nothing before the first byte
 
-pub after_nothing : (rules : FiveRules) (lines : Lines) → lines.line.items ≡ [] → lines.place ≡ 1 → lines.printed ≡ nothing
+pub after_nothing : (rules : FiveRules) (lines : Lines) → lines.line.items ≡ [] → lines.place ≡ 1 → lines.printed ≡ nothing_printed
     → IsWrittenAfter rules [] [] lines
 after_nothing rules lines line place printed = (
   record {
@@ -132,13 +132,13 @@ after_nothing rules lines line place printed = (
 
 -- ---- What was written
 
--- nothing more is written when bytes are taken
+-- nothing_printed more is written when bytes are taken
 pub begun_before : (rules : FiveRules) (bytes more text : List ℕ) (lines : Lines) (old : Option (List ℕ))
     → IsWrittenAfter rules bytes text lines → IsBegunAfter rules (bytes ++ more) text old old
 begun_before rules bytes more text lines old h =
     let a = h.0 in (
       a.done,
-      lines_of (a.last ++ more),
+      input_lines_of (a.last ++ more),
       after_text text lines.printed,
       [],
       a.cut more,
@@ -154,17 +154,17 @@ begun_here rules bytes text lines old h =
     subst (λ (b : List ℕ). IsBegunAfter rules b text old old) (append-nil bytes) (begun_before rules bytes [] text lines old h)
 
 -- the lines of bytes after which no more come
-cut_here : (bytes last : List ℕ) (done : List (List ℕ)) → ((rest : List ℕ) → lines_of (bytes ++ rest) ≡ done ++ lines_of (last ++ rest))
-    → lines_of bytes ≡ done ++ lines_of last
+cut_here : (bytes last : List ℕ) (done : List (List ℕ)) → ((rest : List ℕ) → input_lines_of (bytes ++ rest) ≡ done ++ input_lines_of (last ++ rest))
+    → input_lines_of bytes ≡ done ++ input_lines_of last
 cut_here bytes last done cut =
-    ap lines_of (sym (append-nil bytes)) ∙ cut [] ∙ ap (λ (l : List ℕ). done ++ lines_of l) (append-nil last)
+    ap input_lines_of (sym (append-nil bytes)) ∙ cut [] ∙ ap (λ (l : List ℕ). done ++ input_lines_of l) (append-nil last)
 
 -- what is printed is written in part
 pub begun_part : (rules : FiveRules) (bytes text : List ℕ) (lines : Lines) (old new : Option (List ℕ))
-    → IsAfter rules bytes text lines → IsPartWritten old new lines.printed.text → IsBegunAfter rules bytes text old new
+    → IsAfterBytes rules bytes text lines → IsPartWritten old new lines.printed.text → IsBegunAfter rules bytes text old new
 begun_part rules bytes text lines old new a part = (
   a.done,
-  lines_of a.last,
+  input_lines_of a.last,
   after_text text lines.printed,
   lines.printed.text,
   cut_here bytes a.last a.done a.cut,
@@ -174,7 +174,7 @@ begun_part rules bytes text lines old new a part = (
 )
 
 -- what is printed is written
-pub written_on : (rules : FiveRules) (bytes text : List ℕ) (mid new : Lines) → IsAfter rules bytes text mid → Forgets mid new
+pub written_on : (rules : FiveRules) (bytes text : List ℕ) (mid new : Lines) → IsAfterBytes rules bytes text mid → Forgets mid new
     → IsWrittenAfter rules bytes (text ++ mid.printed.text) new
 written_on rules bytes text mid new a forgets = rw forgets (
   record {
@@ -193,14 +193,14 @@ written_on rules bytes text mid new a forgets = rw forgets (
 -- ---- The last line
 
 -- a line that has begun is the last one
-last_lines : (last : List ℕ) → HasNoEnd last → (last ≡ [] → ⊥) → lines_of last ≡ last ∷ []
+last_lines : (last : List ℕ) → HasNoEnd last → (last ≡ [] → ⊥) → input_lines_of last ≡ last ∷ []
 last_lines [] none there = absurd (there refl)
 last_lines (byte ∷ bytes) none there = unended byte bytes none
 
 -- its answer completes the answers to all lines
 pub last_answered : (rules : FiveRules) (bytes text : List ℕ) (old mid : Lines) → (old.line.items ≡ [] → ⊥)
     → EndsLine rules old.line.items old mid
-    → IsAfter rules bytes text old → AreLineAnswers rules (lines_of bytes) (after_text text mid.printed)
+    → IsAfterBytes rules bytes text old → AreLineAnswers rules (input_lines_of bytes) (after_text text mid.printed)
 last_answered rules bytes text old mid there e a =
     let begun : a.last ≡ [] → ⊥ = λ none. there (a.kept ∙ ap (take (most_number_bytes + 1)) none ∙ take-nil (most_number_bytes + 1)) in
     subst (λ (ls : List (List ℕ)). AreLineAnswers rules ls (after_text text mid.printed))
@@ -209,8 +209,8 @@ last_answered rules bytes text old mid there e a =
 
 -- if no line has begun, all lines are answered
 pub none_left : (rules : FiveRules) (bytes text : List ℕ) (lines : Lines) → lines.line.items ≡ []
-    → IsAfter rules bytes text lines → AreLineAnswers rules (lines_of bytes) (after_text text lines.printed)
+    → IsAfterBytes rules bytes text lines → AreLineAnswers rules (input_lines_of bytes) (after_text text lines.printed)
 none_left rules bytes text lines none a =
     let empty : a.last ≡ [] = kept_nothing most_number_bytes a.last (sym a.kept ∙ none) in
     subst (λ (ls : List (List ℕ)). AreLineAnswers rules ls (after_text text lines.printed))
-    (sym (cut_here bytes a.last a.done a.cut ∙ ap (λ (l : List ℕ). a.done ++ lines_of l) empty ∙ append-nil a.done)) a.answered
+    (sym (cut_here bytes a.last a.done a.cut ∙ ap (λ (l : List ℕ). a.done ++ input_lines_of l) empty ∙ append-nil a.done)) a.answered

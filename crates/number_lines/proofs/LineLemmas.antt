@@ -6,17 +6,17 @@ use Rattle.std.proofs.lemmas.Bool.{eq-eqb, ne_eqb}
 use Rattle.std.proofs.lemmas.List.{take_min, length-take, take-append-le, take_all, length-append, length-take-le}
 use Rattle.std.proofs.lemmas.List.{take-append-drop, drop_more, get_or-take}
 use Rattle.std.proofs.Math.Seq.{take-append-add}
-use Rattle.number_lines.specs.InputLines.{HasNoEnd, lines_of}
+use Rattle.number_lines.specs.InputLines.{HasNoEnd, input_lines_of}
 
 -- ---- Ends of lines
 
 -- bytes without an end, and a newline, are a line
-pub ended : (last rest : List ℕ) → HasNoEnd last → lines_of (last ++ 10 ∷ rest) ≡ last ∷ lines_of rest
+pub ended : (last rest : List ℕ) → HasNoEnd last → input_lines_of (last ++ 10 ∷ rest) ≡ last ∷ input_lines_of rest
 ended [] rest none = refl
 ended (byte ∷ bytes) rest none = rw (ne_eqb byte 10 none.0, ended bytes rest none.1) refl
 
 -- bytes without an end are one line
-pub unended : (byte : ℕ) (bytes : List ℕ) → HasNoEnd (byte ∷ bytes) → lines_of (byte ∷ bytes) ≡ (byte ∷ bytes) ∷ []
+pub unended : (byte : ℕ) (bytes : List ℕ) → HasNoEnd (byte ∷ bytes) → input_lines_of (byte ∷ bytes) ≡ (byte ∷ bytes) ∷ []
 unended byte [] none = rw (ne_eqb byte 10 none.0) refl
 unended byte (other ∷ bytes) none = rw (ne_eqb byte 10 none.0, unended other bytes none.1) refl
 

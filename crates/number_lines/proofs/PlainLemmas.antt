@@ -16,8 +16,7 @@ use Rattle.plural_base.specs.DecimalChoice.{IsKeptChoice}
 use Rattle.plural_base.specs.FiveRules.{FiveRules, first_category}
 use Rattle.plural_base.specs.declared.category.PluralCategory.{PluralCategory}
 use Rattle.number_lines.specs.InputLines.{HasNoEnd}
-use Rattle.number_lines.specs.Inner.LineSteps.{BeginsWithLine, EndsByCategory, TakesFront}
-use Rattle.number_lines.specs.Inner.PlainLines.{BeginsWithFraction, HasFractionLine}
+use Rattle.number_lines.specs.Inner.LineSteps.{BeginsWithLine, EndsByCategory, TakesFrontBytes, BeginsWithFraction, HasFractionLine}
 use Rattle.number_lines.specs.NumberAnswers.{IsChosenFor, category_answer}
 use Rattle.number_lines.specs.declared.stream.Lines.{Lines}
 use Rattle.number_lines.proofs.AfterLemmas.{after_line}
@@ -131,7 +130,7 @@ if_pointed rules bytes behind k n (Some p) exact digits few within point rest h 
 -- ---- The line is answered
 
 pub after_plain : (rules : FiveRules) (bytes after : List ℕ) (category : PluralCategory) (old new : Lines) → old.line.items ≡ []
-    → BeginsWithLine rules bytes category after → EndsByCategory category old new → TakesFront rules bytes after old new
+    → BeginsWithLine rules bytes category after → EndsByCategory category old new → TakesFrontBytes rules bytes after old new
 after_plain rules bytes after category old new nothing b e = record {
   front = b.line ++ 10 ∷ [];
   spelled = b.spelled ∙ sym (append_assoc b.line (10 ∷ []) after);

@@ -7,9 +7,9 @@ use Rattle.icu_plurals.specs.declared.PluralCategory.{PluralCategory}
 use Rattle.std.proofs.lemmas.List.{append-nil}
 use Rattle.icu_plurals.specs.FiveRules.{FiveRules}
 use Rattle.number_lines.specs.Inner.LineSteps.{place_after, AddsPrinted}
-use Rattle.number_lines.specs.NumberAnswers.{words_view, AreAnswersFrom, IsAnswerAt, IsCategoryOf, answer_text, next_place}
+use Rattle.number_lines.specs.NumberAnswers.{command_words_view, AreAnswersFrom, IsAnswerAt, IsCategoryOf, answer_text, next_place}
 use Rattle.number_lines.specs.declared.printed.NumberFault.{NumberFault}
-use Rattle.number_lines.specs.PrintedTexts.{PrintedText, after_text, both_printed, nothing}
+use Rattle.number_lines.specs.PrintedTexts.{PrintedText, after_text, both_printed, nothing_printed}
 use Rattle.number_lines.specs.declared.printed.Place.{Place}
 
 or_false : (b : Bool) → (b || false) ≡ b
@@ -20,12 +20,12 @@ or_assoc : (a b c : Bool) → ((a || b) || c) ≡ (a || (b || c))
 or_assoc true b c = refl
 or_assoc false b c = refl
 
--- nothing after it
-pub joined_nothing : (p : PrintedText) → both_printed p nothing ≡ p
+-- nothing_printed after it
+pub joined_nothing : (p : PrintedText) → both_printed p nothing_printed ≡ p
 joined_nothing p = rw (append-nil p.text, or_false p.has_fault) refl
 
--- nothing before it
-pub nothing_joined : (p : PrintedText) → both_printed nothing p ≡ p
+-- nothing_printed before it
+pub nothing_joined : (p : PrintedText) → both_printed nothing_printed p ≡ p
 nothing_joined p = refl
 
 pub joined_assoc : (a b c : PrintedText) → both_printed a (both_printed b c) ≡ both_printed (both_printed a b) c
@@ -50,7 +50,7 @@ answers_grown at rules place word words all old new m so_far is grown more h =
 pub answers_append : (at : ℕ → Place) (rules : FiveRules) (place : ℕ) (done : List (List ℕ)) (line : List ℕ) (p q : PrintedText)
     → AreAnswersFrom at rules place done p → IsAnswerAt rules (at (place_after place done)) line q
     → AreAnswersFrom at rules place (done ++ line ∷ []) (both_printed p q)
-answers_append at rules place [] line p q is more = (q, nothing, more, refl, rw is (sym (joined_nothing q)))
+answers_append at rules place [] line p q is more = (q, nothing_printed, more, refl, rw is (sym (joined_nothing q)))
 answers_append at rules place (word ∷ done) line p q is more = (
   is.0,
   both_printed is.1 q,
@@ -66,11 +66,11 @@ place_after_one place [] line = refl
 place_after_one place (word ∷ done) line = place_after_one (next_place place) done line
 
 -- the answers to the first number are what is printed with it
-pub start_answers : (old more : PrintedText) → old ≡ nothing → more ≡ both_printed old more
+pub start_answers : (old more : PrintedText) → old ≡ nothing_printed → more ≡ both_printed old more
 start_answers old more none = rw none refl
 
 -- a list shorter than 1 has no word
-pub empty_words : (xs : List (Bor (List ℕ))) → length xs < 1 → words_view xs ≡ []
+pub empty_words : (xs : List (Bor (List ℕ))) → length xs < 1 → command_words_view xs ≡ []
 empty_words [] short = refl
 empty_words (x ∷ xs) short = absurd (omega arith)
 

@@ -9,7 +9,7 @@ use Rattle.std.specs.declared.alloc.AllocError.{AllocError}
 use Rattle.icu_plurals.specs.FiveRules.{FiveRules}
 use Rattle.plural_documents.specs.Inputs.{IsPartWritten}
 use Rattle.number_lines.specs.AnsweredInputs.{IsAnsweredInPart, AnswersInput, WritesPrinted}
-use Rattle.number_lines.specs.InputLines.{lines_of}
+use Rattle.number_lines.specs.InputLines.{input_lines_of}
 use Rattle.number_lines.specs.Inner.LineSteps.{EndsLine, Forgets, TakesBytes}
 use Rattle.number_lines.specs.Inner.StreamSteps.{FinishesLines, IsBegunAfter, IsWrittenAfter, TakesAndWrites}
 use Rattle.number_lines.specs.PrintedTexts.{after_text}
@@ -51,11 +51,11 @@ finished rules lines mid before after (Ok has_fault) there e written = λ bytes 
 finished rules lines mid before after (Err error) there e written = (
   inr written.0,
   λ bytes text h. (
-    lines_of bytes,
+    input_lines_of bytes,
     [],
     after_text text mid.printed,
     mid.printed.text,
-    sym (append-nil (lines_of bytes)),
+    sym (append-nil (input_lines_of bytes)),
     last_answered rules bytes text lines mid there e h.0,
     refl,
     written.1,

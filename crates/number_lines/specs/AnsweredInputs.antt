@@ -5,7 +5,7 @@ use Rattle.std.specs.Prelude.{◌≡◌, ℕ, List, ◌++◌, Bool, Option, Resu
 use Rattle.std.specs.Io.KnownBytes.{Appends, Consumes, IsAtEnd}
 use Rattle.icu_plurals.specs.FiveRules.{FiveRules}
 use Rattle.plural_documents.specs.Inputs.{IsPartWritten}
-use Rattle.number_lines.specs.InputLines.{AreEndedIn, lines_of}
+use Rattle.number_lines.specs.InputLines.{AreEndedIn, input_lines_of}
 use Rattle.number_lines.specs.NumberAnswers.{AreLineAnswers}
 use Rattle.number_lines.specs.PrintedTexts.{PrintedText}
 use Rattle.number_lines.specs.declared.error.LinesError.{LinesError}
@@ -16,7 +16,7 @@ use Rattle.number_lines.specs.declared.error.LinesError.TheVariants.{Read, Write
 abbrev pub IsAnsweredInPart : FiveRules → Option (List ℕ) → Option (List ℕ) → Option (List ℕ) → Option (List ℕ) → Type 0
 IsAnsweredInPart rules before left old new =
     (numbers : List ℕ) × (done rest : List (List ℕ)) × (printed : PrintedText) × Consumes before left numbers
-    × (lines_of numbers ≡ done ++ rest) × AreLineAnswers rules done printed × IsPartWritten old new printed.text
+    × (input_lines_of numbers ≡ done ++ rest) × AreLineAnswers rules done printed × IsPartWritten old new printed.text
 
 -- The reader failed: some of it was taken, and the lines that have ended there are answered.
 abbrev pub IsCutOff : FiveRules → Option (List ℕ) → Option (List ℕ) → Option (List ℕ) → Option (List ℕ) → Type 0
@@ -28,7 +28,7 @@ IsCutOff rules before left old new =
 unfoldable pub AnswersInput : FiveRules → Option (List ℕ) → Option (List ℕ) → Option (List ℕ) → Option (List ℕ) → Result Bool LinesError → Type 0
 AnswersInput rules before left old new (Ok has_fault) =
     (numbers : List ℕ) × (printed : PrintedText) × Consumes before left numbers × IsAtEnd left
-    × AreLineAnswers rules (lines_of numbers) printed × (has_fault ≡ printed.has_fault) × Appends old new printed.text
+    × AreLineAnswers rules (input_lines_of numbers) printed × (has_fault ≡ printed.has_fault) × Appends old new printed.text
 AnswersInput rules before left old new (Err Read) = IsCutOff rules before left old new
 AnswersInput rules before left old new (Err Write) = IsAnsweredInPart rules before left old new
 AnswersInput rules before left old new (Err Memory) = IsAnsweredInPart rules before left old new

@@ -1,17 +1,17 @@
 -- The lines of an input.
---     lines_of input      each as it stands before its newline, and what follows the last newline,
+--     input_lines_of input      each as it stands before its newline, and what follows the last newline,
 --         if that isn't empty
 --     AreEndedIn input lines      those that stand before a newline
 use Rattle.std.specs.Prelude.{◌≡◌, ◌≢◌, ℕ, ◌==◌, List, [], ◌∷◌, ◌++◌, ⊤, if◌then◌else◌}
 
 -- the first line begins with a byte
-abbrev pub begun_with : ℕ → List (List ℕ) → List (List ℕ)
-begun_with byte [] = (byte ∷ []) ∷ []
-begun_with byte (line ∷ lines) = (byte ∷ line) ∷ lines
+abbrev pub lines_begun_with : ℕ → List (List ℕ) → List (List ℕ)
+lines_begun_with byte [] = (byte ∷ []) ∷ []
+lines_begun_with byte (line ∷ lines) = (byte ∷ line) ∷ lines
 
-abbrev pub lines_of : List ℕ → List (List ℕ)
-lines_of [] = []
-lines_of (byte ∷ bytes) = if byte == 10 then [] ∷ lines_of bytes else begun_with byte (lines_of bytes)
+abbrev pub input_lines_of : List ℕ → List (List ℕ)
+input_lines_of [] = []
+input_lines_of (byte ∷ bytes) = if byte == 10 then [] ∷ input_lines_of bytes else lines_begun_with byte (input_lines_of bytes)
 
 -- no byte ends a line
 abbrev pub HasNoEnd : List ℕ → Type 0
@@ -22,4 +22,4 @@ HasNoEnd (byte ∷ bytes) = (byte ≢ 10) × HasNoEnd bytes
 -- which hasn't ended
 abbrev pub AreEndedIn : List ℕ → List (List ℕ) → Type 0
 AreEndedIn input lines =
-    (last : List ℕ) × HasNoEnd last × ((rest : List ℕ) → lines_of (input ++ rest) ≡ lines ++ lines_of (last ++ rest))
+    (last : List ℕ) × HasNoEnd last × ((rest : List ℕ) → input_lines_of (input ++ rest) ≡ lines ++ input_lines_of (last ++ rest))

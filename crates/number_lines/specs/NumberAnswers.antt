@@ -12,7 +12,7 @@ use Rattle.icu_plurals.specs.Places.{IsWithinLimit}
 use Rattle.icu_plurals.specs.Written.{CompactNumber, WritesCompact, IsCompactOverLimit}
 use Rattle.icu_plurals.specs.declared.PluralCategory.{PluralCategory}
 use Rattle.icu_plurals.specs.DecimalChoice.{HasCategory}
-use Rattle.number_lines.specs.PrintedTexts.{PrintedText, both_printed, nothing}
+use Rattle.number_lines.specs.PrintedTexts.{PrintedText, both_printed, nothing_printed}
 use Rattle.number_lines.specs.declared.printed.NumberFault.{NumberFault}
 use Rattle.number_lines.specs.declared.printed.NumberFault.TheVariants.{TooLong, NotText, Syntax, Limit}
 use Rattle.number_lines.specs.declared.printed.Place.{Place}
@@ -83,14 +83,14 @@ next_place place = if nat_lt place (2 ^ 64 - 1) then place + 1 else place
 
 -- the words are counted from a place on
 abbrev pub AreAnswersFrom : (ℕ → Place) → FiveRules → ℕ → List (List ℕ) → PrintedText → Type 0
-AreAnswersFrom at rules place [] printed = printed ≡ nothing
+AreAnswersFrom at rules place [] printed = printed ≡ nothing_printed
 AreAnswersFrom at rules place (word ∷ words) printed =
     (first rest : PrintedText) × IsAnswerAt rules (at place) word first × AreAnswersFrom at rules (next_place place) words rest
     × (printed ≡ both_printed first rest)
 
 -- the bytes of words
-abbrev pub words_view : List (Bor (List ℕ)) → List (List ℕ)
-words_view words = map (λ w. w.now) words
+abbrev pub command_words_view : List (Bor (List ℕ)) → List (List ℕ)
+command_words_view words = map (λ w. w.now) words
 
 -- the words of a command line
 abbrev pub AreNumberAnswers : FiveRules → List (List ℕ) → PrintedText → Type 0

@@ -6,8 +6,8 @@ pub record PrintedText : Type 0 where
   pub text : List ℕ
   pub has_fault : Bool
 
-abbrev pub nothing : PrintedText
-nothing = record { text = []; has_fault = false }
+abbrev pub nothing_printed : PrintedText
+nothing_printed = record { text = []; has_fault = false }
 
 abbrev pub only_text : List ℕ → PrintedText
 only_text text = record { text = text; has_fault = false }

@@ -2,7 +2,7 @@
 
 ghost use Rattle.std.specs.Prelude.{◌≡◌, IfOk, OnOk};
 ghost use Rattle.number_lines.specs.Inner.LineSteps.{AddsPrinted};
-ghost use Rattle.number_lines.specs.NumberAnswers.{words_view, AreNumberAnswers, IsAnswerAt, IsCategoryOf, IsShortCategoryOf, answer_text, next_place};
+ghost use Rattle.number_lines.specs.NumberAnswers.{command_words_view, AreNumberAnswers, IsAnswerAt, IsCategoryOf, IsShortCategoryOf, answer_text, next_place};
 ghost use Rattle.number_lines.specs.PrintedTexts.{both_printed};
 
 use crate::printed::{NumberFault, Place, Printed};
@@ -22,7 +22,7 @@ pub fn numbers_text(
     rules: &PluralRules<'_>,
     numbers: &[&str],
 ) -> Result<Printed, AllocError>
-    ensures { IfOk result (λ printed. AreNumberAnswers rules.now (words_view numbers.now) printed) }
+    ensures { IfOk result (λ printed. AreNumberAnswers rules.now (command_words_view numbers.now) printed) }
 {
     let mut asked = AskedRules::of(rules.as_borrowed());
     asked.prepare(numbers.len() as u64);
@@ -37,7 +37,7 @@ fn numbers_by(
     rules: &AskedRules<'_>,
     numbers: &[&str],
 ) -> Result<Printed, AllocError>
-    ensures { IfOk result (λ printed. AreNumberAnswers rules.now (words_view numbers.now) printed) }
+    ensures { IfOk result (λ printed. AreNumberAnswers rules.now (command_words_view numbers.now) printed) }
 {
     let mut printed = Printed::new(alloc);
     let mut place = 1;

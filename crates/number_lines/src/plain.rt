@@ -2,8 +2,7 @@
 
 ghost use Rattle.std.specs.Prelude.{◌≡◌, ◌≤◌, IfSome, length, take};
 ghost use Rattle.plural_operands.specs.Inner.ShortTexts.{AreDigitsOf, IsTrimmedAt};
-ghost use Rattle.number_lines.specs.Inner.LineSteps.{BeginsWithLine};
-ghost use Rattle.number_lines.specs.Inner.PlainLines.{HasFractionLine};
+ghost use Rattle.number_lines.specs.Inner.LineSteps.{BeginsWithLine, HasFractionLine};
 
 use icu_plurals::{AskedRules, PluralCategory, PluralOperands, RawPluralOperands};
 use plural_base::laws::kept_choice_is_exact;

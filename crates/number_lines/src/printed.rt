@@ -3,7 +3,7 @@
 ghost use Rattle.std.specs.Prelude.{◌≡◌, OnOk, string_bytes};
 ghost use Rattle.number_lines.specs.AnsweredInputs.{WritesPrinted};
 ghost use Rattle.number_lines.specs.NumberAnswers.{category_answer, fault_answer};
-ghost use Rattle.number_lines.specs.PrintedTexts.{both_printed, nothing, only_text, without_text};
+ghost use Rattle.number_lines.specs.PrintedTexts.{both_printed, nothing_printed, only_text, without_text};
 
 use crate::error::LinesError;
 use icu_plurals::PluralCategory;
@@ -84,7 +84,7 @@ impl fmt::Display for NumberFault {
 impl Printed {
     // Nothing.
     pub(crate) fn new(alloc: Global) -> Printed
-        ensures { result ≡ nothing }
+        ensures { result ≡ nothing_printed }
     {
         Printed {
             text: String::new(alloc),

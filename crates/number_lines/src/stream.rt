@@ -4,7 +4,7 @@ ghost use Rattle.std.specs.Prelude.{◌≡◌, ◌∷◌, ◌++◌, ◌<◌, [],
 ghost use Rattle.std.specs.Io.KnownBytes.{Appends};
 ghost use Rattle.number_lines.specs.AnsweredInputs.{AnswersInput};
 ghost use Rattle.number_lines.specs.InputLines.{HasNoEnd};
-ghost use Rattle.number_lines.specs.Inner.LineSteps.{EndsByCategory, EndsLine, Forgets, KeepsBytes, TakesBytes, TakesFront};
+ghost use Rattle.number_lines.specs.Inner.LineSteps.{EndsByCategory, EndsLine, Forgets, KeepsBytes, TakesBytes, TakesFrontBytes};
 ghost use Rattle.number_lines.specs.Inner.StreamSteps.{FinishesLines, TakesAndWrites};
 ghost use Rattle.plural_documents.specs.Inputs.{IsPartWritten};
 
@@ -166,7 +166,7 @@ fn take_front<'b>(
     lines: &mut Lines,
 ) -> Result<&'b [u8], AllocError>
     requires { 0 < length bytes.now }
-    ensures { IfOk result (λ rest. TakesFront rules.now bytes.now rest.now lines.old lines.new) }
+    ensures { IfOk result (λ rest. TakesFrontBytes rules.now bytes.now rest.now lines.old lines.new) }
 {
     if lines.line.is_empty()
         && let Some((category, after)) = plain_line(rules, bytes)
@@ -186,7 +186,7 @@ fn take_any<'b>(
     lines: &mut Lines,
 ) -> Result<&'b [u8], AllocError>
     requires { 0 < length bytes.now }
-    ensures { IfOk result (λ rest. TakesFront rules.now bytes.now rest.now lines.old lines.new) }
+    ensures { IfOk result (λ rest. TakesFrontBytes rules.now bytes.now rest.now lines.old lines.new) }
 {
     match memchr(b'\n', bytes) {
         Some(end) => {

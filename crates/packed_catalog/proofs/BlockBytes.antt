@@ -7,7 +7,7 @@ use Rattle.std.proofs.lemmas.List.Folds.{drop_split}
 use Rattle.std.proofs.lemmas.Map.Keys.{sorted_from_all_adjacent}
 use Rattle.std.specs.List.{concat}
 use Rattle.std.specs.Prelude.{flat_map, slice_index}
-use Rattle.packed_catalog.specs.CatalogBytes.{AreSorted, CatalogBytes, Entry, ends_from, four_bytes, keys_of, pieces_of}
+use Rattle.packed_catalog.specs.CatalogBytes.{AreSorted, CatalogBytes, Entry, ends_from, four_bytes, entry_keys_of, pieces_of}
 use Rattle.packed_catalog.specs.CatalogFaults.{HasGoodEnds, count_in, data_in, piece_in, start_of}
 use Rattle.packed_catalog.specs.Inner.CatalogReading.{IsBlock, entries_in}
 use Rattle.packed_catalog.proofs.FourBytes.{drop-four, four_bytes-number}
@@ -99,7 +99,7 @@ concat-pieces_in bytes h k (suc m) l =
 -- the keys rise
 pub sorted_in : (bytes : List ℕ) → IsBlock bytes → AreSorted (entries_in bytes)
 sorted_in bytes h =
-    let keys : List (List ℕ) = keys_of (entries_in bytes) in
+    let keys : List (List ℕ) = entry_keys_of (entries_in bytes) in
     let n : length keys ≡ count_in bytes = length-map (entries_in bytes) (λ (entry : Entry). entry.key) ∙ length-entries_in bytes in
     sorted_from_all_adjacent nat_list_cmp_total keys []
     (λ k l. let s : suc k < count_in bytes = omega (arith, n) in

@@ -1,7 +1,7 @@
 -- The entries that are read from a block.
 use Rattle.std.proofs.Common.{◌≡◌, ℕ, zero, suc, ◌+◌, ◌*◌, ◌<◌, List, [], ◌∷◌, length, get_or, refl, ap, ◌∙◌, arith, Some, sym}
 use Rattle.std.specs.Prelude.{slice_get}
-use Rattle.packed_catalog.specs.CatalogBytes.{keys_of, pieces_of}
+use Rattle.packed_catalog.specs.CatalogBytes.{entry_keys_of, pieces_of}
 use Rattle.packed_catalog.specs.CatalogFaults.{count_in, key_in, piece_in}
 use Rattle.packed_catalog.specs.Inner.CatalogReading.{entries_from, entries_in, entry_in}
 
@@ -49,12 +49,12 @@ pub slice_get-entries_in : (bytes : List ℕ) (k : ℕ) → k < count_in bytes �
 unfolding entries_in
 slice_get-entries_in bytes k h = slice_get-entries_from bytes 0 (count_in bytes) k h ∙ ap (λ i. Some (entry_in bytes i)) (omega arith)
 
-get_or-keys_of : (bytes : List ℕ) (index n k : ℕ) → k < n → get_or (keys_of (entries_from bytes index n)) k [] ≡ key_in bytes (index + k)
+get_or-keys_of : (bytes : List ℕ) (index n k : ℕ) → k < n → get_or (entry_keys_of (entries_from bytes index n)) k [] ≡ key_in bytes (index + k)
 get_or-keys_of bytes index zero k h = absurd (omega arith)
 get_or-keys_of bytes index (suc n) zero h = ap (key_in bytes) (omega arith)
 get_or-keys_of bytes index (suc n) (suc k) h = get_or-keys_of bytes (suc index) n k (omega arith) ∙ ap (key_in bytes) (omega arith)
 
 -- the key at a place
-pub get_or-keys_in : (bytes : List ℕ) (k : ℕ) → k < count_in bytes → get_or (keys_of (entries_in bytes)) k [] ≡ key_in bytes k
+pub get_or-keys_in : (bytes : List ℕ) (k : ℕ) → k < count_in bytes → get_or (entry_keys_of (entries_in bytes)) k [] ≡ key_in bytes k
 unfolding entries_in
 get_or-keys_in bytes k h = get_or-keys_of bytes 0 (count_in bytes) k h ∙ ap (key_in bytes) (omega arith)

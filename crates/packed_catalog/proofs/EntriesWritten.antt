@@ -4,11 +4,11 @@ use Rattle.std.proofs.Common.{append_assoc, drop-cons, length-append}
 use Rattle.std.specs.List.{concat}
 use Rattle.std.specs.Prelude.{flat_map}
 use Rattle.packed_catalog.specs.declared.entry.CatalogEntry.{CatalogEntry}
-use Rattle.packed_catalog.specs.CatalogBytes.{ends_from, four_bytes, lent, pieces_of}
+use Rattle.packed_catalog.specs.CatalogBytes.{ends_from, four_bytes, lent_entries, pieces_of}
 
 -- the pieces of the entries from a place on
 abbrev pub pieces_from : ℕ → List CatalogEntry → List (List ℕ)
-pieces_from i entries = pieces_of (lent (drop i entries))
+pieces_from i entries = pieces_of (lent_entries (drop i entries))
 
 pieces_from-more : (entries : List CatalogEntry) (i : ℕ) (d : CatalogEntry) → i < length entries
     → pieces_from i entries ≡ (get_or entries i d).key.now ∷ (get_or entries i d).value.now ∷ pieces_from (i + 1) entries

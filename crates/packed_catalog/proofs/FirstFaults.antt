@@ -5,7 +5,7 @@ use Rattle.std.proofs.lemmas.Bool.{cases_lt}
 use Rattle.std.specs.Cmp.Lexicographic.{slice_cmp}
 use Rattle.std.specs.declared.cmp.Ordering.TheVariants.{Less}
 use Rattle.std.specs.Ordering.{nat_cmp}
-use Rattle.packed_catalog.specs.CatalogFaults.{HasBadEnd, HasFault, HasGoodEnds, IsFirst, IsLowKey, count_in, key_in, start_of}
+use Rattle.packed_catalog.specs.CatalogFaults.{HasBadEnd, HasCatalogBytesFault, HasGoodEnds, IsFirst, IsLowKey, count_in, key_in, start_of}
 use Rattle.packed_catalog.specs.declared.error.CatalogError.{CatalogError}
 use Rattle.packed_catalog.specs.declared.error.CatalogError.TheVariants.{Header, Length, End, Order}
 use Rattle.packed_catalog.specs.Inner.CatalogReading.{IsBlock}
@@ -52,7 +52,7 @@ no_low_key key n rises zero l bad = bad
 no_low_key key n rises (suc k) l bad = bad (rises k l)
 
 -- a block has no fault
-pub faultless : (bytes : List ℕ) → IsBlock bytes → (fault : CatalogError) → ¬ (HasFault bytes fault)
+pub faultless : (bytes : List ℕ) → IsBlock bytes → (fault : CatalogError) → ¬ (HasCatalogBytesFault bytes fault)
 faultless bytes h Header bad = omega (arith, bad, h.ends.data_is.header)
 faultless bytes h Length bad = bad.1 h.ends.data_is.whole
 faultless bytes h (End index) bad = no_bad_end bytes h.ends index bad.1 bad.2.here
@@ -69,7 +69,7 @@ one_first Fault i j h g = elim (cases_lt i j) [
 ]
 
 -- bytes have one fault at most
-pub one_fault : (bytes : List ℕ) (a b : CatalogError) → HasFault bytes a → HasFault bytes b → a ≡ b
+pub one_fault : (bytes : List ℕ) (a b : CatalogError) → HasCatalogBytesFault bytes a → HasCatalogBytesFault bytes b → a ≡ b
 one_fault bytes Header Header h g = refl
 one_fault bytes Header Length h g = absurd (omega (arith, h, g.0))
 one_fault bytes Header (End j) h g = absurd (omega (arith, h, g.0.header))

@@ -3,7 +3,7 @@ use Rattle.std.proofs.Common.{◌≡◌, ℕ, ◌+◌, ◌*◌, ◌/◌, ◌%◌
 use Rattle.std.proofs.lemmas.List.{drop_more, get_or-drop}
 use Rattle.std.specs.Prelude.{flat_map}
 use Rattle.packed_catalog.specs.CatalogBytes.{four_bytes}
-use Rattle.packed_catalog.specs.CatalogFaults.{four_byte_number}
+use Rattle.packed_catalog.specs.CatalogFaults.{four_byte_number_at}
 
 -- a number comes back from its four bytes
 pub four_bytes_again : (n : ℕ) → n % 256 + 256 * (n / 256 % 256) + 65536 * (n / 256 / 256 % 256) + 16777216 * (n / 256 / 256 / 256) ≡ n
@@ -42,7 +42,7 @@ drop-four bytes place h =
 
 -- the number that is spelled at a place
 pub number_spelled : (bytes : List ℕ) (place n : ℕ) (rest : List ℕ) → drop place bytes ≡ four_bytes n ++ rest
-    → four_byte_number bytes place ≡ n
+    → four_byte_number_at bytes place ≡ n
 number_spelled bytes place n rest h =
     let at : (i : ℕ) → get_or bytes (place + i) 0 ≡ get_or (four_bytes n ++ rest) i 0 =
     λ i. sym (get_or-drop place bytes i 0) ∙ ap (λ (l : List ℕ). get_or l i 0) h in

@@ -10,7 +10,7 @@ use Rattle.std.specs.Cmp.Lexicographic.{slice_cmp}
 use Rattle.std.specs.declared.cmp.Ordering.TheVariants.{Less, Equal}
 use Rattle.std.specs.Ordering.{nat_cmp}
 use Rattle.std.specs.Prelude.{◌≢◌, Bool, bytes_eq, not, slice_get}
-use Rattle.packed_catalog.specs.CatalogBytes.{Entry, keys_of, value_under}
+use Rattle.packed_catalog.specs.CatalogBytes.{Entry, entry_keys_of, value_under}
 use Rattle.packed_catalog.specs.CatalogFaults.{count_in, key_in, piece_in}
 use Rattle.packed_catalog.specs.Inner.CatalogReading.{IsBlock, SharesFront, entries_in, entry_in}
 use Rattle.packed_catalog.proofs.BlockBytes.{sorted_in}
@@ -21,7 +21,7 @@ use Rattle.packed_catalog.proofs.BlockEntries.{get_or-keys_in, length-entries_in
 pub keys_apart : (bytes : List ℕ) → IsBlock bytes → (i j : ℕ) → i < j → j < count_in bytes
     → slice_cmp nat_cmp (key_in bytes i) (key_in bytes j) ≡ Less
 keys_apart bytes h i j l m =
-    let keys : List (List ℕ) = keys_of (entries_in bytes) in
+    let keys : List (List ℕ) = entry_keys_of (entries_in bytes) in
     let many : length keys ≡ count_in bytes = length-map (entries_in bytes) (λ (entry : Entry). entry.key) ∙ length-entries_in bytes in
     rw (← get_or-keys_in bytes i (omega arith), ← get_or-keys_in bytes j m)
     (Less-from_sorted (slice_cmp nat_cmp) keys i j [] (sorted_in bytes h) l (omega (arith, many)))
@@ -90,7 +90,7 @@ told_same a b r h f = (bytes_eq-Decides a b).0 (not_false (bytes_eq a b) (sym h 
 
 -- the value of the first entry with a key
 pub value_found : (key : List ℕ) (entries : List Entry) (i : ℕ) (entry : Entry) → slice_get entries i ≡ Some entry → entry.key ≡ key
-    → ((k : ℕ) → k < i → get_or (keys_of entries) k [] ≢ key) → value_under key entries ≡ Some entry.value
+    → ((k : ℕ) → k < i → get_or (entry_keys_of entries) k [] ≢ key) → value_under key entries ≡ Some entry.value
 value_found key [] i entry h e before = absurd (cc)
 value_found key (first ∷ entries) zero entry h e before =
     let same : first ≡ entry = cc in
@@ -99,7 +99,7 @@ value_found key (first ∷ entries) (suc i) entry h e before =
     rw (apart first.key key (before 0 (omega arith))) (value_found key entries i entry h e (λ k l. before (suc k) (omega arith)))
 
 -- no value if no entry has a key
-pub value_none : (key : List ℕ) (entries : List Entry) → ((k : ℕ) → k < length entries → get_or (keys_of entries) k [] ≢ key)
+pub value_none : (key : List ℕ) (entries : List Entry) → ((k : ℕ) → k < length entries → get_or (entry_keys_of entries) k [] ≢ key)
     → value_under key entries ≡ None
 value_none key [] h = refl
 value_none key (first ∷ entries) h =

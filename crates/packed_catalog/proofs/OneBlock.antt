@@ -7,7 +7,7 @@ use Rattle.std.specs.Cmp.Lexicographic.{slice_cmp}
 use Rattle.std.specs.List.{concat}
 use Rattle.std.specs.Ordering.{nat_cmp}
 use Rattle.std.specs.Prelude.{flat_map}
-use Rattle.packed_catalog.specs.CatalogBytes.{AreSorted, CatalogBytes, Entry, catalog_bytes, ends_from, four_bytes, keys_of, pieces_of}
+use Rattle.packed_catalog.specs.CatalogBytes.{AreSorted, CatalogBytes, Entry, catalog_bytes, ends_from, four_bytes, entry_keys_of, pieces_of}
 use Rattle.packed_catalog.specs.CatalogFaults.{count_in, data_in, piece_in, start_of}
 use Rattle.packed_catalog.specs.Inner.CatalogReading.{IsBlock, entries_in}
 use Rattle.packed_catalog.proofs.FourBytes.{length-flat_map_four_bytes, number_spelled}
@@ -139,7 +139,7 @@ encoded_block entries bytes h =
     let whole : start_of bytes (2 * count_in bytes) ≡ 0 + length (concat ps) =
     ap (start_of bytes) m ∙ whole_encoded bytes (concat ps) 0 ps g.pieces in
     let same = entries_in_one entries bytes h.spelled in
-    let keys : List (List ℕ) = keys_of (entries_in bytes) in
+    let keys : List (List ℕ) = entry_keys_of (entries_in bytes) in
     let sorted : AreSorted (entries_in bytes) = subst AreSorted (sym same) h.can_pack.sorted in
     let many : length keys ≡ count_in bytes = length-map (entries_in bytes) (λ (entry : Entry). entry.key) ∙ length-entries_in bytes in
     record {

@@ -1,7 +1,7 @@
 -- The definitions at worked examples.
 use Rattle.std.proofs.Common.{◌≡◌, List, ℕ, [], ◌∷◌, refl, Some, None, lit<, inr}
 use Rattle.packed_catalog.specs.CatalogBytes.{Entry, catalog_bytes, value_under}
-use Rattle.packed_catalog.specs.CatalogFaults.{HasFault, HasBadEnd}
+use Rattle.packed_catalog.specs.CatalogFaults.{HasCatalogBytesFault, HasBadEnd}
 use Rattle.packed_catalog.specs.declared.error.CatalogError.TheVariants.{Header}
 use Rattle.packed_catalog.specs.Inner.CatalogReading.{entries_in}
 
@@ -33,11 +33,11 @@ value_of_ab : value_under (97 ∷ 98 ∷ []) two_entries ≡ None
 value_of_ab = refl
 
 -- three bytes have no count
-three_bytes : HasFault (0 ∷ 0 ∷ 0 ∷ []) Header
+three_bytes : HasCatalogBytesFault (0 ∷ 0 ∷ 0 ∷ []) Header
 three_bytes = lit< tt
 
 -- one entry needs two ends
-one_end : HasFault (1 ∷ 0 ∷ 0 ∷ 0 ∷ 0 ∷ 0 ∷ 0 ∷ 0 ∷ []) Header
+one_end : HasCatalogBytesFault (1 ∷ 0 ∷ 0 ∷ 0 ∷ 0 ∷ 0 ∷ 0 ∷ 0 ∷ []) Header
 one_end = lit< tt
 
 -- a value that ends before its key

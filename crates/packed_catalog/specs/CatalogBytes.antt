@@ -14,12 +14,12 @@ pub record Entry : Type 0 where
   pub value : List ℕ
 
 -- the entries that are borrowed
-abbrev pub lent : List CatalogEntry → List Entry
-lent entries = map (λ (entry : CatalogEntry). record { key = entry.key.now; value = entry.value.now }) entries
+abbrev pub lent_entries : List CatalogEntry → List Entry
+lent_entries entries = map (λ (entry : CatalogEntry). record { key = entry.key.now; value = entry.value.now }) entries
 
 -- the keys
-abbrev pub keys_of : List Entry → List (List ℕ)
-keys_of entries = map (λ (entry : Entry). entry.key) entries
+abbrev pub entry_keys_of : List Entry → List (List ℕ)
+entry_keys_of entries = map (λ (entry : Entry). entry.key) entries
 
 -- the keys and the values, each value after its key
 abbrev pub pieces_of : List Entry → List (List ℕ)
@@ -44,18 +44,18 @@ catalog_bytes entries = four_bytes (length entries)
 -- each key is below those after it: the first byte that differs decides, and a key is above its
 -- beginnings
 abbrev pub AreSorted : List Entry → Type 0
-AreSorted entries = IsStrictlySortedBy (slice_cmp nat_cmp) (keys_of entries)
+AreSorted entries = IsStrictlySortedBy (slice_cmp nat_cmp) (entry_keys_of entries)
 
 -- the entries can be packed: they are sorted, and four bytes hold their count and the length of the
 -- data
-pub record CanPack (entries : List Entry) : Type 0 where
+pub record CanPackEntries (entries : List Entry) : Type 0 where
   pub sorted : AreSorted entries
   pub count : length entries < 2 ^ 32
   pub data_length : length (concat (pieces_of entries)) < 2 ^ 32
 
 -- the bytes encode the entries
 pub record CatalogBytes (entries : List Entry) (bytes : List ℕ) : Type 0 where
-  pub can_pack : CanPack entries
+  pub can_pack : CanPackEntries entries
   pub spelled : bytes ≡ catalog_bytes entries
 
 -- the value of the first entry with a key

@@ -2,7 +2,7 @@
 
 ghost use Rattle.std.specs.Prelude.{◌≡◌, ◌↔◌, ◌==◌, List, length, slice_get, option_map, IfOk, Ok, Err};
 ghost use Rattle.packed_catalog.specs.CatalogBytes.{CatalogBytes, Entry, value_under};
-ghost use Rattle.packed_catalog.specs.CatalogFaults.{HasFault};
+ghost use Rattle.packed_catalog.specs.CatalogFaults.{HasCatalogBytesFault};
 
 use crate::error::CatalogError;
 use crate::finding::find_value;
@@ -48,7 +48,7 @@ impl<'a> PackedCatalog<'a> {
     pub fn parse_bytes(bytes: &'a [u8]) -> Result<PackedCatalog<'a>, CatalogError>
         ensures ok { IfOk result (λ catalog. CatalogBytes catalog bytes.now) }
         ensures accepted { (entries : List Entry) → CatalogBytes entries bytes.now → result ≡ Ok entries }
-        ensures refused { (fault : CatalogError) → (result ≡ Err fault) ↔ HasFault bytes.now fault }
+        ensures refused { (fault : CatalogError) → (result ≡ Err fault) ↔ HasCatalogBytesFault bytes.now fault }
     {
         let Some(count) = count_of(bytes) else {
             return Err(CatalogError::Header);

@@ -21,7 +21,7 @@ pub enum CatalogError {
 
 impl fmt::Display for CatalogError {
     ghost use Rattle.std.specs.Prelude.{Some};
-    ghost use Rattle.packed_catalog.specs.CatalogTexts.{catalog_error_text};
+    ghost use Rattle.packed_catalog.specs.CatalogFaults.{catalog_error_text};
 
     ghost output = { λ error. Some (catalog_error_text error) };
 
@@ -52,7 +52,7 @@ pub enum PackCatalogError {
 
 impl fmt::Display for PackCatalogError {
     ghost use Rattle.std.specs.Prelude.{Some};
-    ghost use Rattle.packed_catalog.specs.CatalogTexts.{pack_catalog_error_text};
+    ghost use Rattle.packed_catalog.specs.CatalogFaults.{pack_catalog_error_text};
 
     ghost output = { λ error. Some (pack_catalog_error_text error) };
 

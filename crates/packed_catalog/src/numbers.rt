@@ -1,13 +1,13 @@
 //! The numbers of a block, at proved places.
 
 ghost use Rattle.std.specs.Prelude.{◌≡◌, ◌+◌, ◌*◌, ◌<◌, ◌≤◌, length, MatchOption};
-ghost use Rattle.packed_catalog.specs.CatalogFaults.{count_in, data_in, four_byte_number, start_of};
+ghost use Rattle.packed_catalog.specs.CatalogFaults.{count_in, data_in, four_byte_number_at, start_of};
 
 // The number in the four bytes at a place, low byte first.
 #[inline]
 pub(crate) fn number(bytes: &[u8], place: usize) -> usize
     requires { place + 4 ≤ length bytes.now }
-    ensures value { result ≡ four_byte_number bytes.now place }
+    ensures value { result ≡ four_byte_number_at bytes.now place }
     ensures bound { result < 4294967296 }
 {
     u32::from_le_bytes([

@@ -2,7 +2,7 @@
 
 ghost use Rattle.std.specs.Prelude.{◌≡◌, ◌↔◌, ◌≤◌, ◌<◌, ◌+◌, ◌*◌, ◌^◌, ◌++◌, ◌∷◌, ℕ, suc, Err, IfNone, IfOk, IfSome, IsTrue, OnOk, flat_map, length, slice_index_or};
 ghost use Rattle.std.specs.List.{concat};
-ghost use Rattle.packed_catalog.specs.CatalogBytes.{AreSorted, CatalogBytes, catalog_bytes, ends_from, four_bytes, keys_of, lent, pieces_of};
+ghost use Rattle.packed_catalog.specs.CatalogBytes.{AreSorted, CatalogBytes, catalog_bytes, ends_from, four_bytes, entry_keys_of, lent_entries, pieces_of};
 ghost use Rattle.packed_catalog.specs.CatalogFaults.{IsFirstLow};
 
 use crate::entry::CatalogEntry;
@@ -17,11 +17,12 @@ use std::alloc::{AllocError, Global};
 /// ([`PackCatalogError::Order`]); keys and values that take more than 4294967295 bytes together
 /// ([`PackCatalogError::TooLong`]); out of memory ([`PackCatalogError::Memory`]).
 pub fn pack(alloc: Global, entries: &[CatalogEntry<'_>]) -> Result<Vec<u8>, PackCatalogError>
-    ensures ok { IfOk result (λ bytes. CatalogBytes (lent entries.now) bytes.items) }
+    ensures ok { IfOk result (λ bytes. CatalogBytes (lent_entries entries.now) bytes.items) }
     ensures too_many { (result ≡ Err PackCatalogError.TooMany) ↔ (2 ^ 32 ≤ length entries.now) }
-    ensures order { (index : ℕ) → (result ≡ Err (PackCatalogError.Order index)) ↔ ((length entries.now < 2 ^ 32) × IsFirstLow (lent entries.now) index) }
+    ensures order { (index : ℕ) → (result ≡ Err (PackCatalogError.Order index))
+        ↔ ((length entries.now < 2 ^ 32) × IsFirstLow (lent_entries entries.now) index) }
     ensures too_long { (result ≡ Err PackCatalogError.TooLong)
-        ↔ ((length entries.now < 2 ^ 32) × AreSorted (lent entries.now) × (2 ^ 32 ≤ length (concat (pieces_of (lent entries.now))))) }
+        ↔ ((length entries.now < 2 ^ 32) × AreSorted (lent_entries entries.now) × (2 ^ 32 ≤ length (concat (pieces_of (lent_entries entries.now))))) }
 {
     if entries.len() > 4294967295 {
         return Err(PackCatalogError::TooMany);
@@ -40,8 +41,8 @@ pub fn pack(alloc: Global, entries: &[CatalogEntry<'_>]) -> Result<Vec<u8>, Pack
 
 // The first entry whose key isn't above the one before it.
 fn first_low_entry(entries: &[CatalogEntry<'_>]) -> Option<usize>
-    ensures none { IfNone result (AreSorted (lent entries.now)) }
-    ensures some { IfSome result (λ index. IsFirstLow (lent entries.now) index) }
+    ensures none { IfNone result (AreSorted (lent_entries entries.now)) }
+    ensures some { IfSome result (λ index. IsFirstLow (lent_entries entries.now) index) }
 {
     for index in 1..entries.len() {
         if !is_below(entries[index - 1].key, entries[index].key) {
@@ -53,8 +54,8 @@ fn first_low_entry(entries: &[CatalogEntry<'_>]) -> Option<usize>
 
 // How many bytes the keys and values take, if four bytes hold it.
 fn data_length(entries: &[CatalogEntry<'_>]) -> Option<usize>
-    ensures none { IfNone result (2 ^ 32 ≤ length (concat (pieces_of (lent entries.now)))) }
-    ensures some { IfSome result (λ total. total ≡ length (concat (pieces_of (lent entries.now)))) }
+    ensures none { IfNone result (2 ^ 32 ≤ length (concat (pieces_of (lent_entries entries.now)))) }
+    ensures some { IfSome result (λ total. total ≡ length (concat (pieces_of (lent_entries entries.now)))) }
     ensures bound { IfSome result (λ total. total < 2 ^ 32) }
 {
     let mut total = 0;
@@ -81,9 +82,9 @@ fn sum(total: usize, piece: &[u8]) -> Option<usize>
 // The bytes of entries.
 fn written(alloc: Global, entries: &[CatalogEntry<'_>], total: usize) -> Result<Vec<u8>, AllocError>
     requires count { length entries.now < 2 ^ 32 }
-    requires total { total ≡ length (concat (pieces_of (lent entries.now))) }
+    requires total { total ≡ length (concat (pieces_of (lent_entries entries.now))) }
     requires bound { total < 2 ^ 32 }
-    ensures { IfOk result (λ bytes. bytes.items ≡ catalog_bytes (lent entries.now)) }
+    ensures { IfOk result (λ bytes. bytes.items ≡ catalog_bytes (lent_entries entries.now)) }
 {
     let mut bytes = Vec::with_capacity(alloc, 4 + 8 * entries.len() + total)?;
     push_number(&mut bytes, entries.len())?;
@@ -108,8 +109,8 @@ fn push_number(bytes: &mut Vec<u8>, n: usize) -> Result<(), AllocError>
 
 // Writes where each key and each value ends.
 fn push_ends(bytes: &mut Vec<u8>, entries: &[CatalogEntry<'_>]) -> Result<(), AllocError>
-    requires { length (concat (pieces_of (lent entries.now))) < 2 ^ 32 }
-    ensures { OnOk result (bytes.new.items ≡ bytes.old.items ++ flat_map four_bytes (ends_from 0 (pieces_of (lent entries.now)))) }
+    requires { length (concat (pieces_of (lent_entries entries.now))) < 2 ^ 32 }
+    ensures { OnOk result (bytes.new.items ≡ bytes.old.items ++ flat_map four_bytes (ends_from 0 (pieces_of (lent_entries entries.now)))) }
 {
     let mut end = 0;
     for entry in entries {
@@ -137,7 +138,7 @@ fn push_both_ends(
 
 // Writes the keys and values without gaps.
 fn push_data(bytes: &mut Vec<u8>, entries: &[CatalogEntry<'_>]) -> Result<(), AllocError>
-    ensures { OnOk result (bytes.new.items ≡ bytes.old.items ++ concat (pieces_of (lent entries.now))) }
+    ensures { OnOk result (bytes.new.items ≡ bytes.old.items ++ concat (pieces_of (lent_entries entries.now))) }
 {
     for entry in entries {
         bytes.extend_from_slice(entry.key)?;

@@ -7,9 +7,9 @@ use Rattle.std.proofs.lemmas.List.{drop-drop}
 use Rattle.message_pattern.specs.declared.part.ArgumentKind.TheVariants.{Plural, Ordinal, Select}
 use Rattle.message_pattern.specs.PatternParts.{Part, PatternPiece, Text, Hash, Argument, Begin, Branch, End}
 use Rattle.message_format.specs.FormatBranches.{behind_end}
-use Rattle.message_format.specs.FormatParts.{Begins, IsBegun, first_depth}
+use Rattle.message_format.specs.FormatParts.{BeginsChoice, BeginWithChoice, first_depth}
 use Rattle.packed_pattern.specs.PartOrder.{depth_behind, may_follow, is_begin, first_misplaced, before_all}
-use Rattle.packed_pattern.specs.PartPlaces.{PlacedPart, IsPlaced, argument_length, places_of}
+use Rattle.packed_pattern.specs.PartPlaces.{PlacedPart, IsPlaced, argument_length, piece_places}
 use Rattle.packed_format.proofs.BehindParts.{from_place}
 
 -- a part that is in order, and those behind it
@@ -98,10 +98,10 @@ ordered_behind place before (q ∷ qs) zero p h there =
 ordered_behind place before (q ∷ qs) (suc index) p h there = ordered_behind (place + 1) q qs index p (follows place before q qs h).1 there
 
 -- an argument that chooses opens a branch
-of_begin : (p : Part) → Begins p.piece → p.depth + 1 ≤ depth_behind p
+of_begin : (p : Part) → BeginsChoice p.piece → p.depth + 1 ≤ depth_behind p
 of_begin p begins = this p.piece refl begins
   where
-    this : (w : PatternPiece) → p.piece ≡ w → Begins w → p.depth + 1 ≤ depth_behind p
+    this : (w : PatternPiece) → p.piece ≡ w → BeginsChoice w → p.depth + 1 ≤ depth_behind p
     this (Begin kind name offset) is b = rw is (omega arith)
     this (Branch s) is b = absurd b
     this (Text text) is b = absurd b
@@ -110,7 +110,7 @@ of_begin p begins = this p.piece refl begins
     this End is b = absurd b
 
 -- its first place is its length
-of_places : (q : PatternPiece) (depth : ℕ) (ps : List Part) → Begins q → slice_index (places_of depth q ps) 0 ≡ argument_length depth ps
+of_places : (q : PatternPiece) (depth : ℕ) (ps : List Part) → BeginsChoice q → slice_index (piece_places depth q ps) 0 ≡ argument_length depth ps
 of_places (Begin Plural name offset) depth ps b = refl
 of_places (Begin Ordinal name offset) depth ps b = refl
 of_places (Begin Select name offset) depth ps b = refl
@@ -122,13 +122,13 @@ of_places End depth ps b = absurd b
 
 -- the parts behind an argument
 pub behind_argument : (placed : PlacedPart) (ps : List Part) (index n : ℕ) → first_misplaced 0 before_all ps ≡ None
-    → IsPlaced placed ps index → IsBegun (drop index ps)
+    → IsPlaced placed ps index → BeginWithChoice (drop index ps)
     → n ≡ slice_index placed.places 0 → drop (index + 2 + n) ps ≡ behind_end (first_depth (drop index ps)) (drop 1 (drop index ps))
 behind_argument placed ps index n ordered h begun e =
     let rest = drop (index + 1) ps in
     let depth = placed.part.depth in
     let there : drop index ps ≡ placed.part ∷ rest = from_place ps index placed.part h.part in
-    let begins : Begins placed.part.piece = subst (λ (l : List Part). IsBegun l) there begun in
+    let begins : BeginsChoice placed.part.piece = subst (λ (l : List Part). BeginWithChoice l) there begun in
     let o = ordered_behind 0 before_all ps index placed.part ordered h.part in
     let after : first_misplaced o.0 placed.part rest ≡ None =
     subst (λ (k : ℕ). first_misplaced o.0 placed.part (drop k ps) ≡ None) (sym (add-one index)) o.1 in

@@ -2,7 +2,7 @@
 use Rattle.std.proofs.Common.{◌≡◌, ◌+◌, ◌≤◌, ◌<◌, ℕ, List, [], ◌∷◌, drop, length, refl, sym, ap, subst, arith, None, length-drop}
 use Rattle.message_pattern.specs.PatternParts.{Part, Selector, branches_of}
 use Rattle.message_format.specs.FormatBranches.{behind_end, branch_or_other}
-use Rattle.message_format.specs.FormatParts.{branches_at, first_depth, AreLeftOf, IsFirst}
+use Rattle.message_format.specs.FormatParts.{branches_at, first_depth, AreLeftOf, IsFirstChosen}
 use Rattle.packed_pattern.specs.PartPlaces.{PlacedPart, IsPlaced}
 use Rattle.packed_format.proofs.BehindParts.{from_place}
 
@@ -18,8 +18,8 @@ module _ (ps : List Part) (none : ps ≡ []) where
   pub ended_left : AreLeftOf ps ps
   ended_left = subst (λ (l : List Part). AreLeftOf l l) (sym none) (record { behind = refl; fewer = omega arith })
 
-  pub ended_first : (P : Selector → Type 0) → IsFirst P (branches_at ps) None
-  ended_first P = subst (λ (l : List Part). IsFirst P (branches_at l) None) (sym none) refl
+  pub ended_first : (P : Selector → Type 0) → IsFirstChosen P (branches_at ps) None
+  ended_first P = subst (λ (l : List Part). IsFirstChosen P (branches_at l) None) (sym none) refl
 
 -- ---- the part at a place, and others behind it
 

@@ -7,7 +7,7 @@ use Rattle.std.proofs.lemmas.List.{drop_more}
 use Rattle.std.proofs.lemmas.Option.{slice_get_within, get_or_from_slice_get}
 use Rattle.message_pattern.specs.PatternParts.{Part, PatternPiece, Exactly, Keyword, Text, Hash, Argument, Begin, Branch, End, branches_of}
 use Rattle.message_format.specs.FormatBranches.{branch_of_keyword, branch_or_other, parts_or_none, or_branch}
-use Rattle.packed_pattern.specs.PackedParts.{items_of}
+use Rattle.packed_pattern.specs.PackedParts.{part_items_of}
 use Rattle.packed_pattern.specs.PartPlaces.{AnyNumber, Word, branch_length, branch_place, one_more, or_place, place_or_other}
 use Rattle.packed_format.specs.Inner.PackedSteps.{numbers_of, parts_behind}
 
@@ -23,7 +23,7 @@ no_place (x ∷ xs) zero h = cc
 no_place (x ∷ xs) (suc k) h = no_place xs k h
 
 -- there is an item for each part
-pub length-items : (parts : List Part) → length (items_of parts) ≡ length parts
+pub length-items : (parts : List Part) → length (part_items_of parts) ≡ length parts
 length-items [] = refl
 length-items (p ∷ ps) = rw (length-items ps) refl
 

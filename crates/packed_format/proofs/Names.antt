@@ -5,7 +5,7 @@ use Rattle.std.proofs.lemmas.Bool.Decides.{same_from_decides}
 use Rattle.std.proofs.lemmas.Slice.Eq.{bytes_eq-Decides}
 use Rattle.message_pattern.specs.PatternParts.{Part}
 use Rattle.packed_format.specs.PlacedArguments.{names_in, names_of, once, used_in, without}
-use Rattle.packed_format.specs.Inner.FoundNames.{has_name, with_name, with_names}
+use Rattle.packed_format.specs.Inner.FoundNames.{is_name_among, with_name, with_names}
 
 pub with_names-append : (found ns ms : List (List ℕ)) → with_names found (ns ++ ms) ≡ with_names (with_names found ns) ms
 with_names-append found [] ms = refl
@@ -23,17 +23,17 @@ swapped a b =
     same_from_decides (bytes_eq a b) (bytes_eq b a) (bytes_eq-Decides a b)
     (λ t. sym ((bytes_eq-Decides b a).0 t), λ e. (bytes_eq-Decides b a).1 (sym e))
 
-kept : (found : List (List ℕ)) (n : List ℕ) → has_name n found ≡ true → with_name found n ≡ found
+kept : (found : List (List ℕ)) (n : List ℕ) → is_name_among n found ≡ true → with_name found n ≡ found
 kept found n h = rw h refl
 
-longer : (found : List (List ℕ)) (n : List ℕ) → has_name n found ≡ false → with_name found n ≡ found ++ n ∷ []
+longer : (found : List (List ℕ)) (n : List ℕ) → is_name_among n found ≡ false → with_name found n ≡ found ++ n ∷ []
 longer found n h = rw h refl
 
-has_name-without : (x n : List ℕ) (l : List (List ℕ)) → bytes_eq x n ≡ false → has_name n (without x l) ≡ has_name n l
+has_name-without : (x n : List ℕ) (l : List (List ℕ)) → bytes_eq x n ≡ false → is_name_among n (without x l) ≡ is_name_among n l
 has_name-without x n [] h = refl
 has_name-without x n (y ∷ ys) h = this (bytes_eq y x) refl (has_name-without x n ys h)
   where
-    this : (b : Bool) → bytes_eq y x ≡ b → has_name n (without x ys) ≡ has_name n ys → has_name n (without x (y ∷ ys)) ≡ has_name n (y ∷ ys)
+    this : (b : Bool) → bytes_eq y x ≡ b → is_name_among n (without x ys) ≡ is_name_among n ys → is_name_among n (without x (y ∷ ys)) ≡ is_name_among n (y ∷ ys)
     this true is more =
         let same : y ≡ x = (bytes_eq-Decides y x).0 is in
         let other : bytes_eq y n ≡ false = subst (λ (z : List ℕ). bytes_eq z n ≡ false) (sym same) h in
@@ -51,12 +51,12 @@ without-append x n (y ∷ ys) = this (bytes_eq y x) refl (without-append x n ys)
 
 once-append : (xs : List (List ℕ)) (n : List ℕ) → once (xs ++ n ∷ []) ≡ with_name (once xs) n
 once-append [] n = refl
-once-append (x ∷ xs) n = this (has_name n (once xs)) (bytes_eq x n) refl refl (once-append xs n)
+once-append (x ∷ xs) n = this (is_name_among n (once xs)) (bytes_eq x n) refl refl (once-append xs n)
   where
     behind : (found : List (List ℕ)) → once (xs ++ n ∷ []) ≡ found → once ((x ∷ xs) ++ n ∷ []) ≡ x ∷ without x found
     behind found e = ap (λ (l : List (List ℕ)). x ∷ without x l) e
 
-    this : (t b : Bool) → has_name n (once xs) ≡ t → bytes_eq x n ≡ b → once (xs ++ n ∷ []) ≡ with_name (once xs) n
+    this : (t b : Bool) → is_name_among n (once xs) ≡ t → bytes_eq x n ≡ b → once (xs ++ n ∷ []) ≡ with_name (once xs) n
         → once ((x ∷ xs) ++ n ∷ []) ≡ with_name (once (x ∷ xs)) n
     this true true has same more = behind (once xs) (more ∙ kept (once xs) n has) ∙ sym (kept (once (x ∷ xs)) n (rw same refl))
     this true false has same more =

@@ -8,7 +8,7 @@ use Rattle.message_pattern.specs.PatternParts.{Part, PatternPiece, Selector, Exa
 use Rattle.message_pattern.specs.PatternParts.{branches_of}
 use Rattle.message_format.specs.FormatBranches.{branch_of_keyword, branch_or_other, parts_or_none}
 use Rattle.packed_pattern.specs.PartPlaces.{AnyNumber, Word, PlacedPart, IsPlaced, argument_places, branch_length, branch_place}
-use Rattle.packed_pattern.specs.PartPlaces.{place_or_other, places_of, selector_places}
+use Rattle.packed_pattern.specs.PartPlaces.{place_or_other, piece_places, selector_places}
 use Rattle.packed_pattern.specs.Inner.PartReading.{is_plural}
 use Rattle.packed_format.specs.Inner.PackedSteps.{has_next_number, numbers_from, numbers_of, parts_behind}
 use Rattle.packed_format.proofs.BehindParts.{IsNumberPlace, at_place, at_word, behind_branch, number_place, word_place}
@@ -20,10 +20,10 @@ within placed parts index h = slice_get_within parts index placed.part h.part
 -- a place of a piece, which is one of what stands behind it
 a_place : (placed : PlacedPart) (parts : List Part) (index which n : ℕ) (q : PatternPiece)
     → IsPlaced placed parts index → placed.part.piece ≡ q
-    → n ≡ slice_index placed.places which → n ≡ slice_index (places_of placed.part.depth q (drop (index + 1) parts)) which
+    → n ≡ slice_index placed.places which → n ≡ slice_index (piece_places placed.part.depth q (drop (index + 1) parts)) which
 a_place placed parts index which n q h is e =
     e ∙ ap (λ (l : List ℕ). slice_index l which)
-    (h.places ∙ ap (λ (x : PatternPiece). places_of placed.part.depth x (drop (index + 1) parts)) is)
+    (h.places ∙ ap (λ (x : PatternPiece). piece_places placed.part.depth x (drop (index + 1) parts)) is)
 
 branch_end : (s : Selector) (depth : ℕ) (ps : List Part) → slice_index (selector_places s depth ps) 0 ≡ branch_length depth ps
 branch_end (Exactly number) depth ps = refl
@@ -41,7 +41,7 @@ selector_end placed parts index n depth s h is same e =
     ap (branches_of d) (sym (drop-drop n (index + 1) parts) ∙ ap (λ (k : ℕ). drop k rest) length_of) ∙ behind_branch d rest in
     subst (λ (k : ℕ). branches_of k (drop (index + 1 + n) parts) ≡ branches_of k rest) same at
 
-number_index : (q : PatternPiece) (depth : ℕ) (ps : List Part) → has_next_number q ≡ true → slice_index (places_of depth q ps) 1
+number_index : (q : PatternPiece) (depth : ℕ) (ps : List Part) → has_next_number q ≡ true → slice_index (piece_places depth q ps) 1
     ≡ branch_place AnyNumber depth ps
 number_index (Begin Plural name offset) depth ps h = refl
 number_index (Begin Ordinal name offset) depth ps h = refl
@@ -97,7 +97,7 @@ other_there placed parts index n name offset h is e =
     ∙ at_place rest (branch_place (Word (codes "other")) d rest) (branch_of_keyword (codes "other") (branches_of d rest))
     (word_place (codes "other") d rest)
 
-plural_places : (q : PatternPiece) (depth : ℕ) (ps : List Part) → is_plural q ≡ true → places_of depth q ps
+plural_places : (q : PatternPiece) (depth : ℕ) (ps : List Part) → is_plural q ≡ true → piece_places depth q ps
     ≡ argument_places Plural depth ps
 plural_places (Begin Plural name offset) depth ps h = refl
 plural_places (Begin Ordinal name offset) depth ps h = refl

@@ -6,10 +6,10 @@ use Rattle.message_format.specs.declared.error.FormatError.TheVariants as error
 use Rattle.message_format.specs.FormatArguments.{Argument}
 use Rattle.message_format.specs.FormatSteps.{TwoRules}
 use Rattle.message_format.specs.FormatMeaning.{PatternOutcome, Faulty, PatternSays, SaysExactly, HaveOneOutcome}
-use Rattle.message_format.specs.Inner.FormatViews.{IsFaultOf, outcome_of}
+use Rattle.message_format.specs.Inner.FormatViews.{IsFaultOfParts, outcome_of}
 
 pub fault_said : HaveOneOutcome → (arguments : List Argument) (rules : TwoRules) (ps : List Part) (f : FormatError)
-    → IsFaultOf arguments rules [] ps [] f → SaysExactly arguments rules ps (outcome_of (Err f))
+    → IsFaultOfParts arguments rules [] ps [] f → SaysExactly arguments rules ps (outcome_of (Err f))
 fault_said law arguments rules ps (error.Argument fault name) h =
     let x = Faulty fault name.now in
     record {

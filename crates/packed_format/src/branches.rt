@@ -4,9 +4,9 @@ ghost use Rattle.std.specs.Prelude.{◌≡◌, ◌≤◌, ◌<◌, ◌+◌, ℕ,
 ghost use Rattle.plural_base.specs.Categories.{name_of};
 ghost use Rattle.message_pattern.specs.PatternParts.{Keyword, branches_of};
 ghost use Rattle.message_format.specs.FormatBranches.{branch_of_keyword, branch_or_other, parts_or_none};
-ghost use Rattle.message_format.specs.FormatParts.{IsFirst};
+ghost use Rattle.message_format.specs.FormatParts.{IsFirstChosen};
 ghost use Rattle.packed_pattern.specs.PartPlaces.{IsPlaced};
-ghost use Rattle.packed_pattern.specs.Inner.PlaceViews.{placed_view};
+ghost use Rattle.packed_pattern.specs.Inner.PlacesAhead.{placed_view};
 
 use crate::steps::{category_index, next_number, next_selector, place_behind};
 use message_format::Chooser;
@@ -120,7 +120,7 @@ pub(crate) fn first_chosen<C: Chooser>(
     requires few { length pattern.now ≤ 65535 }
     requires placed { IsPlaced (placed_view begin.now) pattern.now index }
     requires within { index < length pattern.now }
-    ensures first { IfOk result (λ found. IsFirst (C.IsChosen chooser.now)
+    ensures first { IfOk result (λ found. IsFirstChosen (C.IsChosen chooser.now)
         (branches_of (placed_view begin.now).part.depth (drop (index + 1) pattern.now)) (option_map (λ at. drop at pattern.now) found)) }
     ensures behind { IfOk result (λ found. IfSome found (λ at. index < at)) }
 {

@@ -5,7 +5,7 @@ ghost use Rattle.message_pattern.specs.PatternParts.{piece_view};
 ghost use Rattle.message_format.specs.FormatArguments.{value_named};
 ghost use Rattle.message_format.specs.Inner.FormatViews.{any_value};
 ghost use Rattle.packed_format.specs.PlacedArguments.{at_places, names_in, names_of, names_view, values_view};
-ghost use Rattle.packed_format.specs.Inner.FoundNames.{has_name, with_names};
+ghost use Rattle.packed_format.specs.Inner.FoundNames.{is_name_among, with_names};
 
 use crate::parts::BlockParts;
 use message_format::{Arguments, MessageParts, Value};
@@ -98,7 +98,7 @@ fn name_in<'a>(piece: Piece<'a>) -> Option<&'a [u8]>
 
 // Whether a name is among others.
 fn has_name(name: &[u8], names: &[&[u8]]) -> bool
-    ensures { result ≡ has_name name.now (names_view names.now) }
+    ensures { result ≡ is_name_among name.now (names_view names.now) }
 {
     let mut left = names;
     'names: while let [first, rest @ ..] = left {

@@ -1,7 +1,7 @@
 //! What a packed pattern says.
 
 ghost use Rattle.std.specs.Prelude.{[], ℕ, List};
-ghost use Rattle.message_format.specs.FormatArguments.{arguments_view};
+ghost use Rattle.message_format.specs.FormatArguments.{named_values_view};
 ghost use Rattle.message_format.specs.FormatMeaning.{SaysExactly};
 ghost use Rattle.message_format.specs.FormatSteps.{both};
 ghost use Rattle.message_format.specs.Inner.FormatViews.{GivesOutcome, outcome_of, two_rules};
@@ -33,7 +33,7 @@ pub fn say_packed<'a, W: Sink>(
     said: &mut W,
 ) -> Result<(), FormatError<'a>>
     ensures { (before : List ℕ) → W.IsSaid said.old before
-        → GivesOutcome (λ f. f) (arguments_view arguments.now) (two_rules rules.now) [] pattern.now before (W.IsSaid said.new) result }
+        → GivesOutcome (λ f. f) (named_values_view arguments.now) (two_rules rules.now) [] pattern.now before (W.IsSaid said.new) result }
 {
     say_by(
         alloc,
@@ -55,7 +55,7 @@ pub fn say_prepared<'a, 'r, W: Sink>(
     said: &mut W,
 ) -> Result<(), FormatError<'a>>
     ensures { (before : List ℕ) → W.IsSaid said.old before
-        → GivesOutcome (λ f. f) (arguments_view arguments.now) (both cardinal.now ordinal.now) [] pattern.now before (W.IsSaid said.new) result }
+        → GivesOutcome (λ f. f) (named_values_view arguments.now) (both cardinal.now ordinal.now) [] pattern.now before (W.IsSaid said.new) result }
 {
     say_by(alloc, pattern, &arguments, cardinal, ordinal, said)
 }
@@ -69,7 +69,7 @@ pub fn format_packed<'a>(
     arguments: &[Argument<'_>],
     rules: &Rules<'_, '_>,
 ) -> Result<Vec<u8>, FormatError<'a>>
-    ensures { SaysExactly (arguments_view arguments.now) (two_rules rules.now) pattern.now (outcome_of result) }
+    ensures { SaysExactly (named_values_view arguments.now) (two_rules rules.now) pattern.now (outcome_of result) }
 {
     format_by(alloc, pattern, &arguments, rules.cardinal, rules.ordinal)
 }
@@ -82,7 +82,7 @@ pub fn format_prepared<'a, 'r>(
     cardinal: &PreparedRules<'r>,
     ordinal: &PreparedRules<'r>,
 ) -> Result<Vec<u8>, FormatError<'a>>
-    ensures { SaysExactly (arguments_view arguments.now) (both cardinal.now ordinal.now) pattern.now (outcome_of result) }
+    ensures { SaysExactly (named_values_view arguments.now) (both cardinal.now ordinal.now) pattern.now (outcome_of result) }
 {
     format_by(alloc, pattern, &arguments, cardinal, ordinal)
 }
@@ -127,7 +127,8 @@ fn say_by<'a, R: TextRules, A: Arguments, W: Sink>(
     said: &mut W,
 ) -> Result<(), FormatError<'a>>
     ensures { (before : List ℕ) → W.IsSaid said.old before
-        → GivesOutcome (λ f. f) (A.arguments arguments.now) (both (R.rules cardinal.now) (R.rules ordinal.now)) [] pattern.now before (W.IsSaid said.new) result }
+        → GivesOutcome (λ f. f) (A.arguments arguments.now) (both (R.rules cardinal.now) (R.rules ordinal.now)) [] pattern.now before
+        (W.IsSaid said.new) result }
 {
     say(
         alloc,

@@ -3,7 +3,7 @@
 ghost use Rattle.std.specs.Prelude.{◌≡◌, ◌≤◌, length, slice_get, MatchOption, None};
 ghost use Rattle.packed_pattern.specs.PartOrder.{before_all, first_misplaced};
 ghost use Rattle.packed_pattern.specs.PartPlaces.{IsPlaced};
-ghost use Rattle.packed_pattern.specs.Inner.PlaceViews.{placed_view};
+ghost use Rattle.packed_pattern.specs.Inner.PlacesAhead.{placed_view};
 
 use crate::branches::{branch_of_category, branch_of_word, first_chosen};
 use message_format::{

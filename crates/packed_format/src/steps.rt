@@ -5,7 +5,7 @@ ghost use Rattle.plural_base.specs.Categories.{name_of};
 ghost use Rattle.message_pattern.specs.PatternParts.{Part as SpecPart, branches_of};
 ghost use Rattle.message_pattern.specs.declared.part.ArgumentKind.TheVariants.{Plural};
 ghost use Rattle.packed_pattern.specs.PartPlaces.{IsPlaced, argument_places, place_or_other};
-ghost use Rattle.packed_pattern.specs.Inner.PlaceViews.{placed_view};
+ghost use Rattle.packed_pattern.specs.Inner.PlacesAhead.{placed_view};
 ghost use Rattle.packed_format.specs.Inner.PackedSteps.{AreNext, has_next_number, parts_behind};
 
 use message_pattern::Selector;

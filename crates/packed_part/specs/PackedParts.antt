@@ -4,7 +4,7 @@ use Rattle.packed_list.specs.ListBytes.{two_bytes}
 use Rattle.message_pattern.specs.declared.part.ArgumentKind.{ArgumentKind}
 use Rattle.message_pattern.specs.declared.part.ArgumentKind.TheVariants.{Plural, Ordinal, Select}
 use Rattle.message_pattern.specs.PatternParts.{Part, PatternPiece, Selector, Exactly, Keyword, Text, Hash, Argument, Begin, Branch, End}
-use Rattle.packed_part.specs.PartPlaces.{places_of}
+use Rattle.packed_part.specs.PartPlaces.{piece_places}
 
 -- the number of an argument's kind
 abbrev pub kind_tag : ArgumentKind → ℕ
@@ -43,16 +43,16 @@ own_bytes End = []
 
 -- the places that a part has, which these parts follow
 abbrev pub place_bytes : Part → List Part → List ℕ
-place_bytes p rest = flat_map two_bytes (places_of p.depth p.piece rest)
+place_bytes p rest = flat_map two_bytes (piece_places p.depth p.piece rest)
 
 -- a part: its form, its depth, the bytes of its places, and what it has of its own
-abbrev pub item_bytes : Part → List ℕ → List ℕ
-item_bytes p places = piece_tag p.piece ∷ p.depth ∷ (places ++ own_bytes p.piece)
+abbrev pub part_item_bytes : Part → List ℕ → List ℕ
+part_item_bytes p places = piece_tag p.piece ∷ p.depth ∷ (places ++ own_bytes p.piece)
 
 -- the items that parts are packed as
-abbrev pub items_of : List Part → List (List ℕ)
-items_of [] = []
-items_of (p ∷ ps) = item_bytes p (place_bytes p ps) ∷ items_of ps
+abbrev pub part_items_of : List Part → List (List ℕ)
+part_items_of [] = []
+part_items_of (p ∷ ps) = part_item_bytes p (place_bytes p ps) ∷ part_items_of ps
 
 -- ---- limits
 

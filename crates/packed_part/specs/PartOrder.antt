@@ -11,9 +11,9 @@ abbrev pub is_selector : PatternPiece → Bool
 is_selector (Branch selector) = true
 is_selector _ = false
 
-abbrev pub is_end : PatternPiece → Bool
-is_end End = true
-is_end _ = false
+abbrev pub is_argument_end : PatternPiece → Bool
+is_argument_end End = true
+is_argument_end _ = false
 
 -- a selector ends the branch before it, and an end the last one
 abbrev pub ends_branch : PatternPiece → Bool

@@ -24,10 +24,10 @@ pub data Sought : Type 0 where
   AnyNumber : Sought
   Word : List ℕ → Sought
 
-abbrev pub is_sought : Sought → PatternPiece → Bool
-is_sought AnyNumber (Branch (Exactly number)) = true
-is_sought (Word word) (Branch (Keyword other)) = bytes_eq other word
-is_sought _ _ = false
+abbrev pub is_sought_branch : Sought → PatternPiece → Bool
+is_sought_branch AnyNumber (Branch (Exactly number)) = true
+is_sought_branch (Word word) (Branch (Keyword other)) = bytes_eq other word
+is_sought_branch _ _ = false
 
 -- one part more, if there is a place
 abbrev pub one_more : ℕ → ℕ
@@ -39,7 +39,7 @@ abbrev pub branch_place : Sought → ℕ → List Part → ℕ
 branch_place sought depth [] = 0
 branch_place sought depth (p ∷ ps) =
     if nat_lt depth p.depth then one_more (branch_place sought depth ps)
-    else if is_sought sought p.piece then 1
+    else if is_sought_branch sought p.piece then 1
     else if is_selector p.piece then one_more (branch_place sought depth ps)
     else 0
 
@@ -68,10 +68,10 @@ abbrev pub selector_places : Selector → ℕ → List Part → List ℕ
 selector_places (Exactly number) depth rest = branch_length depth rest ∷ branch_place AnyNumber depth rest ∷ []
 selector_places (Keyword word) depth rest = branch_length depth rest ∷ []
 
-abbrev pub places_of : ℕ → PatternPiece → List Part → List ℕ
-places_of depth (Begin kind name offset) rest = argument_places kind depth rest
-places_of depth (Branch selector) rest = selector_places selector depth rest
-places_of depth _ rest = []
+abbrev pub piece_places : ℕ → PatternPiece → List Part → List ℕ
+piece_places depth (Begin kind name offset) rest = argument_places kind depth rest
+piece_places depth (Branch selector) rest = selector_places selector depth rest
+piece_places depth _ rest = []
 
 -- a part, with its places
 pub record PlacedPart : Type 0 where
@@ -81,4 +81,4 @@ pub record PlacedPart : Type 0 where
 -- the part at a place of a list of parts, with its places
 pub record IsPlaced (placed : PlacedPart) (parts : List Part) (index : ℕ) : Type 0 where
   pub part : slice_get parts index ≡ Some placed.part
-  pub places : placed.places ≡ places_of placed.part.depth placed.part.piece (drop (index + 1) parts)
+  pub places : placed.places ≡ piece_places placed.part.depth placed.part.piece (drop (index + 1) parts)

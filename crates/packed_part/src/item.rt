@@ -2,9 +2,9 @@
 
 ghost use Rattle.std.specs.Prelude.{◌≡◌, ◌≢◌, ◌∷◌, ◌++◌, ◌↔◌, ◌≤◌, take, drop, bytes_eq, length, IsTrue, MatchOption};
 ghost use Rattle.message_pattern.specs.PatternParts.{Branch, Selector as SpecSelector, part_view, piece_view, selector_view, offset_view};
-ghost use Rattle.packed_part.specs.PackedParts.{has_digits, is_packable, is_packable_piece, item_bytes, kind_tag, offset_digits, own_bytes, piece_tag, selector_bytes};
+ghost use Rattle.packed_part.specs.PackedParts.{has_digits, is_packable, is_packable_piece, part_item_bytes, kind_tag, offset_digits, own_bytes, piece_tag, selector_bytes};
 ghost use Rattle.packed_part.specs.Inner.ItemForms.{IsBeginForm, IsForm, IsOwnForm};
-ghost use Rattle.packed_part.specs.Inner.PartReading.{begin_in, is_plural, kind_in, offset_in, part_in, piece_in, place_count, place_room, places_in};
+ghost use Rattle.packed_part.specs.Inner.PartReading.{begin_in, is_plural, kind_in, offset_in, part_in, piece_in_form, place_count, place_room, places_in};
 
 use message_pattern::{ArgumentKind, DEPTH_LIMIT, Part, Piece, Selector};
 
@@ -143,7 +143,7 @@ pub fn place_count(tag: u8) -> usize
 // The piece of a form in what it has of its own.
 #[inline(always)]
 fn piece_in(tag: u8, own: &[u8]) -> Piece<'_>
-    ensures { piece_view result ≡ piece_in tag own.now }
+    ensures { piece_view result ≡ piece_in_form tag own.now }
 {
     match tag {
         0 => Piece::Text(own),
@@ -168,7 +168,7 @@ fn split_places(tag: u8, content: &[u8]) -> (&[u8], &[u8])
 // The piece of a form in what follows the depth. A form without places has no bytes of theirs.
 #[inline(always)]
 fn piece_of(tag: u8, content: &[u8]) -> Piece<'_>
-    ensures { piece_view result ≡ piece_in tag (drop (place_room tag) content.now) }
+    ensures { piece_view result ≡ piece_in_form tag (drop (place_room tag) content.now) }
 {
     match tag {
         0 => Piece::Text(content),
@@ -296,7 +296,7 @@ fn is_content(content: &[u8], places: &[u8], piece: Piece<'_>) -> bool
 // Whether an item is that of a part with these places.
 #[inline(always)]
 fn holds(item: &[u8], part: Part<'_>, places: &[u8]) -> bool
-    ensures { IsTrue result ↔ (item.now ≡ item_bytes (part_view part.entry) places.now) }
+    ensures { IsTrue result ↔ (item.now ≡ part_item_bytes (part_view part.entry) places.now) }
 {
     match item {
         [tag, depth, content @ ..] => {
@@ -311,7 +311,7 @@ fn holds(item: &[u8], part: Part<'_>, places: &[u8]) -> bool
 /// Returns whether an item is that of a part with these bytes of places.
 #[inline(always)]
 pub fn is_item_of(item: &[u8], part: Part<'_>, places: &[u8]) -> bool
-    ensures { result ≡ bytes_eq item.now (item_bytes (part_view part.entry) places.now) }
+    ensures { result ≡ bytes_eq item.now (part_item_bytes (part_view part.entry) places.now) }
 {
     holds(item, part, places)
 }
@@ -366,7 +366,7 @@ fn is_form(tag: u8, content: &[u8], places: &[u8]) -> bool
 // Whether an item is that of the part that it holds, with these bytes of places.
 #[inline(always)]
 fn is_with(item: &[u8], places: &[u8]) -> bool
-    ensures { IsTrue result ↔ (item.now ≡ item_bytes (part_in item.now) places.now) }
+    ensures { IsTrue result ↔ (item.now ≡ part_item_bytes (part_in item.now) places.now) }
 {
     match item {
         [tag, _, content @ ..] => is_form(*tag, content, places),
@@ -377,7 +377,7 @@ fn is_with(item: &[u8], places: &[u8]) -> bool
 /// Returns whether an item is that of the part that it holds, with these bytes of places.
 #[inline(always)]
 pub fn is_item_with(item: &[u8], places: &[u8]) -> bool
-    ensures { result ≡ bytes_eq item.now (item_bytes (part_in item.now) places.now) }
+    ensures { result ≡ bytes_eq item.now (part_item_bytes (part_in item.now) places.now) }
 {
     is_with(item, places)
 }

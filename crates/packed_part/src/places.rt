@@ -4,8 +4,8 @@ ghost use Rattle.std.specs.Prelude.{◌≡◌, ◌≤◌, bytes_eq, length, flat
 ghost use Rattle.packed_list.specs.ListBytes.{two_bytes};
 ghost use Rattle.message_pattern.specs.declared.part.ArgumentKind.TheVariants.{Plural};
 ghost use Rattle.message_pattern.specs.PatternParts.{part_view, piece_view};
-ghost use Rattle.packed_part.specs.PartPlaces.{Word, branch_length, argument_length, argument_places, is_sought, branch_place, or_place};
-ghost use Rattle.packed_part.specs.PackedParts.{item_bytes, place_bytes};
+ghost use Rattle.packed_part.specs.PartPlaces.{Word, branch_length, argument_length, argument_places, is_sought_branch, branch_place, or_place};
+ghost use Rattle.packed_part.specs.PackedParts.{part_item_bytes, place_bytes};
 ghost use Rattle.packed_part.specs.Inner.PartViews.{sought_view, places_view};
 
 use crate::item::is_item_of;
@@ -59,7 +59,7 @@ pub(crate) enum Sought<'w> {
 
 // Whether a piece is the selector of a branch that is sought.
 fn is_sought(sought: Sought<'_>, piece: Piece<'_>) -> bool
-    ensures { result ≡ is_sought (sought_view sought.entry) (piece_view piece.entry) }
+    ensures { result ≡ is_sought_branch (sought_view sought.entry) (piece_view piece.entry) }
 {
     match (sought, piece) {
         (Sought::AnyNumber, Piece::Branch(Selector::Exactly(_))) => true,
@@ -150,7 +150,7 @@ pub fn places_of<'p, P: PartSource<'p>>(part: Part<'_>, rest: P) -> PlaceBytes
 /// Returns whether an item is that of a part which these parts follow.
 pub fn is_item_before<'p, P: PartSource<'p>>(item: &[u8], part: Part<'_>, rest: P) -> bool
     requires { length (P.parts rest) ≤ 65535 }
-    ensures { result ≡ bytes_eq item.now (item_bytes (part_view part.entry) (place_bytes (part_view part.entry) (P.parts rest))) }
+    ensures { result ≡ bytes_eq item.now (part_item_bytes (part_view part.entry) (place_bytes (part_view part.entry) (P.parts rest))) }
 {
     is_item_of(item, part, places_of(part, rest).as_slice())
 }

@@ -3,7 +3,7 @@ use Rattle.std.proofs.Common.{◌≡◌, ◌∙◌, ◌↔◌, ◌⊎◌, ℕ, �
 use Rattle.std.specs.Prelude.{Option, not, if◌then◌else◌}
 use Rattle.packed_list.specs.ListBytes.{ListBytes, HasFault}
 use Rattle.packed_list.specs.declared.error.ListError.{ListError}
-use Rattle.packed_pattern.specs.PatternBlocks.{HasBlockFault, first_item_fault, has_places, is_part_item, item_fault, items_fault, or_fault}
+use Rattle.packed_pattern.specs.PatternBlocks.{HasBlockFault, first_item_fault, has_places_before, is_part_item, item_fault, items_fault, or_block_fault}
 use Rattle.packed_pattern.specs.PatternBlocks.{order_fault}
 use Rattle.packed_part.specs.PartOrder.{before_all, first_misplaced}
 use Rattle.packed_part.specs.Inner.PartReading.{part_in}
@@ -13,7 +13,7 @@ use Rattle.packed_pattern.specs.declared.error.BlockError.TheVariants as errors
 -- no item has a fault of lists
 item_fault-list : (place : ℕ) (item : List ℕ) (items : List (List ℕ)) (fault : ListError)
     → item_fault place item items ≡ Some (errors.List fault) → ⊥
-item_fault-list place item items fault h = no_list (is_part_item item) (has_places item items) h
+item_fault-list place item items fault h = no_list (is_part_item item) (has_places_before item items) h
   where
     no_list : (part skip : Bool) →
         (if not part then Some (errors.Part place) else if not skip then Some (errors.Place place) else None) ≡ Some (errors.List fault) → ⊥
@@ -22,7 +22,7 @@ item_fault-list place item items fault h = no_list (is_part_item item) (has_plac
     no_list false skip e = cc
 
 -- the first fault is that of this item, or one of the others
-either : (first other : Option BlockError) (fault : BlockError) → or_fault first other ≡ Some fault
+either : (first other : Option BlockError) (fault : BlockError) → or_block_fault first other ≡ Some fault
     → (first ≡ Some fault) ⊎ (other ≡ Some fault)
 either None other fault h = inr h
 either (Some f) other fault h = inl h

@@ -7,9 +7,9 @@ use Rattle.std.proofs.lemmas.Slice.Eq.{bytes_eq-Decides}
 use Rattle.message_pattern.specs.declared.part.ArgumentKind.{ArgumentKind}
 use Rattle.message_pattern.specs.declared.part.ArgumentKind.TheVariants.{Plural, Ordinal, Select}
 use Rattle.message_pattern.specs.PatternParts.{Part, PatternPiece, Exactly, Keyword, Text, Hash, Argument, Begin, Branch, End}
-use Rattle.packed_part.specs.PackedParts.{has_digits, is_packable, is_packable_piece, item_bytes, offset_digits, own_bytes, piece_tag}
+use Rattle.packed_part.specs.PackedParts.{has_digits, is_packable, is_packable_piece, part_item_bytes, offset_digits, own_bytes, piece_tag}
 use Rattle.packed_part.specs.PackedParts.{place_bytes}
-use Rattle.packed_part.specs.Inner.PartReading.{begin_in, offset_in, part_in, piece_in, place_room, places_in}
+use Rattle.packed_part.specs.Inner.PartReading.{begin_in, offset_in, part_in, piece_in_form, place_room, places_in}
 
 -- equal texts pass the test of bytes
 pub bytes_same : (xs ys : List ℕ) → xs ≡ ys → bytes_eq xs ys ≡ true
@@ -32,7 +32,7 @@ begin_again kind name offset h =
     rw (take-append_seam name (offset_digits offset), drop-append_seam name (offset_digits offset), offset_again offset h) refl
 
 -- and each piece
-pub piece_again : (piece : PatternPiece) → is_packable_piece piece ≡ true → piece_in (piece_tag piece) (own_bytes piece) ≡ piece
+pub piece_again : (piece : PatternPiece) → is_packable_piece piece ≡ true → piece_in_form (piece_tag piece) (own_bytes piece) ≡ piece
 piece_again (Text text) h = refl
 piece_again Hash h = refl
 piece_again (Argument name) h = refl
@@ -58,13 +58,13 @@ length-place_bytes depth End ps = refl
 
 -- and each part, with places of its form
 pub part_again : (p : Part) (places : List ℕ) → length places ≡ place_room (piece_tag p.piece) → is_packable p ≡ true
-    → part_in (item_bytes p places) ≡ p
+    → part_in (part_item_bytes p places) ≡ p
 part_again p places e h =
-    let with_own : List ℕ → Part = λ own. record { depth = p.depth; piece = piece_in (piece_tag p.piece) own } in
+    let with_own : List ℕ → Part = λ own. record { depth = p.depth; piece = piece_in_form (piece_tag p.piece) own } in
     let with_piece : PatternPiece → Part = λ piece. record { depth = p.depth; piece = piece } in
     ap (λ n. with_own (drop n (places ++ own_bytes p.piece))) (sym e) ∙ ap with_own (drop-append_seam places (own_bytes p.piece))
     ∙ ap with_piece (piece_again p.piece (second_so (nat_le p.depth 32) (is_packable_piece p.piece) h))
 
 -- the places too
-pub places_again : (p : Part) (places : List ℕ) → length places ≡ place_room (piece_tag p.piece) → places_in (item_bytes p places) ≡ places
+pub places_again : (p : Part) (places : List ℕ) → length places ≡ place_room (piece_tag p.piece) → places_in (part_item_bytes p places) ≡ places
 places_again p places e = ap (λ n. take n (places ++ own_bytes p.piece)) (sym e) ∙ take-append_seam places (own_bytes p.piece)

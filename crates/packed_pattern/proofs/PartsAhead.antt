@@ -6,7 +6,7 @@ use Rattle.packed_list.specs.ListBytes.{two_bytes}
 use Rattle.message_pattern.specs.PatternParts.{Part, PatternPiece, Text, Hash, Argument, Begin, Branch, End, Exactly, Keyword}
 use Rattle.packed_part.specs.PartOrder.{is_selector}
 use Rattle.packed_part.specs.PartPlaces.{Sought, AnyNumber, Word, argument_length, argument_places, branch_length, branch_place, one_more}
-use Rattle.packed_part.specs.PartPlaces.{is_sought, or_place, places_of}
+use Rattle.packed_part.specs.PartPlaces.{is_sought_branch, or_place, piece_places}
 use Rattle.packed_part.specs.PackedParts.{place_bytes}
 use Rattle.packed_part.specs.Inner.PartViews.{behind}
 use Rattle.packed_pattern.specs.Inner.PlacesAhead.{ahead_of, ended_at, found_at, has_places, passed, places_ahead, plural_ahead}
@@ -150,7 +150,7 @@ deeper index depth p ps h =
 abbrev at : ℕ → PatternPiece → Part
 at depth piece = record { depth = depth; piece = piece }
 
-not_sought : (sought : Sought) (piece : PatternPiece) → is_selector piece ≡ false → is_sought sought piece ≡ false
+not_sought : (sought : Sought) (piece : PatternPiece) → is_selector piece ≡ false → is_sought_branch sought piece ≡ false
 not_sought AnyNumber (Text text) s = refl
 not_sought AnyNumber Hash s = refl
 not_sought AnyNumber (Argument name) s = refl
@@ -289,7 +289,7 @@ cons2 : (a b c d : ℕ) → a ≡ c → b ≡ d → a ∷ b ∷ [] ≡ c ∷ d �
 cons2 a b c d e f = cc
 
 piece_there : (piece : PatternPiece) (start depth : ℕ) (ps : List Part) (a : Ahead)
-    → (has_places piece ≡ true → a ≡ ahead_of start depth ps) → places_ahead piece start a ≡ places_of depth piece ps
+    → (has_places piece ≡ true → a ≡ ahead_of start depth ps) → places_ahead piece start a ≡ piece_places depth piece ps
 piece_there (Text text) start depth ps a e = refl
 piece_there Hash start depth ps a e = refl
 piece_there (Argument name) start depth ps a e = refl

@@ -4,11 +4,11 @@ use Rattle.std.specs.Prelude.{if◌then◌else◌}
 use Rattle.std.specs.List.{list_all}
 use Rattle.std.specs.Cmp.Derive.{both_true}
 use Rattle.message_pattern.specs.PatternParts.{Part}
-use Rattle.packed_part.specs.PackedParts.{is_packable, items_of}
+use Rattle.packed_part.specs.PackedParts.{is_packable, part_items_of}
 use Rattle.packed_pattern.specs.PatternBlocks.{first_unpackable}
 
 -- there is an item for each part
-pub length-items_of : (parts : List Part) → length (items_of parts) ≡ length parts
+pub length-items_of : (parts : List Part) → length (part_items_of parts) ≡ length parts
 length-items_of [] = refl
 length-items_of (p ∷ ps) = rw (length-items_of ps) refl
 

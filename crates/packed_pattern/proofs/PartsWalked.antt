@@ -9,8 +9,8 @@ use Rattle.std.proofs.lemmas.List.{get_or-set_other, get_or-set_same, length-set
 use Rattle.packed_list.specs.ListBytes.{two_bytes}
 use Rattle.message_pattern.specs.PatternParts.{Part, PatternPiece, Text, Hash, Argument, Begin, Branch, End}
 use Rattle.packed_part.specs.PartOrder.{before_all, depth_behind, ends_branch, first_misplaced, is_begin, is_selector, may_follow}
-use Rattle.packed_part.specs.PackedParts.{is_packable, is_packable_piece, item_bytes, items_of, place_bytes}
-use Rattle.packed_part.specs.Inner.PartReading.{IsBlock, part_in}
+use Rattle.packed_part.specs.PackedParts.{is_packable, is_packable_piece, part_item_bytes, part_items_of, place_bytes}
+use Rattle.packed_part.specs.Inner.PartReading.{AreBlockItems, part_in}
 use Rattle.packed_pattern.specs.Inner.PlacesAhead.{AreWalked, ahead_of, ended_at, has_places, passed, places_ahead}
 use Rattle.packed_pattern.specs.declared.ahead.Ahead.{Ahead}
 use Rattle.packed_pattern.proofs.PartsAhead.{deeper, nothing_ahead, passed_ahead, places_there}
@@ -100,7 +100,7 @@ level_passed next p levels index depth items a w follows here deep d = level (na
 pub record IsTaken (next p : Part) (levels : List Ahead) (index : ℕ) (item : List ℕ) (ahead : Ahead) : Type 0 where
   pub fits : is_packable p ≡ true
   pub follows : may_follow p next ≡ true
-  pub own : item ≡ item_bytes p (flat_map two_bytes (places_ahead p.piece (index + 1) (get_or levels p.depth (ended_at 0))))
+  pub own : item ≡ part_item_bytes p (flat_map two_bytes (places_ahead p.piece (index + 1) (get_or levels p.depth (ended_at 0))))
   pub here : ahead ≡ passed p.piece index (get_or levels p.depth (ended_at 0))
 
 taken : (next : Part) (levels : List Ahead) (index : ℕ) (item : List ℕ) (items : List (List ℕ)) (ahead : Ahead)
@@ -115,10 +115,10 @@ taken next levels index item items ahead w t =
     let deep : p.depth ≤ 32 = grind (arith, nat_tests) in
     let kept : has_places p.piece ≡ true → a ≡ ahead_of (index + 1) p.depth ps =
     λ h. w.ahead p.depth (omega (arith, one_behind p h)) in
-    let it : item ≡ item_bytes p (place_bytes p ps) = t.own ∙ ap (item_bytes p) (places_there p (index + 1) ps a kept) in
+    let it : item ≡ part_item_bytes p (place_bytes p ps) = t.own ∙ ap (part_item_bytes p) (places_there p (index + 1) ps a kept) in
     record {
       packable = both_true t.fits w.packable;
-      packed = ap (λ x. x ∷ items_of ps) (sym it) ∙ ap (λ xs. item ∷ xs) w.packed;
+      packed = ap (λ x. x ∷ part_items_of ps) (sym it) ∙ ap (λ xs. item ∷ xs) w.packed;
       nested = λ place before h. rw h (w.nested (place + 1) p t.follows);
       ahead = λ depth d. ap (λ v. get_or (set levels p.depth v) depth (ended_at 0)) t.here
           ∙ level_passed next p levels index depth items a w t.follows refl deep d;
@@ -135,7 +135,7 @@ one_walked next p levels index item items ahead w is t =
 
 -- all items
 pub all_walked : (next : Part) (levels : List Ahead) (items : List (List ℕ)) → AreWalked next levels 0 items
-    → may_follow before_all next ≡ true → IsBlock items
+    → may_follow before_all next ≡ true → AreBlockItems items
 all_walked next levels items w h = record {
   packable = w.packable;
   nested = w.nested 0 before_all h;

@@ -10,14 +10,14 @@ use Rattle.packed_pattern.specs.declared.error.BlockError.TheVariants as errors
 use Rattle.packed_pattern.specs.declared.error.PackPatternError.{PackPatternError}
 use Rattle.packed_pattern.specs.declared.error.PackPatternError.TheVariants as packing
 use Rattle.packed_part.specs.PartOrder.{before_all, first_misplaced}
-use Rattle.packed_part.specs.PackedParts.{item_bytes, items_of, place_bytes, is_packable}
+use Rattle.packed_part.specs.PackedParts.{part_item_bytes, part_items_of, place_bytes, is_packable}
 use Rattle.packed_part.specs.Inner.PartReading.{part_in, parts_in, places_in}
 
 -- the bytes encode the parts
 pub record PatternBlock (parts : List Part) (bytes : List ℕ) : Type 0 where
   pub packable : IsTrue (list_all is_packable parts)
   pub nested : first_misplaced 0 before_all parts ≡ None
-  pub packed : ListBytes (items_of parts) bytes
+  pub packed : ListBytes (part_items_of parts) bytes
 
 -- the bytes encode the parts that they hold
 abbrev pub IsPatternBlock : List ℕ → Type 0
@@ -27,32 +27,32 @@ IsPatternBlock bytes = PatternBlock (parts_in bytes) bytes
 
 -- the item is that of the part that it holds, with these places
 abbrev pub is_item_with : List ℕ → List ℕ → Bool
-is_item_with item places = bytes_eq item (item_bytes (part_in item) places)
+is_item_with item places = bytes_eq item (part_item_bytes (part_in item) places)
 
 -- the item is one of a part, whatever its places
 abbrev pub is_part_item : List ℕ → Bool
 is_part_item item = is_packable (part_in item) && is_item_with item (places_in item)
 
 -- it has its places before these items
-abbrev pub has_places : List ℕ → List (List ℕ) → Bool
-has_places item items = is_item_with item (place_bytes (part_in item) (map part_in items))
+abbrev pub has_places_before : List ℕ → List (List ℕ) → Bool
+has_places_before item items = is_item_with item (place_bytes (part_in item) (map part_in items))
 
 -- the fault of the item at a place, before these items
 abbrev pub item_fault : ℕ → List ℕ → List (List ℕ) → Option BlockError
 item_fault place item items =
     if not (is_part_item item) then Some (errors.Part place)
-    else if not (has_places item items) then Some (errors.Place place)
+    else if not (has_places_before item items) then Some (errors.Place place)
     else None
 
 -- a fault, or else that of what follows
-abbrev pub or_fault : Option BlockError → Option BlockError → Option BlockError
-or_fault None other = other
-or_fault (Some fault) other = Some fault
+abbrev pub or_block_fault : Option BlockError → Option BlockError → Option BlockError
+or_block_fault None other = other
+or_block_fault (Some fault) other = Some fault
 
 -- the fault of the first bad item, if there is one; the first item is at the given place
 abbrev pub first_item_fault : ℕ → List (List ℕ) → Option BlockError
 first_item_fault place [] = None
-first_item_fault place (item ∷ items) = or_fault (item_fault place item items) (first_item_fault (place + 1) items)
+first_item_fault place (item ∷ items) = or_block_fault (item_fault place item items) (first_item_fault (place + 1) items)
 
 -- a part that may not stand where it does
 abbrev pub order_fault : Option ℕ → Option BlockError
@@ -61,7 +61,7 @@ order_fault (Some place) = Some (errors.Order place)
 
 -- the fault of items: that of the first bad one, or else of their order
 abbrev pub items_fault : List (List ℕ) → Option BlockError
-items_fault items = or_fault (first_item_fault 0 items) (order_fault (first_misplaced 0 before_all (map part_in items)))
+items_fault items = or_block_fault (first_item_fault 0 items) (order_fault (first_misplaced 0 before_all (map part_in items)))
 
 -- bytes are refused with a fault: they aren't a packed list, or it is that of the items
 abbrev pub HasBlockFault : List ℕ → BlockError → Type 0

@@ -6,7 +6,7 @@ ghost use Rattle.message_pattern.specs.PatternPrinting.{PrintsExactly};
 ghost use Rattle.packed_part.specs.PartPlaces.{IsPlaced};
 ghost use Rattle.packed_pattern.specs.PatternBlocks.{HasBlockFault, IsPatternBlock, PatternBlock, first_item_fault, item_fault, items_fault};
 ghost use Rattle.packed_part.specs.Inner.PartReading.{part_in};
-ghost use Rattle.packed_pattern.specs.Inner.PlaceViews.{placed_view};
+ghost use Rattle.packed_pattern.specs.Inner.PlacesAhead.{placed_view};
 
 use crate::error::BlockError;
 use crate::parts::ItemParts;
@@ -33,11 +33,11 @@ impl<'a> Model for PackedPattern<'a> {
 
     ghost Value = { List SpecPart };
 
-    ghost use Rattle.packed_part.specs.Inner.PartReading.{part_in, IsBlock};
+    ghost use Rattle.packed_part.specs.Inner.PartReading.{part_in, AreBlockItems};
 
     ghost view = { λ pattern. map part_in pattern.list };
 
-    ghost invariant = { λ pattern. IsBlock pattern.list };
+    ghost invariant = { λ pattern. AreBlockItems pattern.list };
 }
 
 impl<'a> PackedPattern<'a> {

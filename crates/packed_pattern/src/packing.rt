@@ -6,7 +6,7 @@ ghost use Rattle.std.specs.List.{list_all};
 ghost use Rattle.message_pattern.specs.PatternParts.{part_view, parts_view, piece_view};
 ghost use Rattle.packed_list.specs.ListBytes.{StaysInFront, has_high_start};
 ghost use Rattle.packed_part.specs.PartOrder.{before_all, first_misplaced};
-ghost use Rattle.packed_part.specs.PackedParts.{is_packable, is_packable_piece, items_of, own_bytes};
+ghost use Rattle.packed_part.specs.PackedParts.{is_packable, is_packable_piece, part_items_of, own_bytes};
 ghost use Rattle.packed_pattern.specs.PatternBlocks.{PatternBlock, first_unpackable};
 
 use crate::error::PackPatternError;
@@ -27,10 +27,10 @@ struct PartItem<'p> {
 
 impl<'p> ByteItem for PartItem<'p> {
     ghost use Rattle.message_pattern.specs.PatternParts.{part_view};
-    ghost use Rattle.packed_part.specs.PackedParts.{item_bytes};
+    ghost use Rattle.packed_part.specs.PackedParts.{part_item_bytes};
     ghost use Rattle.packed_part.specs.Inner.PartViews.{places_view};
 
-    ghost item_bytes = { λ item. item_bytes (part_view item.part) (places_view item.places) };
+    ghost item_bytes = { λ item. part_item_bytes (part_view item.part) (places_view item.places) };
 
     fn byte_count(&self) -> usize {
         2 + self.places.as_slice().len() + own_count(self.part.piece)
@@ -94,11 +94,11 @@ struct PartItems<'s, 'p> {
 
 impl<'s, 'p> ByteItems for PartItems<'s, 'p> {
     ghost use Rattle.message_pattern.specs.PatternParts.{parts_view};
-    ghost use Rattle.packed_part.specs.PackedParts.{items_of};
+    ghost use Rattle.packed_part.specs.PackedParts.{part_items_of};
 
     type Item = PartItem<'p>;
 
-    ghost items = { λ items. items_of (parts_view items.parts.now) };
+    ghost items = { λ items. part_items_of (parts_view items.parts.now) };
 
     fn next_item(&mut self) -> Option<PartItem<'p>> {
         let [first, others @ ..] = self.parts else {
@@ -141,7 +141,7 @@ pub fn pack(alloc: Global, pattern: &Pattern<'_>) -> Result<Vec<u8>, PackPattern
         ↔ ((length pattern.now ≤ 65535) × (first_unpackable 0 pattern.now ≡ None) × (first_misplaced 0 before_all pattern.now ≡ Some place)) }
     ensures start_limit { (result ≡ Err PackPatternError.StartLimit)
         ↔ ((length pattern.now ≤ 65535) × (first_unpackable 0 pattern.now ≡ None) × (first_misplaced 0 before_all pattern.now ≡ None)
-        × IsTrue (has_high_start (items_of pattern.now))) }
+        × IsTrue (has_high_start (part_items_of pattern.now))) }
 {
     let parts = pattern.parts();
     if parts.len() > 65535 {

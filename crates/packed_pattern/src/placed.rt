@@ -21,7 +21,7 @@ pub struct PlacedPart<'a> {
 
 impl<'a> PlacedPart<'a> {
     ghost use Rattle.packed_part.specs.Inner.PartReading.{is_plural};
-    ghost use Rattle.packed_pattern.specs.Inner.PlaceViews.{placed_view};
+    ghost use Rattle.packed_pattern.specs.Inner.PlacesAhead.{placed_view};
 
     /// Returns the part.
     #[inline(always)]

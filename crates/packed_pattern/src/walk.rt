@@ -1,7 +1,7 @@
 //! The check of the items of a block, from the last to the first.
 
 ghost use Rattle.std.specs.Prelude.{◌≡◌, ◌∷◌, ◌+◌, ◌<◌, ◌≤◌, ℕ, [], List, IsTrue, drop, length};
-ghost use Rattle.packed_part.specs.Inner.PartReading.{IsBlock, part_in};
+ghost use Rattle.packed_part.specs.Inner.PartReading.{AreBlockItems, part_in};
 ghost use Rattle.packed_pattern.specs.Inner.PlacesAhead.{AreWalked};
 
 use crate::ahead::{Ahead, ended_at, passed, places_ahead};
@@ -63,7 +63,7 @@ impl<'a> Walk<'a> {
 // Whether the items are those of a block. Each is looked at once.
 pub(crate) fn is_block(list: &PackedList<'_>) -> bool
     requires { length list.now ≤ 65535 }
-    ensures { IsTrue result → IsBlock list.now }
+    ensures { IsTrue result → AreBlockItems list.now }
 {
     let mut left = list.len();
     let mut walk = Walk::at_end(left as u16);

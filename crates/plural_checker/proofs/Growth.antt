@@ -4,7 +4,7 @@ use Rattle.std.proofs.Common.{subst, inl, inr, arith, append_assoc}
 use Rattle.std.proofs.lemmas.List.{append-nil, take_more}
 use Rattle.std.specs.Prelude.{Result, Ok, Err, IfOk, OnOk}
 use Rattle.std.specs.Result.{result_and}
-use Rattle.plural_checker.specs.Findings.{Findings, no_findings, fault_alone, both, FindsBoth, EachFinds, most_counted, IsCountOf, GrowsBy, AddsFindings}
+use Rattle.plural_checker.specs.Findings.{Findings, no_findings, fault_alone, both_findings, FindsBoth, EachFinds, most_counted, IsCountOf, GrowsBy, AddsFindings}
 use Rattle.plural_checker.specs.Findings.{IsReportOfFindings}
 use Rattle.plural_checker.specs.declared.fault.Fault.{Fault}
 use Rattle.plural_checker.specs.declared.report.Report.{Report}
@@ -18,23 +18,23 @@ same_findings a b faults numbers =
     ∙ ap (λ (n : ℕ). let f : Findings = record { faults = b.faults; numbers = n } in f) numbers
 
 -- adding nothing changes nothing
-both-nothing : (a : Findings) → both a no_findings ≡ a
-both-nothing a = same_findings (both a no_findings) a (append-nil a.faults) (omega arith)
+both-nothing : (a : Findings) → both_findings a no_findings ≡ a
+both-nothing a = same_findings (both_findings a no_findings) a (append-nil a.faults) (omega arith)
 
-nothing-both : (a : Findings) → both no_findings a ≡ a
-nothing-both a = same_findings (both no_findings a) a refl (omega arith)
+nothing-both : (a : Findings) → both_findings no_findings a ≡ a
+nothing-both a = same_findings (both_findings no_findings a) a refl (omega arith)
 
-both_assoc : (a b c : Findings) → both (both a b) c ≡ both a (both b c)
+both_assoc : (a b c : Findings) → both_findings (both_findings a b) c ≡ both_findings a (both_findings b c)
 both_assoc a b c =
-    same_findings (both (both a b) c) (both a (both b c)) (append_assoc a.faults b.faults c.faults) (omega arith)
+    same_findings (both_findings (both_findings a b) c) (both_findings a (both_findings b c)) (append_assoc a.faults b.faults c.faults) (omega arith)
 
 -- one thing more at the end of a list
 each-snoc : {A : Type 0} (Finds : A → Findings → Type 0) (xs : List A) (x : A) (a b : Findings)
-    → EachFinds Finds xs a → Finds x b → EachFinds Finds (xs ++ x ∷ []) (both a b)
+    → EachFinds Finds xs a → Finds x b → EachFinds Finds (xs ++ x ∷ []) (both_findings a b)
 each-snoc Finds [] x a b none here =
-    (b, no_findings, here, refl, ap (λ f. both f b) none ∙ nothing-both b ∙ sym (both-nothing b))
+    (b, no_findings, here, refl, ap (λ f. both_findings f b) none ∙ nothing-both b ∙ sym (both-nothing b))
 each-snoc Finds (y ∷ ys) x a b (first, rest, finds, each, is) here =
-    (first, both rest b, finds, each-snoc Finds ys x rest b each here, ap (λ f. both f b) is ∙ both_assoc first rest b)
+    (first, both_findings rest b, finds, each-snoc Finds ys x rest b each here, ap (λ f. both_findings f b) is ∙ both_assoc first rest b)
 
 -- ---- Counts
 
@@ -56,8 +56,8 @@ grows_by_nothing a = (sym (append-nil a.faults), inl (omega arith))
 pub adds_nothing : (a : Report) → AddsFindings (λ found. found ≡ no_findings) a a
 adds_nothing a = (no_findings, refl, grows_by_nothing a)
 
--- a report that grows twice grows by both findings
-grows_twice : (a b c : Report) (f g : Findings) → GrowsBy a f b → GrowsBy b g c → GrowsBy a (both f g) c
+-- a report that grows twice grows by both_findings findings
+grows_twice : (a b c : Report) (f g : Findings) → GrowsBy a f b → GrowsBy b g c → GrowsBy a (both_findings f g) c
 grows_twice a b c f g (first, count) (second, more) = (
   second ∙ ap (λ l. l ++ g.faults) first ∙ append_assoc a.faults f.faults g.faults,
   counted_twice most_counted a.numbers b.numbers c.numbers f.numbers g.numbers count more,
@@ -66,7 +66,7 @@ grows_twice a b c f g (first, count) (second, more) = (
 -- two checks, one after the other
 pub adds_both : (First Second : Findings → Type 0) (a b c : Report) → AddsFindings First a b → AddsFindings Second b c → AddsFindings (FindsBoth First Second) a c
 adds_both First Second a b c (f, finds, grows) (g, more, grows_more) =
-    (both f g, (f, g, finds, more, refl), grows_twice a b c f g grows grows_more)
+    (both_findings f g, (f, g, finds, more, refl), grows_twice a b c f g grows grows_more)
 
 -- one thing more
 pub adds_one_more : {A : Type 0} (Finds : A → Findings → Type 0) (xs : List A) (i : ℕ) (x : A) (a b c : Report) (found : Findings)
@@ -74,8 +74,8 @@ pub adds_one_more : {A : Type 0} (Finds : A → Findings → Type 0) (xs : List 
     → AddsFindings (EachFinds Finds (take (i + 1) xs)) a c
 adds_one_more Finds xs i x a b c found within is (f, each, grows) finds grows_more =
     let more : take (i + 1) xs ≡ take i xs ++ x ∷ [] = take_more xs i x within ∙ ap (λ y. take i xs ++ y ∷ []) (sym is) in (
-      both f found,
-      subst (λ l. EachFinds Finds l (both f found)) (sym more) (each-snoc Finds (take i xs) x f found each finds),
+      both_findings f found,
+      subst (λ l. EachFinds Finds l (both_findings f found)) (sym more) (each-snoc Finds (take i xs) x f found each finds),
       grows_twice a b c f found grows grows_more,
     )
 

@@ -16,9 +16,9 @@ use Rattle.icu_plurals.specs.declared.PluralCategory.{PluralCategory}
 use Rattle.icu_plurals.specs.DecimalChoice.{IsTextAnswer, IsTextChoice}
 use Rattle.icu_plurals.specs.FiveRules.{FiveRules}
 use Rattle.icu_plurals.specs.SureChoice.{WritesNone, WritesOver}
-use Rattle.plural_checker.specs.FirstSamples.{IsNextSample, IsShort, is_gap, is_tilde, kept_sample, most_sample_bytes, sample_text, sixteen_zeros}
+use Rattle.plural_checker.specs.FirstSamples.{IsNextSample, IsShortWord, is_gap, is_tilde, kept_sample, most_sample_bytes, kept_sample_text, sixteen_zeros}
 use Rattle.plural_checker.specs.declared.sample.Sample.{Sample}
-use Rattle.plural_checker.specs.Inner.SampleSteps.{IsSampleIn, left_view, parts_left, words_left}
+use Rattle.plural_checker.specs.Inner.SampleSteps.{IsSampleIn, left_text_view, parts_left, words_left}
 
 -- ---- A text cut at marks
 
@@ -39,18 +39,18 @@ uncut p s k is le = slice_split_none p s (λ i d lt. fails_before_first p s i d 
 
 -- the next word of what is left
 pub next_of : (now : List (List ℕ)) (left : Option (Bor (List ℕ))) (rest part : Bor (List ℕ)) (after : Option (Bor (List ℕ))) (word : List ℕ)
-    → now ≡ words_left (left_view left) → left ≡ Some rest → slice_split is_gap rest.now ≡ part.now ∷ parts_left (left_view after)
-    → word ≡ before_first is_tilde part.now → now ≡ word ∷ words_left (left_view after)
+    → now ≡ words_left (left_text_view left) → left ≡ Some rest → slice_split is_gap rest.now ≡ part.now ∷ parts_left (left_text_view after)
+    → word ≡ before_first is_tilde part.now → now ≡ word ∷ words_left (left_text_view after)
 next_of now left rest part after word view is cut start =
     view
-    ∙ (ap (λ (r : Option (Bor (List ℕ))). words_left (left_view r)) is
+    ∙ (ap (λ (r : Option (Bor (List ℕ))). words_left (left_text_view r)) is
     ∙ (ap (λ (ps : List (List ℕ)). map (before_first is_tilde) ps) cut
-    ∙ ap (λ (w : List ℕ). w ∷ words_left (left_view after)) (sym start)))
+    ∙ ap (λ (w : List ℕ). w ∷ words_left (left_text_view after)) (sym start)))
 
 -- ---- The text of a sample
 
 -- that of the sample that is kept of a short word
-pub kept_text : (word : List ℕ) → IsShort word → sample_text (kept_sample word) ≡ word
+pub kept_text : (word : List ℕ) → IsShortWord word → kept_sample_text (kept_sample word) ≡ word
 kept_text word short =
     let few : nat_lt most_sample_bytes (length word) ≡ false = grind (arith, nat_tests, short.1) in
     let front : take (length word) (word ++ drop (length word) sixteen_zeros) ≡ word =
@@ -70,13 +70,13 @@ no_category rules word (Err fault.Memory) is short not = absurd (is.inline short
 
 module _ (rules : FiveRules) (category : PluralCategory) (word : List ℕ) where
   -- a word that isn't short
-  pub no_sample : (IsShort word → ⊥) → IsSampleIn rules category word None
+  pub no_sample : (IsShortWord word → ⊥) → IsSampleIn rules category word None
   no_sample long = (None, inl long, inr ((λ (e : None ≡ Some category). cc), refl))
 
   -- a short word, whose text this is
-  module _ (sample : Sample) (text : List ℕ) (is : sample ≡ kept_sample word) (short : IsShort word) (same : text ≡ sample_text sample) where
+  module _ (sample : Sample) (text : List ℕ) (is : sample ≡ kept_sample word) (short : IsShortWord word) (same : text ≡ kept_sample_text sample) where
     is_word : text ≡ word
-    is_word = same ∙ (ap (λ (s : Sample). sample_text s) is ∙ kept_text word short)
+    is_word = same ∙ (ap (λ (s : Sample). kept_sample_text s) is ∙ kept_text word short)
 
     -- it writes no number
     pub no_number : (answer : Result PluralCategory DecimalError) → IsTextAnswer rules text answer

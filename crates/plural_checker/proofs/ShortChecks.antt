@@ -17,7 +17,7 @@ use Rattle.icu_plurals.specs.Places.{Places, IsWithinLimit, IsWritten, shift_rig
 use Rattle.icu_plurals.specs.SureChoice.{IsBounded}
 use Rattle.icu_plurals.specs.Written.{CompactNumber, StandsAs, WritesCompact, sign_text}
 use Rattle.plural_base.specs.ChoiceLaws.{KeptChoiceIsExact}
-use Rattle.number_categories.specs.NumberFaults.{IsCategoryFault}
+use Rattle.number_categories.specs.WholeNumbers.{IsCategoryFault}
 use Rattle.number_categories.specs.declared.number_fault.NumberFault.{NumberFault}
 use Rattle.number_categories.specs.declared.number_fault.NumberFault.TheVariants.{Text, Outside, Category}
 use Rattle.plural_checker.specs.Inner.ShortNumbers.{WritesShortNumber}

@@ -21,7 +21,7 @@ use Rattle.icu_plurals.specs.Samples.{ReadsCondition, ReadsRule, FaultyRule}
 use Rattle.plural_reference.specs.FaultPlaces.{FaultyRuleAt, TextFaultyAt, TextIsRead}
 use Rattle.plural_reference.specs.PrintingLaws.{ConditionsOfTextsAreSpellable}
 use Rattle.plural_reference.specs.declared.parser.fault.RuleFault.{RuleFault}
-use Rattle.plural_checker.specs.Inner.TextReadings.{HasNoRule, IfRefused, IsReading, IsShortRuleOf}
+use Rattle.plural_checker.specs.Inner.TextReadings.{HasNoRule, IfRefused, IsRuleReading, IsShortRuleOf}
 use Rattle.plural_checker.specs.LanguageTexts.{is_long}
 use Rattle.plural_checker.specs.TextChecks.{AreRulesIfRead, IsReadAsRule}
 use Rattle.plural_checker.specs.declared.read_text.NoRule.{NoRule}
@@ -32,7 +32,7 @@ use Rattle.plural_checker.proofs.FewBytes.{few_tokens}
 -- a rule is read from the tokens
 pub reads_rule : (text bytes : List ℕ) (tokens : List Token) (rule : tree.Rule) → bytes ≡ text → is_long text ≡ false
     → AreTokensOf bytes tokens → length tokens ≤ length bytes → ConditionsOfTextsAreSpellable
-    → AnswersExactly ReadsRule FaultyRule bytes (Ok rule) → IsReading text (Rule rule)
+    → AnswersExactly ReadsRule FaultyRule bytes (Ok rule) → IsRuleReading text (Rule rule)
 reads_rule text bytes tokens rule is short are few spellable answers =
     let reads : ReadsRule tokens rule = answers.only tokens are in
     let same : length bytes ≡ length text = ap length is in
@@ -60,7 +60,7 @@ faulty_there tokens rest kind (inr (c, middle, reads, (place, before, is, waits,
 
 -- a text with this fault
 pub reads_fault : (text bytes : List ℕ) (fault : RuleFault) → bytes ≡ text → is_long text ≡ false
-    → TextFaultyAt bytes fault.kind fault.byte → IsReading text (Refused fault)
+    → TextFaultyAt bytes fault.kind fault.byte → IsRuleReading text (Refused fault)
 reads_fault text bytes fault is short (tokens, rest, are, faulty, stands) = (
   short,
   inr (fault.kind, subst (λ b. TextFaulty FaultyRule b fault.kind) is (tokens, are, faulty_there tokens rest fault.kind faulty), refl),
@@ -72,12 +72,12 @@ reads_condition : (text : List ℕ) (rule : tree.Rule) → TextReads ReadsRule t
 reads_condition text rule (tokens, are, reads) = (tokens, are, (rule, reads, refl))
 
 -- a rule that is read and can be packed
-pub read_as_rule : (text : List ℕ) (rule : tree.Rule) → IsReading text (Rule rule) → IsReadAsRule text (Ok rule)
+pub read_as_rule : (text : List ℕ) (rule : tree.Rule) → IsRuleReading text (Rule rule) → IsReadAsRule text (Ok rule)
 read_as_rule text rule (short, reads, packs) =
     (reads, (packed rule.condition, inl (rule.condition, reads_condition text rule reads, sym packs)))
 
 -- what a rule that is read is packed to
-pub packed_from : (text : List ℕ) (rule : tree.Rule) (relations : List PackedRelation) → IsReading text (Rule rule)
+pub packed_from : (text : List ℕ) (rule : tree.Rule) (relations : List PackedRelation) → IsRuleReading text (Rule rule)
     → Packs rule.condition (Ok relations) → IsPackedFrom text (Ok relations)
 packed_from text rule relations (short, reads, packs) (inl is) = (rule.condition, reads_condition text rule reads, is)
 packed_from text rule relations reading (inr none) = absurd cc

@@ -21,11 +21,11 @@ abbrev pub fault_alone : Fault → Findings
 fault_alone fault = record { faults = fault ∷ []; numbers = 0 }
 
 -- the faults of the first come before those of the second
-abbrev pub both : Findings → Findings → Findings
-both first second = record { faults = first.faults ++ second.faults; numbers = first.numbers + second.numbers }
+abbrev pub both_findings : Findings → Findings → Findings
+both_findings first second = record { faults = first.faults ++ second.faults; numbers = first.numbers + second.numbers }
 
 abbrev pub FindsBoth : (Findings → Type 0) → (Findings → Type 0) → Findings → Type 0
-FindsBoth First Second found = (first second : Findings) × First first × Second second × (found ≡ both first second)
+FindsBoth First Second found = (first second : Findings) × First first × Second second × (found ≡ both_findings first second)
 
 abbrev pub EachFinds : {A : Type 0} → (A → Findings → Type 0) → List A → Findings → Type 0
 EachFinds Finds [] found = found ≡ no_findings
@@ -37,7 +37,7 @@ EachFinds Finds (x ∷ xs) found = FindsBoth (Finds x) (EachFinds Finds xs) foun
 abbrev pub most_counted : ℕ
 most_counted = 2 ^ 64 - 1
 
--- the count is this number, or both are at least the largest count
+-- the count is this number, or both_findings are at least the largest count
 abbrev pub IsCountOf : ℕ → ℕ → Type 0
 IsCountOf count many = (count ≡ many) ⊎ ((most_counted ≤ count) × (most_counted ≤ many))
 

@@ -3,7 +3,7 @@
 --     HasWordCategory rules word category      the category of the number that a short word writes
 --     AreFirstSamples rules category text first second      the first two samples of the text that
 --         have the category, as far as there are two
---     sample_text sample      the text of a sample of the code, which `kept_sample` makes of a word
+--     kept_sample_text sample      the text of a sample of the code, which `kept_sample` makes of a word
 use Rattle.std.specs.Prelude.{◌≡◌, ◌≢◌, ◌⊎◌, ◌≤◌, ◌==◌, ◌||◌, nat_lt, ℕ, Bool, List, [], ◌∷◌, ◌++◌, length, take, drop, map, Option, Some, None, if◌then◌else◌}
 use Rattle.std.specs.List.{after_first, before_first, slice_split}
 use Rattle.std.specs.Str.{IsUtf8, is_utf8}
@@ -38,8 +38,8 @@ sample_words text = map (before_first is_tilde) (slice_split is_gap (after_first
 abbrev pub most_sample_bytes : ℕ
 most_sample_bytes = 16
 
-abbrev pub IsShort : List ℕ → Type 0
-IsShort word = IsUtf8 word × (length word ≤ most_sample_bytes)
+abbrev pub IsShortWord : List ℕ → Type 0
+IsShortWord word = IsUtf8 word × (length word ≤ most_sample_bytes)
 
 abbrev pub sixteen_zeros : List ℕ
 sixteen_zeros = 0 ∷ 0 ∷ 0 ∷ 0 ∷ 0 ∷ 0 ∷ 0 ∷ 0 ∷ 0 ∷ 0 ∷ 0 ∷ 0 ∷ 0 ∷ 0 ∷ 0 ∷ 0 ∷ []
@@ -53,15 +53,15 @@ abbrev pub shown : List ℕ → List ℕ
 shown bytes = if is_utf8 bytes then bytes else []
 
 -- of the sample that is kept of a short word, that word
-abbrev pub sample_text : Sample → List ℕ
-sample_text sample = if nat_lt most_sample_bytes sample.count then [] else shown (take sample.count sample.bytes)
+abbrev pub kept_sample_text : Sample → List ℕ
+kept_sample_text sample = if nat_lt most_sample_bytes sample.count then [] else shown (take sample.count sample.bytes)
 
 -- ---- Their categories
 
 -- none if the word isn't short, or writes no number, or one over a limit
 abbrev pub HasWordCategory : FiveRules → List ℕ → Option PluralCategory → Type 0
-HasWordCategory rules word (Some category) = IsShort word × IsTextChoice rules word category
-HasWordCategory rules word None = (¬ (IsShort word)) ⊎ (WritesNone word ⊎ WritesOver word)
+HasWordCategory rules word (Some category) = IsShortWord word × IsTextChoice rules word category
+HasWordCategory rules word None = (¬ (IsShortWord word)) ⊎ (WritesNone word ⊎ WritesOver word)
 
 -- the first of these words that has the category, if there is one, and the words behind it
 abbrev pub IsNextSample : FiveRules → PluralCategory → List (List ℕ) → Option Sample → List (List ℕ) → Type 0

@@ -5,7 +5,7 @@
 --     is_long text      the text is longer than those that are checked
 --     categories_with_rule rules      the categories that have a rule
 --     categories_with_value elements      the categories whose value is present in elements
---     without set others      the categories of one set that are not in another
+--     categories_without set others      the categories of one set that are not in another
 use Rattle.std.specs.Prelude.{ℕ, Bool, true, not, ◌&&◌, List, length, nat_lt, ◌||◌, Option, is_some}
 use Rattle.std.specs.Option.{option_copied}
 use Rattle.icu_plurals.specs.declared.PluralCategory.{PluralCategory}
@@ -68,8 +68,8 @@ categories_with_value elements = record {
   many = is_some elements.many;
 }
 
-abbrev pub without : CategorySet → CategorySet → CategorySet
-without set others = record {
+abbrev pub categories_without : CategorySet → CategorySet → CategorySet
+categories_without set others = record {
   zero = set.zero && not others.zero;
   one = set.one && not others.one;
   two = set.two && not others.two;

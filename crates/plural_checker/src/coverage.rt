@@ -2,7 +2,7 @@
 
 ghost use Rattle.std.specs.Prelude.{◌≡◌, ◌&&◌, not};
 ghost use Rattle.icu_plurals.specs.FiveRules.{rules_of};
-ghost use Rattle.plural_checker.specs.LanguageTexts.{categories_with_rule, categories_with_value, without};
+ghost use Rattle.plural_checker.specs.LanguageTexts.{categories_with_rule, categories_with_value, categories_without};
 
 use icu_plurals::PluralElements;
 use icu_plurals::provider::PluralRulesData;
@@ -42,7 +42,7 @@ impl CategorySet {
 
     /// Returns the categories of this set that are not in another.
     pub fn without(self, others: CategorySet) -> CategorySet
-        ensures { result ≡ without self others }
+        ensures { result ≡ categories_without self others }
     {
         CategorySet {
             zero: is_in_first_alone(self.zero, others.zero),
@@ -75,8 +75,8 @@ pub struct Coverage {
 impl Coverage {
     /// Compares the categories for which a message has an element with the rules.
     pub fn of(elements: CategorySet, rules: &PluralRulesData<'_>) -> Coverage
-        ensures lacking { result.lacking ≡ without (categories_with_rule (rules_of rules.now)) elements }
-        ensures unused { result.unused ≡ without elements (categories_with_rule (rules_of rules.now)) }
+        ensures lacking { result.lacking ≡ categories_without (categories_with_rule (rules_of rules.now)) elements }
+        ensures unused { result.unused ≡ categories_without elements (categories_with_rule (rules_of rules.now)) }
     {
         let ruled = CategorySet::of_rules(rules);
         Coverage {

@@ -3,7 +3,7 @@
 ghost use Rattle.std.specs.Prelude.{Some, ◌++◌, codes};
 ghost use Rattle.std.specs.Fmt.{DisplaysOnOk};
 ghost use Rattle.icu_plurals.specs.Serializer.{sample_range_text, sample_text};
-ghost use Rattle.plural_checker.specs.PluralCheckerErrors.{fault_text, range_fault_text, sample_fault_text, text_fault_text};
+ghost use Rattle.plural_checker.specs.PluralCheckerErrors.{fault_text, range_fault_text, sample_fault_text, rule_text_fault_text};
 
 use crate::printed_rule::PrintedRule;
 use icu_plurals::provider::RawPluralCategory;
@@ -88,7 +88,7 @@ impl fmt::Display for Fault {
 impl Error for Fault {}
 
 impl fmt::Display for TextFault {
-    ghost output = { λ fault. Some (text_fault_text fault) };
+    ghost output = { λ fault. Some (rule_text_fault_text fault) };
 
     fn fmt<W: fmt::Write>(&self, f: &mut fmt::Formatter<W>) -> fmt::Result {
         match self {

@@ -4,7 +4,7 @@ ghost use Rattle.std.specs.Prelude.{◌≡◌, Ok, IfErr, IfOk, IsSomeAnd, Some}
 ghost use Rattle.std.specs.Option.{option_copied};
 ghost use Rattle.icu_plurals.specs.PackedTree.{Packs};
 ghost use Rattle.plural_reference.specs.FaultPlaces.{TextFaultyAt, TextIsRead};
-ghost use Rattle.plural_checker.specs.Inner.TextReadings.{HasNoRule, IfRefused, IsReading, IsShortRuleOf};
+ghost use Rattle.plural_checker.specs.Inner.TextReadings.{HasNoRule, IfRefused, IsRuleReading, IsShortRuleOf};
 
 use crate::texts::is_long;
 use icu_plurals::provider::rules::reference::ast::Rule;
@@ -35,13 +35,13 @@ pub(crate) struct ReadText<'a> {
 
 impl<'a> Model for ReadText<'a> {
     ghost use Rattle.std.specs.Prelude.{List, ℕ};
-    ghost use Rattle.plural_checker.specs.Inner.TextReadings.{IsReading};
+    ghost use Rattle.plural_checker.specs.Inner.TextReadings.{IsRuleReading};
 
     ghost Value = { List ℕ };
 
     ghost view = { λ read. read.text.now };
 
-    ghost invariant = { λ read. IsReading read.text.now read.reading };
+    ghost invariant = { λ read. IsRuleReading read.text.now read.reading };
 }
 
 impl<'a> ReadText<'a> {
@@ -62,7 +62,7 @@ impl<'a> ReadText<'a> {
 
     // What the text is read as.
     pub(crate) fn reading(&self) -> &Reading
-        ensures { IsReading self.now result.now }
+        ensures { IsRuleReading self.now result.now }
     {
         &self.reading
     }
@@ -129,7 +129,7 @@ fn pack(alloc: Global, rule: &Rule) -> Result<PackedRule<'static>, NoRule>
 
 // What a text is read as.
 fn reading_of(alloc: Global, text: &str) -> Result<Reading, AllocError>
-    ensures { IfOk result (λ reading. IsReading text.now reading) }
+    ensures { IfOk result (λ reading. IsRuleReading text.now reading) }
 {
     if is_long(text) {
         return Ok(Reading::Long);

@@ -1,7 +1,7 @@
 //! A sample of a rule's text.
 
 ghost use Rattle.std.specs.Prelude.{◌≡◌, MatchOption};
-ghost use Rattle.plural_checker.specs.FirstSamples.{IsShort, kept_sample, sample_text, shown};
+ghost use Rattle.plural_checker.specs.FirstSamples.{IsShortWord, kept_sample, kept_sample_text, shown};
 
 use std::str;
 
@@ -18,7 +18,7 @@ pub struct Sample {
 impl Sample {
     // The sample that bytes write, if they are a short text.
     pub(crate) fn of(word: &[u8]) -> Option<Sample>
-        ensures { MatchOption result (¬ (IsShort word.now)) (λ sample. (sample ≡ kept_sample word.now) × IsShort word.now) }
+        ensures { MatchOption result (¬ (IsShortWord word.now)) (λ sample. (sample ≡ kept_sample word.now) × IsShortWord word.now) }
     {
         if word.len() > MOST_SAMPLE_BYTES {
             return None;
@@ -31,7 +31,7 @@ impl Sample {
 
     // The sample that a short text writes.
     fn of_short(word: &[u8]) -> Sample
-        requires { IsShort word.now }
+        requires { IsShortWord word.now }
         ensures { result ≡ kept_sample word.now }
     {
         let mut bytes = [0; MOST_SAMPLE_BYTES];
@@ -44,7 +44,7 @@ impl Sample {
 
     /// Returns its text.
     pub fn as_str(&self) -> &str
-        ensures { result.now ≡ sample_text self.now }
+        ensures { result.now ≡ kept_sample_text self.now }
     {
         let count = usize::from(self.count);
         if count > MOST_SAMPLE_BYTES {

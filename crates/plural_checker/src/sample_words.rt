@@ -3,7 +3,7 @@
 ghost use Rattle.std.specs.Prelude.{◌≡◌, ◌∷◌, [], MatchOption};
 ghost use Rattle.std.specs.List.{after_first, before_first, position_or_len, slice_split};
 ghost use Rattle.plural_checker.specs.FirstSamples.{is_at, is_gap, is_tilde, sample_words};
-ghost use Rattle.plural_checker.specs.Inner.SampleSteps.{is_marked, left_view, parts_left};
+ghost use Rattle.plural_checker.specs.Inner.SampleSteps.{is_marked, left_text_view, parts_left};
 
 use std::marker::Model;
 
@@ -51,7 +51,7 @@ fn listed(text: &[u8]) -> &[u8]
 
 // What stands before the first gap, and behind it, if there is one.
 fn cut_part(bytes: &[u8]) -> (&[u8], Option<&[u8]>)
-    ensures { slice_split is_gap bytes.now ≡ result.0.now ∷ parts_left (left_view result.1) }
+    ensures { slice_split is_gap bytes.now ≡ result.0.now ∷ parts_left (left_text_view result.1) }
 {
     let place = place_of(Mark::Gap, bytes);
     if place < bytes.len() {
@@ -75,11 +75,11 @@ pub(crate) struct SampleWords<'t> {
 
 impl<'t> Model for SampleWords<'t> {
     ghost use Rattle.std.specs.Prelude.{ℕ, List};
-    ghost use Rattle.plural_checker.specs.Inner.SampleSteps.{left_view, words_left};
+    ghost use Rattle.plural_checker.specs.Inner.SampleSteps.{left_text_view, words_left};
 
     ghost Value = { List (List ℕ) };
 
-    ghost view = { λ words. words_left (left_view words.left) };
+    ghost view = { λ words. words_left (left_text_view words.left) };
 }
 
 impl<'t> SampleWords<'t> {

@@ -13,7 +13,7 @@ use Rattle.plural_queries.specs.Lines.{AreRuleLines, IsCategoryLine, IsElementLi
 use Rattle.plural_queries.specs.Queries.{Lookup, number_category, range_category, number_element, number_message, printed_rules}
 use Rattle.plural_queries.specs.Queries.{Query, of_document, truth}
 use Rattle.plural_queries.specs.CallAnswers.{GivesTextAfterReading, Text}
-use Rattle.plural_documents.specs.Steps.{After, ◌>>=◌, or_fault}
+use Rattle.plural_documents.specs.Steps.{After, ◌>>=◌, value_or_fault}
 use Rattle.plural_documents.specs.Inputs.{most_bytes, json_of}
 use Rattle.plural_queries.specs.declared.error.RunError.{RunError}
 use Rattle.plural_queries.specs.declared.error.RunError.TheVariants.{Usage, TooLong, Json, Document, Locale}
@@ -43,12 +43,12 @@ of_steps fault (Ok x) next first second h = second x h
 of_steps {A} fault (Err e) next first second h = first (ap Err (fault_of e fault h))
 
 -- nor does the lookup of a locale
-of_locale : {A : Type 0} (fault : RunError) → IsOther fault → (o : Option A) → or_fault Locale o ≡ Err fault → ⊥
+of_locale : {A : Type 0} (fault : RunError) → IsOther fault → (o : Option A) → value_or_fault Locale o ≡ Err fault → ⊥
 of_locale fault other None h = other.not_locale (fault_of Locale fault h)
 of_locale fault other (Some x) h = cc
 
 -- nor a text that is no JSON
-of_value : {A : Type 0} (fault : RunError) → IsOther fault → (o : Option A) → or_fault Json o ≡ Err fault → ⊥
+of_value : {A : Type 0} (fault : RunError) → IsOther fault → (o : Option A) → value_or_fault Json o ≡ Err fault → ⊥
 of_value fault other None h = other.not_json (fault_of Json fault h)
 of_value fault other (Some x) h = cc
 
@@ -60,7 +60,7 @@ of_refusal fault other (Err e) h = other.not_document e (fault_of (Document e) f
 -- nor the document of bytes
 of_bytes : (fault : RunError) → IsOther fault → (bytes : List ℕ) → document_of bytes ≡ Err fault → ⊥
 of_bytes fault other bytes =
-    of_steps fault (or_fault Json (json_of bytes)) document_of_value (of_value fault other (json_of bytes))
+    of_steps fault (value_or_fault Json (json_of bytes)) document_of_value (of_value fault other (json_of bytes))
     (λ value. of_steps fault (or_bad (document_of_json value)) (λ maps. Ok (record { value = value; maps = maps }))
     (of_refusal fault other (document_of_json value)) (λ maps h. cc))
 
@@ -74,9 +74,9 @@ of_ranged : (fault : RunError) → IsOther fault → (type : PluralRuleType) (lo
     → ranged_for type locale document ≡ Err fault → ⊥
 of_ranged fault other type locale document =
     of_steps fault (rules_for type locale document)
-    (λ rules. or_fault Locale (found locale document.maps.ranges) >>= λ ranges. Ok (record { rules = rules; ranges = ranges }))
+    (λ rules. value_or_fault Locale (found locale document.maps.ranges) >>= λ ranges. Ok (record { rules = rules; ranges = ranges }))
     (of_rules fault other type locale document)
-    (λ rules. of_steps fault (or_fault Locale (found locale document.maps.ranges))
+    (λ rules. of_steps fault (value_or_fault Locale (found locale document.maps.ranges))
     (λ ranges. Ok (record { rules = rules; ranges = ranges }))
     (of_locale fault other (found locale document.maps.ranges)) (λ ranges h. cc))
 

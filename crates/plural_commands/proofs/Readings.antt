@@ -4,14 +4,13 @@ use Rattle.std.specs.Cow.{cow_str_bytes}
 use Rattle.std.specs.Prelude.{⊤}
 use Rattle.std.specs.Io.KnownBytes.{Keeps}
 use Rattle.plural_commands.specs.Answer.{IsAnswered, IsNotRead}
-use Rattle.plural_queries.specs.RunFaults.{run_origin}
-use Rattle.plural_queries.specs.CallAnswers.{GivesTextAfterReading, GivesRunFault, GivesText, Text, input_fault}
+use Rattle.plural_queries.specs.CallAnswers.{run_origin, GivesTextAfterReading, GivesRunFault, GivesAnswerText, Text, input_fault}
 use Rattle.plural_queries.specs.Input.{WholeDocument, document_in, document_of}
 use Rattle.plural_documents.specs.Steps.{After}
 use Rattle.plural_queries.specs.declared.error.RunError.{RunError}
 use Rattle.plural_queries.specs.declared.error.RunError.TheVariants.{Usage, Condition, Number, Read, TooLong}
 use Rattle.plural_queries.specs.declared.error.RunError.TheVariants.{Json, Document, Locale, Write, Memory}
-use Rattle.plural_documents.specs.Inputs.{GivesInput, IsInput, IsRead, IsReadAfter, IsReadToEnd, input_origin, most_bytes}
+use Rattle.plural_documents.specs.Inputs.{GivesInput, IsInput, IsReadAfterResult, IsReadAfter, IsReadToEnd, input_origin, most_bytes}
 use Rattle.plural_documents.specs.declared.InputError.{InputError}
 use Rattle.plural_documents.specs.declared.InputError.TheVariants as cause
 use Rattle.plural_documents.proofs.InputLemmas.{all_is_some, beyond, none_read, some_input, within, without_reading}
@@ -46,7 +45,7 @@ read_at old new cause.Memory h = h
 
 -- `?` passes on such a fault
 pub read_on : {B : Type 0} (old new : Option (List ℕ)) (e : InputError) (r : Result B RunError)
-    → r ≡ Err (input_fault e) → IsReadAfter (input_origin e) old new → IsRead run_origin old new r
+    → r ≡ Err (input_fault e) → IsReadAfter (input_origin e) old new → IsReadAfterResult run_origin old new r
 read_on old new e r is h = rw is (read_at old new e h)
 
 -- ---- The input was read to its end
@@ -54,16 +53,16 @@ read_on old new e r is h = rw is (read_at old new e h)
 -- the answer to the bytes is the answer to the input
 pub of_all : (Next : WholeDocument → Result (List ℕ) RunError → Type 0) (whole bytes : List ℕ)
     → length whole ≤ most_bytes → bytes ≡ whole → (r : Result Text RunError)
-    → GivesText (After Next (document_of bytes)) r → GivesTextAfterReading (After Next (document_in whole)) r
+    → GivesAnswerText (After Next (document_of bytes)) r → GivesTextAfterReading (After Next (document_in whole)) r
 of_all Next whole bytes short same r h =
-    let all = subst (λ (read : List ℕ). GivesText (After Next (document_of read)) r) same h in
+    let all = subst (λ (read : List ℕ). GivesAnswerText (After Next (document_of read)) r) same h in
     subst (λ (document : Result WholeDocument RunError). GivesTextAfterReading (After Next document) r) (sym (within TooLong document_of whole short))
     (without_reading run_origin cow_str_bytes (After Next (document_of whole)) r all)
 
 -- if no answer says that the input is too long, it was read to its end
 pub to_the_end : (IsAnswer : Result (List ℕ) RunError → Type 0) (old new : Option (List ℕ)) → (IsAnswer (Err TooLong) → ⊥)
     → IsReadToEnd old new
-    → (r : Result Text RunError) → GivesText IsAnswer r → IsRead run_origin old new r
+    → (r : Result Text RunError) → GivesAnswerText IsAnswer r → IsReadAfterResult run_origin old new r
 to_the_end IsAnswer old new none end (Ok text) h = end
 to_the_end IsAnswer old new none end (Err Usage) h = end
 to_the_end IsAnswer old new none end (Err (Condition k)) h = end
@@ -80,7 +79,7 @@ to_the_end IsAnswer old new none end (Err Memory) h = all_is_some old new end
 
 -- if the words have no fault, the only error is out of memory
 pub faultless : (A : Type 0) (IsFault : RunError → Type 0) (left : Option (List ℕ)) → ((fault : RunError) → ¬ (IsFault fault))
-    → (e : RunError) → GivesRunFault IsFault e → IsRead {A = A} run_origin left left (Err e)
+    → (e : RunError) → GivesRunFault IsFault e → IsReadAfterResult {A = A} run_origin left left (Err e)
 faultless A IsFault left none Usage h = absurd (none _ h)
 faultless A IsFault left none (Condition k) h = absurd (none _ h)
 faultless A IsFault left none (Number k) h = absurd (none _ h)

@@ -2,7 +2,7 @@
 
 ghost use Rattle.plural_queries.specs.LookupAnswers.{AnswersLookup};
 ghost use Rattle.plural_queries.specs.Input.{document_of, document_of_value};
-ghost use Rattle.plural_queries.specs.CallAnswers.{GivesText};
+ghost use Rattle.plural_queries.specs.CallAnswers.{GivesAnswerText};
 ghost use Rattle.plural_queries.specs.QueryViews.{document_view, lookup_view};
 ghost use Rattle.plural_documents.specs.Outlines.{IsHeld};
 ghost use Rattle.plural_documents.specs.Steps.{After};
@@ -19,7 +19,7 @@ pub(crate) fn text_in(
     bytes: &[u8],
     lookup: &Lookup<'_>,
 ) -> Result<CowStr<'static>, RunError>
-    ensures { GivesText (After (AnswersLookup (lookup_view lookup.now)) (document_of bytes.now)) result }
+    ensures { GivesAnswerText (After (AnswersLookup (lookup_view lookup.now)) (document_of bytes.now)) result }
 {
     let mut scratch = Scratch::new(alloc);
     let text = json_text(alloc, bytes, &mut scratch)?;
@@ -32,7 +32,7 @@ fn text_by(
     text: &JsonTokens<'_>,
     lookup: &Lookup<'_>,
 ) -> Result<CowStr<'static>, RunError>
-    ensures { (held : Data) → IsHeld text.now held → GivesText (After (AnswersLookup (lookup_view lookup.now)) (document_of_value held)) result }
+    ensures { (held : Data) → IsHeld text.now held → GivesAnswerText (After (AnswersLookup (lookup_view lookup.now)) (document_of_value held)) result }
 {
     let document = document_for(alloc, text, lookup)?;
     let answer = text_of(alloc, &document, lookup);

@@ -2,12 +2,11 @@
 
 ghost use Rattle.std.specs.Prelude.{◌≡◌, ◌≢◌, ◌↔◌, Err, IfErr, List, None, ℕ, map};
 ghost use Rattle.plural_commands.specs.Answer.{AnswersQuery, AnswersWords, IsAnswered, IsNotRead};
-ghost use Rattle.plural_queries.specs.RunFaults.{run_origin};
+ghost use Rattle.plural_queries.specs.CallAnswers.{run_origin, GivesTextAfterReading, IsOfDocument};
 ghost use Rattle.plural_queries.specs.Commands.{command_of};
-ghost use Rattle.plural_queries.specs.CallAnswers.{GivesTextAfterReading, IsOfDocument};
 ghost use Rattle.plural_queries.specs.QueryViews.{lookup_view, query_view};
 ghost use Rattle.plural_queries.specs.Queries.{MayRunOut, NeedsInput, of_document};
-ghost use Rattle.plural_documents.specs.Inputs.{IsInput, IsRead};
+ghost use Rattle.plural_documents.specs.Inputs.{IsInput, IsReadAfterResult};
 
 use crate::answer::text_in;
 use plural_documents::{read_input, write_output};
@@ -53,7 +52,7 @@ pub fn run<R: Read, W: Write>(
     // The answer is that of some input: what remained in the reader, if that is known.
     ensures answers { (input : List ℕ) × IsInput (R.remaining reader.old) input
         × IsAnswered (AnswersWords (map (λ w. w.now) words.now) input) (W.contents writer.old) (W.contents writer.new) result }
-    ensures reads { NeedsInput (map (λ w. w.now) words.now) → IsRead run_origin (R.remaining reader.old) (R.remaining reader.new) result }
+    ensures reads { NeedsInput (map (λ w. w.now) words.now) → IsReadAfterResult run_origin (R.remaining reader.old) (R.remaining reader.new) result }
     ensures reads_nothing { ¬ (NeedsInput (map (λ w. w.now) words.now)) → (reader.new ≡ reader.old) × IsNotRead result }
     ensures writes_nothing { IfErr result (λ e. e ≢ RunError.Write → writer.new ≡ writer.old) }
     ensures usage { (result ≡ Err RunError.Usage) ↔ (command_of (map (λ w. w.now) words.now) ≡ None) }
@@ -75,7 +74,7 @@ fn answer_of<R: Read>(
 ) -> Result<CowStr<'static>, RunError>
     ensures answers { (input : List ℕ) × IsInput (R.remaining reader.old) input
         × GivesTextAfterReading (AnswersQuery (query_view query.entry) input) result }
-    ensures reads { IsOfDocument (query_view query.entry) → IsRead run_origin (R.remaining reader.old) (R.remaining reader.new) result }
+    ensures reads { IsOfDocument (query_view query.entry) → IsReadAfterResult run_origin (R.remaining reader.old) (R.remaining reader.new) result }
     ensures reads_nothing { ¬ (IsOfDocument (query_view query.entry)) → (reader.new ≡ reader.old) × IsNotRead result }
     ensures not_usage { result ≢ Err RunError.Usage }
     ensures memory { (result ≡ Err RunError.Memory) → IsOfDocument (query_view query.entry) }
@@ -93,7 +92,7 @@ fn answer<R: Read>(
 ) -> Result<CowStr<'static>, RunError>
     ensures answers { (input : List ℕ) × IsInput (R.remaining reader.old) input
         × GivesTextAfterReading (AnswersQuery (query_view query.now) input) result }
-    ensures reads { IsOfDocument (query_view query.now) → IsRead run_origin (R.remaining reader.old) (R.remaining reader.new) result }
+    ensures reads { IsOfDocument (query_view query.now) → IsReadAfterResult run_origin (R.remaining reader.old) (R.remaining reader.new) result }
     ensures reads_nothing { ¬ (IsOfDocument (query_view query.now)) → (reader.new ≡ reader.old) × IsNotRead result }
     ensures not_usage { result ≢ Err RunError.Usage }
     ensures memory { (result ≡ Err RunError.Memory) → IsOfDocument (query_view query.now) }
@@ -112,7 +111,7 @@ fn looked_up<R: Read>(
 ) -> Result<CowStr<'static>, RunError>
     ensures answers { (input : List ℕ) × IsInput (R.remaining reader.old) input
         × GivesTextAfterReading (AnswersQuery (of_document (lookup_view lookup.now)) input) result }
-    ensures reads { IsRead run_origin (R.remaining reader.old) (R.remaining reader.new) result }
+    ensures reads { IsReadAfterResult run_origin (R.remaining reader.old) (R.remaining reader.new) result }
 {
     let input = read_input(alloc, reader)?;
     text_in(alloc, input.as_slice(), lookup)

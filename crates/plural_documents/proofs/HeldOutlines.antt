@@ -1,7 +1,7 @@
 -- Outlines of what is held of a value, which are those of the value where nothing else is kept.
 use Rattle.std.proofs.Common.{◌≡◌, ℕ, List, Bool, true, false, Some, refl, sym, ap, ◌∙◌}
 use Rattle.std.specs.Prelude.{if◌then◌else◌}
-use Rattle.document_tokens.specs.TextTokens.{is_named}
+use Rattle.document_tokens.specs.TextTokens.{is_among_names}
 use Rattle.plural_documents.specs.Outlines.{HeldText, IsHeld, named, outline, outline_members, part_by_names, with_member}
 use Rattle.plural_documents.specs.declared.outline.Portion.{Portion}
 use Rattle.plural_documents.specs.declared.outline.Portion.TheVariants as kept
@@ -9,12 +9,12 @@ use Rattle.plural_documents.proofs.OutlinedLemmas.{some_is}
 use Rattle.serde_json.specs.Data.{Data, null, boolean, number, string, array, object, Members, no_members, member}
 
 module _ {C : Type 0} (keeps : C → List ℕ → Portion C) (choice : C) (names : List (List ℕ))
-    (others : (key : List ℕ) → is_named names key ≡ false → keeps choice key ≡ kept.Nothing) where
+    (others : (key : List ℕ) → is_among_names names key ≡ false → keeps choice key ≡ kept.Nothing) where
   members_held : (ms : Members) → outline_members keeps choice (outline_members named names ms) ≡ outline_members keeps choice ms
   members_held no_members = refl
-  members_held (member key value ms) = by (is_named names key) refl (members_held ms)
+  members_held (member key value ms) = by (is_among_names names key) refl (members_held ms)
     where
-      by : (b : Bool) → is_named names key ≡ b
+      by : (b : Bool) → is_among_names names key ≡ b
           → outline_members keeps choice (outline_members named names ms) ≡ outline_members keeps choice ms
           → outline_members keeps choice
           (with_member key (outline named (if b then kept.Whole else kept.Nothing) value) (outline_members named names ms))

@@ -2,7 +2,7 @@
 use Rattle.std.proofs.Common.{◌≡◌, ℕ, List, Bool, true, false, Option, Some, None, refl, sym, ap, ◌∙◌}
 use Rattle.std.specs.Prelude.{option_and_then, option_map, if◌then◌else◌}
 use Rattle.json.specs.Json as json
-use Rattle.document_tokens.specs.TextTokens.{is_held_name, is_named, json_part, members_part}
+use Rattle.document_tokens.specs.TextTokens.{is_held_name, is_among_names, json_part, members_part}
 use Rattle.plural_documents.specs.Outlines.{named, outline, outline_members, part_by_names}
 use Rattle.plural_documents.specs.declared.outline.Portion.TheVariants as kept
 use Rattle.plural_documents.proofs.OutlinedLemmas.{held_map, some_is}
@@ -13,7 +13,7 @@ use Rattle.serde_json.specs.Read.{number_of, of_items, of_json, of_members}
 
 module _ (names : List (List ℕ)) where
   abbrev part : json.Members → json.Members
-  part = members_part (is_named names)
+  part = members_part (is_among_names names)
 
   abbrev kept_of : Members → Members
   kept_of = outline_members named names
@@ -24,9 +24,9 @@ module _ (names : List (List ℕ)) where
   members_read json.no_members found whole sorted read = ap (option_map kept_of) read
   members_read (json.member k j ms) found whole sorted read =
       let first = held_then (of_json j) (λ d. of_members ms (put k d found)) whole read in
-      by (is_named names k) refl first.0 first.1 (members_read ms (put k first.0 found) whole (sorted_put k first.0 found sorted) first.2)
+      by (is_among_names names k) refl first.0 first.1 (members_read ms (put k first.0 found) whole (sorted_put k first.0 found sorted) first.2)
     where
-      by : (b : Bool) → is_named names k ≡ b → (d : Data) → of_json j ≡ Some d
+      by : (b : Bool) → is_among_names names k ≡ b → (d : Data) → of_json j ≡ Some d
           → of_members (part ms) (kept_of (put k d found)) ≡ Some (kept_of whole)
           → of_members (if b then json.member k j (part ms) else part ms) (kept_of found) ≡ Some (kept_of whole)
       by true is d first further =
@@ -36,7 +36,7 @@ module _ (names : List (List ℕ)) where
           ap (of_members (part ms)) (sym (outline_put (List (List ℕ)) named names k d found sorted ∙ rw is refl)) ∙ further
 
   value_read : (j : json.Json) (whole : Data) → of_json j ≡ Some whole
-      → (held : Data) × (of_json (json_part (is_named names) j) ≡ Some held) × (outline named (kept.Members names) whole ≡ Some held)
+      → (held : Data) × (of_json (json_part (is_among_names names) j) ≡ Some held) × (outline named (kept.Members names) whole ≡ Some held)
   value_read json.null whole read = (whole, read, rw (← some_is null whole read) refl)
   value_read (json.boolean b) whole read = (whole, read, rw (← some_is (boolean b) whole read) refl)
   value_read (json.string s) whole read = (whole, read, rw (← some_is (string s) whole read) refl)

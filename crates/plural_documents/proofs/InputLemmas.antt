@@ -7,7 +7,7 @@ use Rattle.std.proofs.lemmas.List.{append-nil, length-append}
 use Rattle.std.specs.Io.KnownBytes.{Consumes, IsAtEnd}
 use Rattle.std.specs.declared.alloc.Global.{Global}
 use Rattle.std.proofs.KnownBytes.{Consumes-nil}
-use Rattle.plural_documents.specs.Inputs.{GivesBy, GivesByReading, GivesInput, IsFaultOf, IsFaultOfReading, IsInput, IsRead}
+use Rattle.plural_documents.specs.Inputs.{GivesBy, GivesByReading, GivesInput, IsFaultOfOrigin, IsFaultOfReading, IsInput, IsReadAfterResult}
 use Rattle.plural_documents.specs.Inputs.{IsReadToEnd, IsReadUpTo, Origin}
 use Rattle.plural_documents.specs.Inputs.{from_answer, from_length, from_memory, from_reader, from_writer, input_origin}
 use Rattle.plural_documents.specs.Inputs.{most_bytes, within_limit}
@@ -76,7 +76,7 @@ input_given old new (Err Memory) read end limit long = tt
 pub input_read : (old new : Option (List ℕ)) (r : Result (Vec ℕ Global) InputError)
     → IfOk r (λ bytes. Consumes old new bytes.items) → IfOk r (λ _. IsAtEnd new) → IfOk r (λ bytes. length bytes.items ≤ most_bytes)
     → IsReadUpTo old new → (r ≡ Err TooLong → (bytes : List ℕ) × Consumes old new bytes × (length bytes ≡ most_bytes + 1))
-    → IsRead input_origin old new r
+    → IsReadAfterResult input_origin old new r
 input_read old new (Ok bytes) read end limit some long = (bytes.items, read, end, limit)
 input_read old new (Err Read) read end limit some long = some
 input_read old new (Err TooLong) read end limit some long = long refl
@@ -101,7 +101,7 @@ pub all_is_some : (old new : Option (List ℕ)) → IsReadToEnd old new → IsRe
 all_is_some old new read = (read.0, read.1, one_more (length read.0) most_bytes read.3)
 
 -- a call that gives a fault of one kind also gives a fault of a wider kind
-pub mapped : (origin : Origin) {P Q : Type 0} → (P → Q) → IsFaultOf origin P → IsFaultOf origin Q
+pub mapped : (origin : Origin) {P Q : Type 0} → (P → Q) → IsFaultOfOrigin origin P → IsFaultOfOrigin origin Q
 mapped from_reader f h = h
 mapped from_length f h = f h
 mapped from_writer f h = h
@@ -114,7 +114,7 @@ pub without_reading : {A B E : Type 0} (origin : E → Origin) (seen : A → B) 
 without_reading origin seen IsAnswer (Ok x) h = h
 without_reading origin seen IsAnswer (Err e) h = by_origin (origin e) (IsAnswer (Err e)) h
   where
-    by_origin : (o : Origin) (Is : Type 0) → IsFaultOf o Is → IsFaultOfReading o Is
+    by_origin : (o : Origin) (Is : Type 0) → IsFaultOfOrigin o Is → IsFaultOfReading o Is
     by_origin from_reader Is h = tt
     by_origin from_length Is h = h
     by_origin from_writer Is h = h

@@ -16,7 +16,7 @@ use Rattle.std.specs.Cmp.Lexicographic.{nat_list_eq_equiv, slice_cmp}
 use Rattle.std.specs.List.{AllByRecursion, count_by, list_any}
 use Rattle.std.specs.List.Sorted.{IsStrictlySortedBy}
 use Rattle.std.specs.Map.Iter.{deref}
-use Rattle.plural_documents.specs.Inner.KeysStanding.{AreStanding, HasAdded, IsFoundAgain, names_of}
+use Rattle.plural_documents.specs.Inner.KeysStanding.{AreStanding, HasAdded, IsFoundAgain, names_in_set}
 use Rattle.plural_documents.specs.RepeatedKeys.{AreRepeated, Path, RepeatedAt, repeated_view}
 use Rattle.plural_documents.specs.declared.repeated_key.RepeatedKey.{RepeatedKey}
 use Rattle.plural_documents.specs.declared.repeated_key.StandingKeys.{StandingKeys}
@@ -114,10 +114,10 @@ as_often q key keys b is same = subst (λ k. nat_lt 0 (count_by (bytes_eq k) key
 
 module _ (keys : List (List ℕ)) (key : Key) (old : StandingKeys) (once again : BTreeSet Key) (are : AreStanding keys old)
     (put : once.keys ≡ insert_key key_cmp old.once.keys key) where
-  stands_once : (q : List ℕ) → list_any (bytes_eq q) (names_of once) ≡ nat_lt 0 (count_by (bytes_eq q) (keys ++ key.now ∷ []))
+  stands_once : (q : List ℕ) → list_any (bytes_eq q) (names_in_set once) ≡ nat_lt 0 (count_by (bytes_eq q) (keys ++ key.now ∷ []))
   stands_once q =
       ap (λ ks. list_any (bytes_eq q) (names ks)) put ∙ any_inserted q key old.once.keys
-      ∙ once_more (bytes_eq q key.now) (list_any (bytes_eq q) (names_of old.once)) (count_by (bytes_eq q) keys) (are.once q)
+      ∙ once_more (bytes_eq q key.now) (list_any (bytes_eq q) (names_in_set old.once)) (count_by (bytes_eq q) keys) (are.once q)
       ∙ ap (nat_lt 0) (sym (count_after q key.now keys))
 
   -- a key that stood there
@@ -127,7 +127,7 @@ module _ (keys : List (List ℕ)) (key : Key) (old : StandingKeys) (once again :
     once = stands_once;
     again = λ q.
         ap (λ ks. list_any (bytes_eq q) (names ks)) put_again ∙ any_inserted q key old.again.keys
-        ∙ again_more (bytes_eq q key.now) (list_any (bytes_eq q) (names_of old.again)) (count_by (bytes_eq q) keys) (are.again q)
+        ∙ again_more (bytes_eq q key.now) (list_any (bytes_eq q) (names_in_set old.again)) (count_by (bytes_eq q) keys) (are.again q)
         (as_often q key.now keys true (sym (are.once key.now) ∙ sym (found_by_name key old.once.keys) ∙ stood))
         ∙ ap (nat_lt 1) (sym (count_after q key.now keys));
   }
@@ -139,7 +139,7 @@ module _ (keys : List (List ℕ)) (key : Key) (old : StandingKeys) (once again :
     once = stands_once;
     again = λ q.
         ap (λ ks. list_any (bytes_eq q) (names ks)) same
-        ∙ not_again (bytes_eq q key.now) (list_any (bytes_eq q) (names_of old.again)) (count_by (bytes_eq q) keys) (are.again q)
+        ∙ not_again (bytes_eq q key.now) (list_any (bytes_eq q) (names_in_set old.again)) (count_by (bytes_eq q) keys) (are.again q)
         (as_often q key.now keys false (sym (are.once key.now) ∙ sym (found_by_name key old.once.keys) ∙ new))
         ∙ ap (nat_lt 1) (sym (count_after q key.now keys));
   }
@@ -179,14 +179,14 @@ above_one : (n : ℕ) → 2 ≤ n → 1 < n
 above_one n more = omega arith
 
 are_repeated : (keys : List (List ℕ)) (standing : StandingKeys) → AreStanding keys standing
-    → IsStrictlySortedBy key_cmp standing.again.keys → AreRepeated keys (names_of standing.again)
+    → IsStrictlySortedBy key_cmp standing.again.keys → AreRepeated keys (names_in_set standing.again)
 are_repeated keys standing are sorted = (
   sorted_names standing.again.keys sorted,
   λ key. (
     λ has. from_two (count_by (bytes_eq key) keys)
         (ltb-true 1 (count_by (bytes_eq key) keys)
-        (sym (are.again key) ∙ list_any-from_Contains nat_list_eq_equiv key (names_of standing.again) has)),
-    λ more. Contains-from_any same_name key (names_of standing.again)
+        (sym (are.again key) ∙ list_any-from_Contains nat_list_eq_equiv key (names_in_set standing.again) has)),
+    λ more. Contains-from_any same_name key (names_in_set standing.again)
         (are.again key ∙ lt-ltb 1 (count_by (bytes_eq key) keys) (above_one (count_by (bytes_eq key) keys) more)),
   ),
 )
@@ -200,7 +200,7 @@ pub all_added : (keys : List (List ℕ)) (standing : StandingKeys) (path : Path)
     → AreStanding keys standing → IsStrictlySortedBy key_cmp standing.again.keys → map deref shown ≡ standing.again.keys
     → HasAdded old new (map (shown_at path) shown) → IsFoundAgain keys path old new
 all_added keys standing path old new shown are sorted all added = (
-  names_of standing.again,
+  names_in_set standing.again,
   are_repeated keys standing are sorted,
   subst (HasAdded old new) (view_names path shown ∙ ap (λ (ks : List Key). map (at_path path) (names ks)) all) added,
 )

@@ -1,7 +1,7 @@
 -- What is found in the members of an object, member by member.
 use Rattle.std.proofs.Common.{◌≡◌, ℕ, List, refl, sym, ap, subst, ◌∙◌}
 use Rattle.serde_json.specs.Data.{Data, Members, no_members, member}
-use Rattle.plural_documents.specs.FoundMembers.{HasGrownBy, IsFoundInMembers}
+use Rattle.plural_documents.specs.Steps.{HasGrownBy, IsFoundInMembers}
 
 module _ {F : Type 0} (nothing : F) (together : F → F → F) where
   -- whatever is found in the remaining members completes what was found so far

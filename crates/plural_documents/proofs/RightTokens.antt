@@ -9,8 +9,8 @@ use Rattle.std.proofs.lemmas.List.Folds.{list_any-append}
 use Rattle.json.specs.Json as json
 use Rattle.document_tokens.specs.HeldTokens.{Held, held_items, held_members, held_tokens}
 use Rattle.plural_documents.specs.Inner.OutlineSteps.{IsPassed}
-use Rattle.plural_documents.specs.Inner.RulesPlaces.{AreRight, AreRightParts, GivesRule, IsRight, IsRightBelow, IsRightPart}
-use Rattle.plural_documents.specs.Inner.RulesPlaces.{IsRightText, allows_null, below, is_any_read, is_float}
+use Rattle.plural_documents.specs.Inner.RulesPlaces.{AreRight, AreRightParts, TextGivesRule, IsRight, IsRightBelow, IsRightPart}
+use Rattle.plural_documents.specs.Inner.RulesPlaces.{IsRightText, allows_null, place_below, is_any_read, is_float}
 use Rattle.plural_base.specs.Categories.{name_of}
 use Rattle.plural_base.specs.declared.category.PluralCategory.{PluralCategory}
 use Rattle.plural_documents.specs.declared.rules_place.RulesPlace.{RulesPlace}
@@ -50,28 +50,28 @@ grouped true b c = refl
 grouped false b c = refl
 
 module _ (place : RulesPlace) (k : List ℕ) (value : Data) where
-  any_read_put : (ms : Members) → is_any_read place (put k value ms) ≡ (is_any_read place ms || is_some (below place k))
-  any_read_put no_members = either (is_some (below place k)) false
+  any_read_put : (ms : Members) → is_any_read place (put k value ms) ≡ (is_any_read place ms || is_some (place_below place k))
+  any_read_put no_members = either (is_some (place_below place k)) false
   any_read_put (member l old ms) = by (order k l) refl (any_read_put ms)
     where
-      by : (o : Ordering) → order k l ≡ o → is_any_read place (put k value ms) ≡ (is_any_read place ms || is_some (below place k))
-          → is_any_read place (put_in k value l old ms o) ≡ (is_any_read place (member l old ms) || is_some (below place k))
-      by Less is further = either (is_some (below place k)) (is_any_read place (member l old ms))
+      by : (o : Ordering) → order k l ≡ o → is_any_read place (put k value ms) ≡ (is_any_read place ms || is_some (place_below place k))
+          → is_any_read place (put_in k value l old ms o) ≡ (is_any_read place (member l old ms) || is_some (place_below place k))
+      by Less is further = either (is_some (place_below place k)) (is_any_read place (member l old ms))
       by Equal is further =
           subst (λ (key : List ℕ). is_any_read place (member l value ms)
-          ≡ (is_any_read place (member l old ms) || is_some (below place key)))
-          (sym (same_key k l is)) (again (is_some (below place l)) (is_any_read place ms))
+          ≡ (is_any_read place (member l old ms) || is_some (place_below place key)))
+          (sym (same_key k l is)) (again (is_some (place_below place l)) (is_any_read place ms))
       by Greater is further =
-          ap (λ b. is_some (below place l) || b) further
-          ∙ grouped (is_some (below place l)) (is_any_read place ms) (is_some (below place k))
+          ap (λ b. is_some (place_below place l) || b) further
+          ∙ grouped (is_some (place_below place l)) (is_any_read place ms) (is_some (place_below place k))
 
-  right_put : (ms : Members) → AreRight place ms → IsRightBelow (below place k) value → AreRight place (put k value ms)
+  right_put : (ms : Members) → AreRight place ms → IsRightBelow (place_below place k) value → AreRight place (put k value ms)
   right_put no_members right here = (here, tt)
   right_put (member l old ms) right here = by (order k l) refl (right_put ms right.1 here)
     where
       by : (o : Ordering) → order k l ≡ o → AreRight place (put k value ms) → AreRight place (put_in k value l old ms o)
       by Less is further = (here, right)
-      by Equal is further = (subst (λ (key : List ℕ). IsRightBelow (below place key) value) (same_key k l is) here, right.1)
+      by Equal is further = (subst (λ (key : List ℕ). IsRightBelow (place_below place key) value) (same_key k l is) here, right.1)
       by Greater is further = (right.0, further)
 
 -- ---- Members
@@ -83,7 +83,7 @@ RightGoOn place ts rest whole any =
     × AreRight place before × (is_any_read place before ≡ any)
 
 pub right_added : (place : RulesPlace) (k : List ℕ) (ts new rest : List Held) (whole : Members) (any now : Bool)
-    → RightGoOn place (Held.key k ∷ ts) rest whole any → IsRightPart (below place k) ts new → (any || is_some (below place k)) ≡ now
+    → RightGoOn place (Held.key k ∷ ts) rest whole any → IsRightPart (place_below place k) ts new → (any || is_some (place_below place k)) ≡ now
     → RightGoOn place new rest whole now
 right_added place k ts new rest whole any now (json.no_members, before, is, read, right, so_far) passes then = absurd (cc)
 right_added place k ts new rest whole any now (json.member l j ms, before, is, read, right, so_far) passes then =
@@ -96,7 +96,7 @@ right_added place k ts new rest whole any now (json.member l j ms, before, is, r
       passed.0,
       ap (λ m. of_members ms (put m first.0 before)) same ∙ first.2,
       right_put place k first.0 before right passed.1,
-      any_read_put place k first.0 before ∙ ap (λ b. b || is_some (below place k)) so_far ∙ then,
+      any_read_put place k first.0 before ∙ ap (λ b. b || is_some (place_below place k)) so_far ∙ then,
     )
 
 pub right_ended : (place : RulesPlace) (t : Held) (ts rest : List Held) (whole : Members) (any : Bool) → ((k : List ℕ) → t ≡ Held.key k → ⊥)
@@ -155,7 +155,7 @@ passed_right old new passed value rest whole is read = (passed value rest is, λ
 
 -- what a text gives, as far as memory lasts
 pub rule_given : TextsGiveOneAnswer → (text : List ℕ) (answer : RuleAnswer) → TextGives text answer ⊎ (answer ≡ Err cause.Memory)
-    → (rule : _) → answer ≡ Ok rule → GivesRule text
+    → (rule : _) → answer ≡ Ok rule → TextGivesRule text
 rule_given one text answer (inl gives) rule is = (rule, sym ((one text answer).0 gives) ∙ is)
 rule_given one text answer (inr memory) rule is = absurd (cc)
 

@@ -17,10 +17,10 @@ use Rattle.plural_base.specs.declared.category.PluralCategory.{PluralCategory}
 use Rattle.plural_base.specs.declared.category.PluralCategory.TheVariants.{Zero, One, Two, Few, Many}
 use Rattle.plural_base.specs.declared.five.Five.{Five}
 use Rattle.plural_base.specs.declared.ranges.PluralRanges.{PluralRanges}
-use Rattle.plural_documents.specs.Inner.HeldTexts.{Holds}
+use Rattle.plural_documents.specs.Inner.OutlineSteps.{Holds}
 use Rattle.document_tokens.specs.HeldTokens.{Held, held_tokens}
 use Rattle.plural_documents.specs.Inner.RulesPlaces.{AreRight, IsFaultless, IsRight, IsRightBelow, IsRightPart, IsRightText}
-use Rattle.plural_documents.specs.Inner.RulesPlaces.{below, is_any_read, is_float}
+use Rattle.plural_documents.specs.Inner.RulesPlaces.{place_below, is_any_read, is_float}
 use Rattle.plural_documents.specs.Outlines.{HeldText}
 use Rattle.plural_documents.specs.declared.rules_place.RulesPlace.{RulesPlace}
 use Rattle.plural_documents.specs.declared.rules_place.RulesPlace.TheVariants.{Document, LocalesRules, Rules, Rule, LocalesRanges}
@@ -40,16 +40,16 @@ Means {A} meant value = (x : A) × (meant value ≡ Ok x)
 
 -- what is found among members that are right
 pub found_right : (place : RulesPlace) (k : List ℕ) (ms : Members) (value : Data) → AreRight place ms → get_member k ms ≡ Some value
-    → IsRightBelow (below place k) value
+    → IsRightBelow (place_below place k) value
 found_right place k no_members value right is = absurd (cc)
 found_right place k (member l old ms) value right is = by (order k l) refl is (found_right place k ms value right.1)
   where
     by : (o : Ordering) → order k l ≡ o → match_ordering o (get_member k ms) (Some old) (get_member k ms) ≡ Some value
-        → (get_member k ms ≡ Some value → IsRightBelow (below place k) value) → IsRightBelow (below place k) value
+        → (get_member k ms ≡ Some value → IsRightBelow (place_below place k) value) → IsRightBelow (place_below place k) value
     by Less same is further = further is
     by Equal same is further =
-        subst (λ (v : Data). IsRightBelow (below place k) v) (some_is old value is)
-        (subst (λ (key : List ℕ). IsRightBelow (below place key) old) (sym (same_key k l same)) right.0)
+        subst (λ (v : Data). IsRightBelow (place_below place k) v) (some_is old value is)
+        (subst (λ (key : List ℕ). IsRightBelow (place_below place key) old) (sym (same_key k l same)) right.0)
     by Greater same is further = further is
 
 -- ---- Rules
@@ -66,7 +66,7 @@ rule_means c (Some (string s)) right =
 rule_means c (Some (array items)) right = absurd (right (array items) refl)
 rule_means c (Some (object ms)) right = absurd (true≢false (sym (right (object ms) refl).0))
 
-member_means : (c : PluralCategory) (ms : Members) → AreRight Rules ms → below Rules (name_of c) ≡ Some Rule
+member_means : (c : PluralCategory) (ms : Members) → AreRight Rules ms → place_below Rules (name_of c) ≡ Some Rule
     → (rule : _) × (member_meant c (object ms) ≡ Ok rule)
 member_means c ms right named = rule_means c (get_member (name_of c) ms) (λ v is. found_right Rules (name_of c) ms v right is Rule named)
 
@@ -161,7 +161,7 @@ ranges_mean (object ms) right =
 
 -- ---- Maps
 
-module _ {A : Type 0} (meant : Data → Stands A) (place inner : RulesPlace) (each : (key : List ℕ) → below place key ≡ Some inner)
+module _ {A : Type 0} (meant : Data → Stands A) (place inner : RulesPlace) (each : (key : List ℕ) → place_below place key ≡ Some inner)
     (means : (value : Data) → IsRight inner value → Means meant value) where
   rows_mean : (ms : Members) → AreRight place ms → (rows : Rows A) × (rows_meant meant ms ≡ Ok rows)
   rows_mean no_members right = ([], refl)
@@ -190,7 +190,7 @@ document_means (string s) right = absurd right
 document_means (array items) right = absurd right
 document_means (object ms) right =
     let under =
-    λ (key : List ℕ) (place : RulesPlace) (named : below Document key ≡ Some place) (v : Data) (is : get_member key ms ≡ Some v).
+    λ (key : List ℕ) (place : RulesPlace) (named : place_below Document key ≡ Some place) (v : Data) (is : get_member key ms ≡ Some v).
     found_right Document key ms v right.1 is place named in
     let rules = map_means rules_meant LocalesRules Rules (λ key. refl) rules_mean (λ s text. text) in
     let cardinal = rules (get_member (codes "cardinal") ms) (under (codes "cardinal") LocalesRules refl) in

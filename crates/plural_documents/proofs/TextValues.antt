@@ -9,8 +9,7 @@ use Rattle.document_tokens.specs.TextTokens.{AreHeldTokens, GivesHeldTokens, is_
 use Rattle.document_tokens.specs.declared.error.JsonTextError.{JsonTextError}
 use Rattle.document_tokens.specs.declared.error.JsonTextError.TheVariants as fault
 use Rattle.document_tokens.specs.declared.held_token.HeldToken.{HeldToken}
-use Rattle.plural_documents.specs.Inner.HeldTexts.{GivesTokens, Holds}
-use Rattle.plural_documents.specs.Inner.OutlineSteps.{IsOutlined}
+use Rattle.plural_documents.specs.Inner.OutlineSteps.{GivesTokens, Holds, IsOutlined}
 use Rattle.plural_documents.specs.Inputs.{json_of}
 use Rattle.plural_documents.specs.Outlines.{GivesHeldText, GivesOutline, HeldText, IsOutlineOf, outline, part_by_names}
 use Rattle.plural_documents.specs.declared.outline.Portion.{Portion}

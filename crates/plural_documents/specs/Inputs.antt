@@ -2,7 +2,7 @@
 -- writer took of an output.
 --     IsInput left input      the input is what remains in the reader, if that is known
 --     within_limit fault value input      the value of an input, or this fault if it is too long
---     IsRead origin old new result      what was read of the reader when a call has this result
+--     IsReadAfterResult origin old new result      what was read of the reader when a call has this result
 --     IsPartWritten old new bytes      a beginning of the bytes was written, and nothing else
 --     json_of bytes      the value, if the bytes are a JSON text
 --     json_tree bytes      the same with every member of each object
@@ -59,12 +59,12 @@ input_origin TooLong = from_length
 input_origin Memory = from_memory
 
 -- a fault of this origin, which is this one; or out of memory; the call neither reads nor writes
-abbrev pub IsFaultOf : Origin → Type 0 → Type 0
-IsFaultOf from_reader Is = ⊥
-IsFaultOf from_length Is = Is
-IsFaultOf from_writer Is = ⊥
-IsFaultOf from_memory Is = ⊤
-IsFaultOf from_answer Is = Is
+abbrev pub IsFaultOfOrigin : Origin → Type 0 → Type 0
+IsFaultOfOrigin from_reader Is = ⊥
+IsFaultOfOrigin from_length Is = Is
+IsFaultOfOrigin from_writer Is = ⊥
+IsFaultOfOrigin from_memory Is = ⊤
+IsFaultOfOrigin from_answer Is = Is
 
 -- the same of a call that reads, which may fail
 abbrev pub IsFaultOfReading : Origin → Type 0 → Type 0
@@ -77,7 +77,7 @@ IsFaultOfReading from_answer Is = Is
 -- the result of a call that neither reads nor writes, in the words of the definitions, or out of memory
 abbrev pub GivesBy : {A B E : Type 0} → (E → Origin) → (A → B) → (Result B E → Type 0) → Result A E → Type 0
 GivesBy origin seen IsAnswer (Ok x) = IsAnswer (Ok (seen x))
-GivesBy origin seen IsAnswer (Err e) = IsFaultOf (origin e) (IsAnswer (Err e))
+GivesBy origin seen IsAnswer (Err e) = IsFaultOfOrigin (origin e) (IsAnswer (Err e))
 
 -- the same of a call that reads
 abbrev pub GivesByReading : {A B E : Type 0} → (E → Origin) → (A → B) → (Result B E → Type 0) → Result A E → Type 0
@@ -104,9 +104,9 @@ IsReadAfter from_writer old new = IsReadToEnd old new
 IsReadAfter from_answer old new = IsReadToEnd old new
 
 -- the same after a result; with a value, all of the input was read
-abbrev pub IsRead : {A E : Type 0} → (E → Origin) → Option (List ℕ) → Option (List ℕ) → Result A E → Type 0
-IsRead origin old new (Ok x) = IsReadToEnd old new
-IsRead origin old new (Err fault) = IsReadAfter (origin fault) old new
+abbrev pub IsReadAfterResult : {A E : Type 0} → (E → Origin) → Option (List ℕ) → Option (List ℕ) → Result A E → Type 0
+IsReadAfterResult origin old new (Ok x) = IsReadToEnd old new
+IsReadAfterResult origin old new (Err fault) = IsReadAfter (origin fault) old new
 
 -- ---- What is written
 

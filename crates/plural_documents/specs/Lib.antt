@@ -5,8 +5,5 @@ pub mod Steps
 pub mod Outlines
 -- the keys that stand more than once in an object
 pub mod RepeatedKeys
--- the lines of a report
-pub mod FirstLines
-pub mod FoundMembers
 -- not definitions of the subject
 pub mod Inner

@@ -6,7 +6,7 @@
 --     GivesHeldText names bytes result      a text that is held, of an outermost object by names
 --     IsOutlineOf keeps choice text part      the outline of what is held of it
 use Rattle.std.specs.Prelude.{◌≡◌, ℕ, ◌<◌, List, length, if◌then◌else◌, Option, Some, None, Result, Ok, Err}
-pub use Rattle.document_tokens.specs.TextTokens.{is_named}
+pub use Rattle.document_tokens.specs.TextTokens.{is_among_names}
 use Rattle.plural_documents.specs.Inputs.{json_of}
 use Rattle.document_tokens.specs.declared.error.JsonTextError.{JsonTextError}
 use Rattle.document_tokens.specs.declared.error.JsonTextError.TheVariants as fault
@@ -55,7 +55,7 @@ pub record HeldText : Type 0 where
 
 -- the members with these names
 abbrev pub named : List (List ℕ) → List ℕ → Portion (List (List ℕ))
-named names key = if is_named names key then kept.Whole else kept.Nothing
+named names key = if is_among_names names key then kept.Whole else kept.Nothing
 
 -- of an object the members with these names, if names are given, and of any other value all of it
 abbrev pub part_by_names : Option (List (List ℕ)) → Data → Option Data

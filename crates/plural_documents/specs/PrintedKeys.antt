@@ -37,3 +37,11 @@ most_name_text = 64
 
 abbrev pub name_text : List ℕ → List ℕ
 name_text name = key_text most_name_text name
+
+-- ---- the lines of a report: the first ten of a place are told, and the others are counted
+
+abbrev pub most_told : ℕ
+most_told = 10
+
+abbrev pub ended_line : List ℕ → List ℕ
+ended_line text = text ++ 10 ∷ []

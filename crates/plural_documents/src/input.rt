@@ -2,7 +2,7 @@
 
 ghost use Rattle.std.specs.Prelude.{◌≡◌, ◌+◌, ◌≤◌, List, ℕ, length, Err, IfOk};
 ghost use Rattle.std.specs.Io.KnownBytes.{Consumes, IsAtEnd};
-ghost use Rattle.plural_documents.specs.Inputs.{IsRead, IsReadUpTo, GivesInput, input_origin};
+ghost use Rattle.plural_documents.specs.Inputs.{IsReadAfterResult, IsReadUpTo, GivesInput, input_origin};
 
 use std::alloc::Global;
 use std::io::{ErrorKind, Read};
@@ -28,7 +28,7 @@ pub enum InputError {
 /// out. An interrupted read is repeated.
 pub fn read_input<R: Read>(alloc: Global, reader: &mut R) -> Result<Vec<u8>, InputError>
     ensures input { GivesInput (R.remaining reader.old) result }
-    ensures read { IsRead input_origin (R.remaining reader.old) (R.remaining reader.new) result }
+    ensures read { IsReadAfterResult input_origin (R.remaining reader.old) (R.remaining reader.new) result }
 {
     read_bytes(alloc, reader)
 }

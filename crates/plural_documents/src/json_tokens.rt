@@ -1,8 +1,8 @@
 //! The tokens of a JSON text, read once.
 
 ghost use Rattle.std.specs.Prelude.{Some, None};
-ghost use Rattle.document_tokens.specs.TextTokens.{given_names, names_view};
-ghost use Rattle.plural_documents.specs.Inner.HeldTexts.{GivesTokens};
+ghost use Rattle.document_tokens.specs.TextTokens.{given_names, key_names_view};
+ghost use Rattle.plural_documents.specs.Inner.OutlineSteps.{GivesTokens};
 ghost use Rattle.plural_documents.specs.Outlines.{GivesHeldText};
 
 use document_tokens::{HeldToken, JsonTextError, text_tokens};
@@ -32,7 +32,7 @@ impl<'a> Model for JsonTokens<'a> {
     ghost use Rattle.std.specs.Prelude.{map};
     ghost use Rattle.document_tokens.specs.HeldTokens.{held_token};
     ghost use Rattle.document_tokens.specs.TextTokens.{given_names};
-    ghost use Rattle.plural_documents.specs.Inner.HeldTexts.{Holds};
+    ghost use Rattle.plural_documents.specs.Inner.OutlineSteps.{Holds};
     ghost use Rattle.plural_documents.specs.Outlines.{HeldText};
 
     ghost Value = { HeldText };
@@ -68,7 +68,7 @@ impl<'a> JsonTokens<'a> {
         bytes: &'a [u8],
         scratch: &'a mut Scratch,
     ) -> Result<JsonTokens<'a>, JsonTextError>
-        ensures { GivesHeldText (Some (names_view names.now)) bytes.now result }
+        ensures { GivesHeldText (Some (key_names_view names.now)) bytes.now result }
     {
         read_by(alloc, Some(names), bytes, scratch)
     }

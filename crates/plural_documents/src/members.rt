@@ -1,7 +1,7 @@
 //! What is found in the members of an object, one after the other.
 
 ghost use Rattle.std.specs.Prelude.{OnOk};
-ghost use Rattle.plural_documents.specs.FoundMembers.{HasGrownBy, IsFoundInMembers};
+ghost use Rattle.plural_documents.specs.Steps.{HasGrownBy, IsFoundInMembers};
 ghost use Rattle.serde_json.specs.View.{members_view};
 
 use serde_json::{Map, Value};
@@ -29,7 +29,7 @@ pub trait Findings {
 /// A check of the members of an object.
 pub trait MemberCheck<'a, F: Findings> {
     ghost use Rattle.std.specs.Prelude.{List, ℕ, OnOk};
-    ghost use Rattle.plural_documents.specs.FoundMembers.{HasGrownBy};
+    ghost use Rattle.plural_documents.specs.Steps.{HasGrownBy};
     ghost use Rattle.serde_json.specs.Data.{Data};
     ghost use Rattle.serde_json.specs.View.{view};
 

@@ -4,7 +4,7 @@ ghost use Rattle.std.specs.Bool.{OnTrue};
 ghost use Rattle.std.specs.List.{list_any};
 ghost use Rattle.std.specs.Prelude.{◌≡◌, ◌∷◌, ◌≤◌, IfOk, OnOk, Some, length, map};
 ghost use Rattle.document_tokens.specs.HeldTokens.{held_token};
-ghost use Rattle.plural_documents.specs.Inner.RulesPlaces.{AreRightParts, GivesRule, IsFaultless, IsRightPart, IsRightText, is_float};
+ghost use Rattle.plural_documents.specs.Inner.RulesPlaces.{AreRightParts, TextGivesRule, IsFaultless, IsRightPart, IsRightText, is_float};
 
 use crate::json_tokens::JsonTokens;
 use crate::rules_place::RulesPlace;
@@ -130,7 +130,7 @@ fn is_right_text(alloc: Global, place: RulesPlace, text: &str) -> Result<bool, A
 
 // Whether a text gives a rule.
 fn gives_rule(alloc: Global, text: &str) -> Result<bool, AllocError>
-    ensures { IfOk result (λ given. OnTrue given (GivesRule text.now)) }
+    ensures { IfOk result (λ given. OnTrue given (TextGivesRule text.now)) }
 {
     texts_give_one_answer();
     match Rule::from_str(alloc, text) {

@@ -1,7 +1,7 @@
 //! The places of a document of rules.
 
 ghost use Rattle.std.specs.Prelude.{◌≡◌};
-ghost use Rattle.plural_documents.specs.Inner.RulesPlaces.{allows_null, allows_object, below};
+ghost use Rattle.plural_documents.specs.Inner.RulesPlaces.{allows_null, allows_object, place_below};
 ghost use Rattle.plural_documents.specs.declared.rules_place.RulesPlace.TheVariants.{Categories, Document, Ranges, Rules};
 ghost use Rattle.std.specs.Prelude.{Some};
 
@@ -27,7 +27,7 @@ pub(crate) enum RulesPlace {
 impl RulesPlace {
     // The place of the member with a key, if it is read.
     pub(crate) fn below(self, key: &str) -> Option<RulesPlace>
-        ensures { result ≡ below self key.now }
+        ensures { result ≡ place_below self key.now }
     {
         match self {
             RulesPlace::Document => map_place(key),
@@ -64,7 +64,7 @@ impl RulesPlace {
 
 // The place of a map of the document.
 fn map_place(key: &str) -> Option<RulesPlace>
-    ensures { result ≡ below Document key.now }
+    ensures { result ≡ place_below Document key.now }
 {
     match key {
         "cardinal" | "ordinal" => Some(RulesPlace::LocalesRules),
@@ -75,7 +75,7 @@ fn map_place(key: &str) -> Option<RulesPlace>
 
 // The place of a rule by the name of its category.
 fn rule_place(key: &str) -> Option<RulesPlace>
-    ensures { result ≡ below Rules key.now }
+    ensures { result ≡ place_below Rules key.now }
 {
     match key {
         "zero" | "one" | "two" | "few" | "many" => Some(RulesPlace::Rule),
@@ -85,7 +85,7 @@ fn rule_place(key: &str) -> Option<RulesPlace>
 
 // The place of the categories of ranges.
 fn categories_place(key: &str) -> Option<RulesPlace>
-    ensures { result ≡ below Ranges key.now }
+    ensures { result ≡ place_below Ranges key.now }
 {
     if key == "ranges" {
         Some(RulesPlace::Categories)
@@ -96,7 +96,7 @@ fn categories_place(key: &str) -> Option<RulesPlace>
 
 // The place of a category by the text of its range.
 fn category_place(key: &str) -> RulesPlace
-    ensures { Some result ≡ below Categories key.now }
+    ensures { Some result ≡ place_below Categories key.now }
 {
     if UnvalidatedPluralRange::from_text(key).is_some() {
         RulesPlace::Category

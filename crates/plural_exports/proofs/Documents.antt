@@ -12,7 +12,7 @@ use Rattle.icu_plurals.specs.PackedElements.{PackedElements}
 use Rattle.icu_plurals.specs.FiveRules.{FiveRules}
 use Rattle.icu_plurals.specs.declared.PluralRuleType.{PluralRuleType}
 use Rattle.plural_documents.specs.Steps.{Then}
-use Rattle.plural_exports.specs.GivenBytes.{ReadsText}
+use Rattle.plural_exports.specs.GivenBytes.{ReadsTextBytes}
 use Rattle.plural_exports.specs.GivenDocuments.{AreRulesIn, HasRulesAt, HasRulesFor, MeansElements, MeansMaps, ReadsType}
 use Rattle.plural_exports.specs.GivenTexts.{PackRules}
 use Rattle.plural_exports.specs.Inner.Conversions.{json_fault}
@@ -70,17 +70,17 @@ elements_refused value json.Memory r is answers packable = rw is (packable refl)
 
 -- the locale's text is refused
 pub refused_locale : (bytes locale : List ℕ) (n : ℕ) (type : PluralRuleType) (e : Fault) (r : Block)
-    → r ≡ Err e → ReadsType n (Ok type) → ReadsText locale (Err e) → GivesSeen bytes_of (AreRulesIn bytes locale n) r
+    → r ≡ Err e → ReadsType n (Ok type) → ReadsTextBytes locale (Err e) → GivesSeen bytes_of (AreRulesIn bytes locale n) r
 refused_locale bytes locale n type e r is known h = rw is (Ok type, known, (Err e, h, refl))
 
 -- the document has no rules
 pub refused_document : (bytes locale : List ℕ) (n : ℕ) (type : PluralRuleType) (text : List ℕ) (e : Fault)
-    → ReadsType n (Ok type) → ReadsText locale (Ok text) → HasRulesFor bytes text type (Err e) → AreRulesIn bytes locale n (Err e)
+    → ReadsType n (Ok type) → ReadsTextBytes locale (Ok text) → HasRulesFor bytes text type (Err e) → AreRulesIn bytes locale n (Err e)
 refused_document bytes locale n type text e known read h = (Ok type, known, (Ok text, read, (Err e, h, refl)))
 
 -- the rules of its maps are packed, or can't be
 pub packed_maps : (bytes locale : List ℕ) (n : ℕ) (type : PluralRuleType) (text : List ℕ) (maps : Maps) (r : Block)
-    → ReadsType n (Ok type) → ReadsText locale (Ok text)
+    → ReadsType n (Ok type) → ReadsTextBytes locale (Ok text)
     → ((found : Result FiveRules Fault) → HasRulesAt text (rows_for type maps) found → HasRulesFor bytes text type found)
     → GivesSeen bytes_of (Then (HasRulesAt text (rows_for type maps)) PackRules) r → GivesSeen bytes_of (AreRulesIn bytes locale n) r
 packed_maps bytes locale n type text maps (Ok block) known read has (found, at, packed) =

@@ -6,8 +6,7 @@ use Rattle.icu_plurals.specs.Elements.{Elements, each_by, unless_equal}
 use Rattle.icu_plurals.specs.PackedElements.{PackedValue, is_same_value, packed_of, plain_value}
 use Rattle.plural_exports.specs.GivenElements.{AreAllUtf8, ArePackedAs, Eight, plain_text, value_given, values_given}
 use Rattle.plural_exports.specs.GivenTexts.{text_given}
-use Rattle.plural_exports.specs.Inner.GivenResults.{GivesSeen}
-use Rattle.plural_exports.specs.Inner.KeptTexts.{kept_texts, same_text}
+use Rattle.plural_exports.specs.Inner.GivenResults.{GivesSeen, kept_texts, same_text}
 use Rattle.plural_exports.specs.declared.fault.Fault.{Fault}
 use Rattle.plural_exports.specs.declared.fault.Fault.TheVariants.{Utf8}
 

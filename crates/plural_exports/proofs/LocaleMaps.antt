@@ -18,7 +18,7 @@ use Rattle.plural_documents.specs.declared.JsonTextError.TheVariants as text
 use Rattle.plural_exports.specs.GivenDocuments.{HasRulesAt, HasRulesFor, IsMapsFault, MeansMaps, ReadsJson}
 use Rattle.plural_exports.specs.GivenRanges.{HasRangesAt, HasRangesFor}
 use Rattle.plural_exports.specs.Inner.Conversions.{json_fault, json_text_fault}
-use Rattle.plural_exports.specs.Inner.GivenMaps.{HasMapsFor}
+use Rattle.plural_exports.specs.Inner.GivenResults.{HasMapsFor}
 use Rattle.plural_exports.specs.declared.fault.Fault.{Fault}
 use Rattle.plural_exports.specs.declared.fault.Fault.TheVariants.{Memory}
 use Rattle.serde_json.specs.Data.{Data}

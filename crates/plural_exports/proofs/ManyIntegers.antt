@@ -4,7 +4,7 @@ use Rattle.std.specs.Prelude.{map, slice_set, if◌then◌else◌}
 use Rattle.std.proofs.Math.Seq.{take-length}
 use Rattle.std.proofs.lemmas.Bool.{le-leb, lt-leb}
 use Rattle.std.proofs.lemmas.List.{drop-drop, drop-set-lt, length-map, map-append, take-append-drop, take_more, take_more_set}
-use Rattle.plural_exports.specs.Results.{filled}
+use Rattle.plural_exports.specs.Results.{filled_buffer}
 
 -- the entries below a place, once one more is written
 pub front_more : (entry : ℕ → ℕ) (numbers out : List ℕ) (k y : ℕ) → k < length numbers → k < length out
@@ -35,9 +35,9 @@ all_written entry numbers out old k front behind all =
     ∙ ap (λ (l : List ℕ). l ++ drop (length numbers) out) (whole.0 ∙ ap (map entry) (take-length numbers))
     ∙ ap (λ (l : List ℕ). map entry numbers ++ l) whole.1
 
--- a buffer with room for them is filled by them
+-- a buffer with room for them is filled_buffer by them
 pub filled_all : (entry : ℕ → ℕ) (numbers old new : List ℕ) → length numbers ≤ length old
-    → new ≡ map entry numbers ++ drop (length numbers) old → new ≡ filled (map entry numbers) old
+    → new ≡ map entry numbers ++ drop (length numbers) old → new ≡ filled_buffer (map entry numbers) old
 filled_all entry numbers old new room written =
     written
     ∙ ap (λ (n : ℕ). map entry numbers ++ drop n old) (sym (length-map numbers entry))
@@ -45,7 +45,7 @@ filled_all entry numbers old new room written =
     (sym (le-leb (length (map entry numbers)) (length old) (omega (arith, room, length-map numbers entry))))
 
 -- one without room stays as it is
-pub filled_none : (entry : ℕ → ℕ) (numbers old : List ℕ) → length old < length numbers → old ≡ filled (map entry numbers) old
+pub filled_none : (entry : ℕ → ℕ) (numbers old : List ℕ) → length old < length numbers → old ≡ filled_buffer (map entry numbers) old
 filled_none entry numbers old short =
     ap (λ t. if t then (map entry numbers ++ drop (length (map entry numbers)) old) else old)
     (sym (lt-leb (length (map entry numbers)) (length old) (omega (arith, short, length-map numbers entry))))

@@ -3,7 +3,7 @@ use Rattle.std.proofs.Common.{◌≡◌, ℕ, ◌-◌, ◌≤◌, ◌<◌, ◌++
 use Rattle.std.proofs.Common.{refl, subst, sym, ap, ◌∙◌, arith}
 use Rattle.std.proofs.lemmas.List.{append-nil, append_assoc, map-append, take_all}
 use Rattle.message_format.specs.declared.arguments.Argument as arguments
-use Rattle.message_format.specs.FormatArguments.{Argument, named_value_view, arguments_view}
+use Rattle.message_format.specs.FormatArguments.{Argument, named_value_view, named_values_view}
 use Rattle.plural_exports.specs.GivenArguments.{AreArguments, ReadsArgument}
 use Rattle.plural_exports.specs.declared.arguments.GivenArgument.{GivenArgument}
 use Rattle.plural_exports.specs.declared.fault.Fault.{Fault}
@@ -33,12 +33,12 @@ headed (g ∷ given) d n h e = ap (λ (l : List GivenArgument). g ∷ l) (sym (t
 pub goes_on : (given : List GivenArgument) (read new : List arguments.Argument) (left rest : List GivenArgument) (first : GivenArgument)
     (x : arguments.Argument)
     → left ≡ first ∷ rest → ReadsArgument first (Ok (named_value_view x)) → new ≡ read ++ (x ∷ [])
-    → IsReadBefore given (arguments_view read) left → IsReadBefore given (arguments_view new) rest
+    → IsReadBefore given (named_values_view read) left → IsReadBefore given (named_values_view new) rest
 goes_on given read new left rest first x parts one pushed before (Ok others) is =
     subst (λ (all : List Argument). AreArguments given (Ok all))
-    (sym (ap (λ (l : List arguments.Argument). arguments_view l ++ others) pushed
+    (sym (ap (λ (l : List arguments.Argument). named_values_view l ++ others) pushed
     ∙ ap (λ (l : List Argument). l ++ others) (map-append named_value_view read (x ∷ []))
-    ∙ append_assoc (arguments_view read) (named_value_view x ∷ []) others))
+    ∙ append_assoc (named_values_view read) (named_value_view x ∷ []) others))
     (before (Ok (named_value_view x ∷ others))
     (subst (λ (l : List GivenArgument). AreArguments l (Ok (named_value_view x ∷ others))) (sym parts)
     (Ok (named_value_view x), one, inl (Ok others, is, refl))))

@@ -15,17 +15,16 @@ use Rattle.plural_exports.specs.declared.fault.Fault.{Fault}
 use Rattle.plural_exports.specs.declared.fault.Fault.TheVariants as fault
 use Rattle.plural_exports.specs.GivenArguments.{AreArguments}
 use Rattle.plural_exports.specs.GivenBytes.{ReadsRules}
-use Rattle.plural_exports.specs.GivenCatalogs.{FindsBlock}
-use Rattle.plural_exports.specs.GivenPatterns.{ReadsPatternBlock, ReadsPatternText}
+use Rattle.plural_exports.specs.GivenPatterns.{FindsBlock, ReadsPatternBlock, ReadsPatternText}
 use Rattle.plural_documents.specs.Steps.{Then}
 
 -- what the pattern says, or the first fault of an argument; or memory ran out
-abbrev pub IsSaid : TwoRules → List Part → List Argument → Result (List ℕ) Fault → Type 0
-IsSaid rules parts arguments (Ok text) = PatternSays arguments rules parts (Said text)
-IsSaid rules parts arguments (Err (fault.Argument kind)) =
+abbrev pub IsPatternSaid : TwoRules → List Part → List Argument → Result (List ℕ) Fault → Type 0
+IsPatternSaid rules parts arguments (Ok text) = PatternSays arguments rules parts (Said text)
+IsPatternSaid rules parts arguments (Err (fault.Argument kind)) =
     (name : List ℕ) × PatternSays arguments rules parts (Faulty kind name)
-IsSaid rules parts arguments (Err fault.Memory) = Unit {0}
-IsSaid rules parts arguments (Err _) = ⊥
+IsPatternSaid rules parts arguments (Err fault.Memory) = Unit {0}
+IsPatternSaid rules parts arguments (Err _) = ⊥
 
 -- both rules
 abbrev pub rules_of_both : FiveRules → FiveRules → TwoRules
@@ -37,7 +36,7 @@ IsReadAndSaid Reads cardinal ordinal arguments =
     Then (ReadsRules cardinal) (λ five.
     Then (ReadsRules ordinal) (λ others.
     Then Reads (λ parts.
-    Then (AreArguments arguments) (IsSaid (rules_of_both five others) parts))))
+    Then (AreArguments arguments) (IsPatternSaid (rules_of_both five others) parts))))
 
 abbrev pub IsPatternFormatted : List ℕ → List ℕ → List ℕ → List GivenArgument → Result (List ℕ) Fault → Type 0
 IsPatternFormatted cardinal ordinal pattern arguments = IsReadAndSaid (ReadsPatternText pattern) cardinal ordinal arguments

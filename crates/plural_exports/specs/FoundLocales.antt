@@ -11,7 +11,7 @@ use Rattle.plural_fallback.specs.LocalesJson.{keys_under, parent_in, part_name}
 use Rattle.plural_fallback.specs.declared.first_key.TheConstants.{MOST_LOCALES}
 use Rattle.plural_fallback.specs.declared.locales.Part.{Part}
 use Rattle.plural_fallback.specs.declared.locales.Part.TheVariants.{Cardinal, Ordinal, Ranges}
-use Rattle.plural_exports.specs.GivenBytes.{ReadsText}
+use Rattle.plural_exports.specs.GivenBytes.{ReadsTextBytes}
 use Rattle.plural_exports.specs.GivenDocuments.{ReadsJson}
 use Rattle.plural_exports.specs.declared.fault.Fault.{Fault}
 use Rattle.plural_exports.specs.declared.fault.Fault.TheVariants.{RuleType, Locale}
@@ -24,13 +24,13 @@ abbrev pub ReadsPart : ℕ → Result Part Fault → Type 0
 ReadsPart n answer = answer ≡ part_numbered n
 
 -- the key of the locale after n steps of the chain, by the parents of the same document
-abbrev pub key_after : Part → Data → List ℕ → ℕ → Option (List ℕ)
-key_after part value locale = key_at (keys_under (part_name part) value) (next_of (parent_in value)) locale
+abbrev pub key_after_steps : Part → Data → List ℕ → ℕ → Option (List ℕ)
+key_after_steps part value locale = key_at (keys_under (part_name part) value) (next_of (parent_in value)) locale
 
 -- the first key of the chain, or there is none
 abbrev pub HasKeyAt : Part → List ℕ → Data → Result (List ℕ) Fault → Type 0
-HasKeyAt part locale value (Ok key) = IsFirstKey MOST_LOCALES (key_after part value locale) key
-HasKeyAt part locale value (Err fault) = NoneBefore MOST_LOCALES (key_after part value locale) × (fault ≡ Locale)
+HasKeyAt part locale value (Ok key) = IsFirstKey MOST_LOCALES (key_after_steps part value locale) key
+HasKeyAt part locale value (Err fault) = NoneBefore MOST_LOCALES (key_after_steps part value locale) × (fault ≡ Locale)
 
 abbrev pub IsKeyIn : List ℕ → List ℕ → ℕ → Result (List ℕ) Fault → Type 0
-IsKeyIn bytes locale n = Then (ReadsPart n) (λ part. Then (ReadsText locale) (λ text. Then (ReadsJson bytes) (HasKeyAt part text)))
+IsKeyIn bytes locale n = Then (ReadsPart n) (λ part. Then (ReadsTextBytes locale) (λ text. Then (ReadsJson bytes) (HasKeyAt part text)))

@@ -6,7 +6,7 @@ use Rattle.message_format.specs.FormatArguments.{Argument, Value, Number, Text}
 use Rattle.plural_exports.specs.declared.arguments.GivenArgument.{GivenArgument}
 use Rattle.plural_exports.specs.declared.fault.Fault.{Fault}
 use Rattle.plural_exports.specs.declared.fault.Fault.TheVariants.{Memory, ArgumentKind}
-use Rattle.plural_exports.specs.GivenBytes.{ReadsText}
+use Rattle.plural_exports.specs.GivenBytes.{ReadsTextBytes}
 use Rattle.plural_documents.specs.Steps.{Then}
 
 -- a text as a value: 0 is the kind of numbers, 1 that of texts
@@ -23,8 +23,8 @@ IsNamed name value answer = answer ≡ Ok (record { name = name; value = value }
 -- the argument: its name, then the text of its value, then its kind
 abbrev pub ReadsArgument : GivenArgument → Result Argument Fault → Type 0
 ReadsArgument given =
-    Then (ReadsText given.name.now) (λ name.
-    Then (ReadsText given.value.now) (λ text.
+    Then (ReadsTextBytes given.name.now) (λ name.
+    Then (ReadsTextBytes given.value.now) (λ text.
     Then (HasKind given.kind text) (IsNamed name)))
 
 -- an argument before others

@@ -1,7 +1,7 @@
 -- What the bytes that are passed mean, or their fault.
 --     ReadsRules bytes answer      the rules of a block (docs/FORMATS.md)
 --     ReadsElements bytes answer      the elements of packed bytes (docs/FORMATS.md)
---     ReadsText bytes answer      the text
+--     ReadsTextBytes bytes answer      the text
 --     ReadsNumberBytes bytes answer      the number that a text writes within the limits
 --         (docs/NUMBERS.md)
 use Rattle.std.specs.Prelude.{◌≡◌, ℕ, ◌≤◌, ◌<◌, List, length, Result, Ok, Err}
@@ -31,9 +31,9 @@ ReadsElements bytes (Ok elements) = ElementsBytes elements bytes
 ReadsElements bytes (Err e) = (fault : ElementsBytesError) × (e ≡ Elements fault) × HasElementsFault bytes fault
 
 -- the bytes are a text, or aren't UTF-8
-abbrev pub ReadsText : List ℕ → Result (List ℕ) Fault → Type 0
-ReadsText bytes (Ok text) = IsUtf8 bytes × (text ≡ bytes)
-ReadsText bytes (Err fault) = (fault ≡ Utf8) × ¬ (IsUtf8 bytes)
+abbrev pub ReadsTextBytes : List ℕ → Result (List ℕ) Fault → Type 0
+ReadsTextBytes bytes (Ok text) = IsUtf8 bytes × (text ≡ bytes)
+ReadsTextBytes bytes (Err fault) = (fault ≡ Utf8) × ¬ (IsUtf8 bytes)
 
 -- why a text gives no number: it is out of form, or what it writes is over a limit; or neither, and
 -- memory ran out for a text of more than 16 bytes
@@ -50,4 +50,4 @@ WritesNumber text (Err fault) = IsGivenNumberFault text fault
 
 -- the number of bytes that are a text
 abbrev pub ReadsNumberBytes : List ℕ → Result CompactNumber Fault → Type 0
-ReadsNumberBytes bytes = Then (ReadsText bytes) WritesNumber
+ReadsNumberBytes bytes = Then (ReadsTextBytes bytes) WritesNumber

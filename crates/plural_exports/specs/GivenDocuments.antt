@@ -16,7 +16,7 @@ use Rattle.icu_plurals.specs.ElementsJson.{packed_of_json}
 use Rattle.icu_plurals.specs.FiveRules.{FiveRules}
 use Rattle.icu_plurals.specs.PackedElements.{PackedElements, ElementsBytes}
 use Rattle.plural_documents.specs.Inputs.{json_of}
-use Rattle.plural_exports.specs.GivenBytes.{ReadsText}
+use Rattle.plural_exports.specs.GivenBytes.{ReadsTextBytes}
 use Rattle.plural_exports.specs.GivenTexts.{PackRules}
 use Rattle.plural_documents.specs.Steps.{Then}
 use Rattle.plural_exports.specs.declared.fault.Fault.{Fault}
@@ -66,7 +66,7 @@ HasRulesFor bytes locale type =
 -- the block of these rules
 abbrev pub AreRulesIn : List ℕ → List ℕ → ℕ → Result (List ℕ) Fault → Type 0
 AreRulesIn bytes locale n =
-    Then (ReadsType n) (λ type. Then (ReadsText locale) (λ text. Then (HasRulesFor bytes text type) PackRules))
+    Then (ReadsType n) (λ type. Then (ReadsTextBytes locale) (λ text. Then (HasRulesFor bytes text type) PackRules))
 
 -- ---- Elements
 

@@ -6,7 +6,7 @@ use Rattle.std.specs.Prelude.{◌≡◌, ℕ, ◌≤◌, ◌<◌, List, length, 
 use Rattle.icu_plurals.specs.ListBytes.{has_high_start}
 use Rattle.message_pattern.specs.PatternAnswers.{HasPatternFault, IsPattern}
 use Rattle.message_pattern.specs.PatternParts.{Part}
-use Rattle.packed_pattern.specs.PackedParts.{items_of}
+use Rattle.packed_pattern.specs.PackedParts.{part_items_of}
 use Rattle.packed_pattern.specs.PartOrder.{before_all, first_misplaced}
 use Rattle.packed_pattern.specs.PatternBlocks.{PatternBlock, HasBlockFault, first_unpackable}
 use Rattle.packed_pattern.specs.declared.error.BlockError.{BlockError}
@@ -15,6 +15,11 @@ use Rattle.packed_pattern.specs.declared.error.PackPatternError.TheVariants as p
 use Rattle.plural_documents.specs.Steps.{Then}
 use Rattle.plural_exports.specs.declared.fault.Fault.{Fault}
 use Rattle.plural_exports.specs.declared.fault.Fault.TheVariants as fault
+use Rattle.std.specs.Str.Iter.{HasSubslice}
+use Rattle.message_catalog.specs.CatalogMessages.{Message, MessageBlock}
+use Rattle.message_catalog.specs.MessageFaults.{HasMessageFault}
+use Rattle.message_catalog.specs.declared.error.MessageCatalogError.{MessageCatalogError}
+use Rattle.packed_catalog.specs.CatalogBytes.{CatalogBytes, Entry, value_under}
 
 -- the pattern that a text is, or its first fault; or memory ran out
 abbrev pub ReadsPatternText : List ℕ → Result (List Part) Fault → Type 0
@@ -39,7 +44,7 @@ HasNoBlock parts (packing.Order place) =
     (length parts ≤ 65535) × (first_unpackable 0 parts ≡ None) × (first_misplaced 0 before_all parts ≡ Some place)
 HasNoBlock parts packing.StartLimit =
     (length parts ≤ 65535) × (first_unpackable 0 parts ≡ None) × (first_misplaced 0 before_all parts ≡ None)
-    × IsTrue (has_high_start (items_of parts))
+    × IsTrue (has_high_start (part_items_of parts))
 HasNoBlock parts packing.Memory = ⊥
 
 -- the reason that parts have no block; or they have one, and memory ran out
@@ -56,3 +61,17 @@ PacksParts parts (Err e) = IsPartsFault parts e
 -- the block of a text's pattern
 abbrev pub IsPatternPacked : List ℕ → Result (List ℕ) Fault → Type 0
 IsPatternPacked text = Then (ReadsPatternText text) PacksParts
+
+-- ---- the catalogue of messages that bytes are, and the block under a key
+
+-- the messages that the bytes are the catalogue of, or their fault
+abbrev pub ReadsCatalogBytes : List ℕ → Result (List Message) Fault → Type 0
+ReadsCatalogBytes bytes (Ok messages) = MessageBlock messages bytes
+ReadsCatalogBytes bytes (Err e) = (reason : MessageCatalogError) × (e ≡ fault.Catalog reason) × HasMessageFault bytes reason
+
+-- what bytes that are a catalogue have under a key; in any, a block stands in the bytes
+abbrev pub FindsBlock : List ℕ → List ℕ → Result (List ℕ) Fault → Type 0
+FindsBlock bytes key (Ok block) =
+    HasSubslice bytes block × ((entries : List Entry) → CatalogBytes entries bytes → value_under key entries ≡ Some block)
+FindsBlock bytes key (Err fault.NoKey) = (entries : List Entry) → CatalogBytes entries bytes → value_under key entries ≡ None
+FindsBlock bytes key (Err _) = ⊥

@@ -11,7 +11,7 @@ use Rattle.icu_plurals.specs.declared.provider.PluralRanges.{PluralRanges}
 use Rattle.icu_plurals.specs.Categories.{place_of}
 use Rattle.icu_plurals.specs.DocumentJson.{Rows, found}
 use Rattle.icu_plurals.specs.Ranges.{resolved}
-use Rattle.plural_exports.specs.GivenBytes.{ReadsText}
+use Rattle.plural_exports.specs.GivenBytes.{ReadsTextBytes}
 use Rattle.plural_exports.specs.GivenDocuments.{MeansMaps, ReadsJson}
 use Rattle.plural_documents.specs.Steps.{Then}
 use Rattle.plural_exports.specs.declared.fault.Fault.{Fault}
@@ -51,4 +51,4 @@ IsRangeTable ranges (Ok bytes) = bytes ≡ table_bytes ranges
 IsRangeTable ranges (Err fault) = fault ≡ Memory
 
 abbrev pub AreRangesIn : List ℕ → List ℕ → Result (List ℕ) Fault → Type 0
-AreRangesIn bytes locale = Then (ReadsText locale) (λ text. Then (HasRangesFor bytes text) IsRangeTable)
+AreRangesIn bytes locale = Then (ReadsTextBytes locale) (λ text. Then (HasRangesFor bytes text) IsRangeTable)

@@ -1,6 +1,4 @@
 -- No definitions of the subject: what private calls return.
 pub mod Conversions
 pub mod GivenResults
-pub mod GivenMaps
 pub mod UnderRules
-pub mod KeptTexts

@@ -9,7 +9,6 @@ pub mod GivenElements
 pub mod NumberAnswers
 pub mod GivenArguments
 pub mod GivenPatterns
-pub mod GivenCatalogs
 pub mod PackedDocuments
 pub mod FormattedPatterns
 pub mod RulesCategories

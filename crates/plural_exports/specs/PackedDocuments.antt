@@ -6,7 +6,7 @@ use Rattle.std.specs.Prelude.{◌≡◌, ◌≢◌, ◌⊎◌, ℕ, List, Option
 use Rattle.std.specs.Borrow.{Bor}
 use Rattle.std.specs.Result.{result_map_both}
 use Rattle.catalog_commands.specs.DocumentPatterns.{HasPatternsFault, IsPacked}
-use Rattle.catalog_commands.specs.LocaleMessages.{OneLocale, messages_in, patterns_in}
+use Rattle.catalog_commands.specs.LocaleMessages.{OneLocale, locale_messages_in, patterns_in}
 use Rattle.catalog_commands.specs.declared.fault.PatternsFault.TheVariants.{Catalog, Message, NoObject, NoText}
 use Rattle.icu_plurals.specs.declared.JsonError.TheVariants.{Shape}
 use Rattle.message_catalog.specs.declared.error.TextFault.TheVariants as text
@@ -21,7 +21,7 @@ use Rattle.serde_json.specs.Find.{as_object}
 -- the messages of the locale that is named, or of the only one
 abbrev pub HasMessages : Option (List ℕ) → Data → Result Data Fault → Type 0
 HasMessages named document answer =
-    answer ≡ result_map_both (λ (one : OneLocale). one.messages) fault.Messages (messages_in named document)
+    answer ≡ result_map_both (λ (one : OneLocale). one.messages) fault.Messages (locale_messages_in named document)
 
 -- the patterns among the messages of a locale
 abbrev pub HasPatterns : Data → Result Data Fault → Type 0

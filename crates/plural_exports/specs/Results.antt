@@ -16,12 +16,12 @@ abbrev pub Answered : {A : Type 0} → (Result A Fault → Type 0) → (A → �
 Answered {A} Is number result = (answer : Result A Fault) × Is answer × (result ≡ number_told number answer)
 
 -- the buffer with the bytes at its front, or unchanged if they don't fit
-abbrev pub filled : List ℕ → List ℕ → List ℕ
-filled bytes old = if nat_le (length bytes) (length old) then bytes ++ drop (length bytes) old else old
+abbrev pub filled_buffer : List ℕ → List ℕ → List ℕ
+filled_buffer bytes old = if nat_le (length bytes) (length old) then bytes ++ drop (length bytes) old else old
 
 -- bytes are written if they fit, and their length is returned; at a fault nothing is written
 abbrev pub IsToldWritten : List ℕ → List ℕ → ℤ → Result (List ℕ) Fault → Type 0
-IsToldWritten old new result (Ok bytes) = (result ≡ pos (length bytes)) × (new ≡ filled bytes old)
+IsToldWritten old new result (Ok bytes) = (result ≡ pos (length bytes)) × (new ≡ filled_buffer bytes old)
 IsToldWritten old new result (Err fault) = (result ≡ fault_number fault) × (new ≡ old)
 
 -- some answer is right, and it is written so

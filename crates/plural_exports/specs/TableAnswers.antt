@@ -13,7 +13,7 @@ use Rattle.icu_plurals.specs.CategoryTables.{IsTableOf, TableTells}
 use Rattle.icu_plurals.specs.FiveRules.{FiveRules, first_category}
 use Rattle.icu_plurals.specs.Operands.{of_whole}
 use Rattle.icu_plurals.specs.PackedTruth.{packed_truth}
-use Rattle.plural_exports.specs.GivenBytes.{ReadsRules, ReadsText}
+use Rattle.plural_exports.specs.GivenBytes.{ReadsRules, ReadsTextBytes}
 use Rattle.plural_exports.specs.NumberAnswers.{category_number}
 use Rattle.plural_documents.specs.Steps.{Then}
 use Rattle.plural_exports.specs.declared.fault.Fault.{Fault}
@@ -37,17 +37,17 @@ IsToldByTable table n (Ok told) = (length table ≡ 236) × TableTells table n t
 IsToldByTable table n (Err fault) = (fault ≡ TableLength) × ¬ (length table ≡ 236)
 
 -- the number that the digits of a text write, before which a plus may stand
-abbrev pub whole_of : List ℕ → ℕ
-whole_of text = digits_value 10 (without_leading_plus text)
+abbrev pub whole_of_text : List ℕ → ℕ
+whole_of_text text = digits_value 10 (without_leading_plus text)
 
 -- the text writes a whole number of 64 bits
 abbrev pub WritesWhole : List ℕ → Type 0
-WritesWhole text = IsNumeral 10 (without_leading_plus text) × (whole_of text < 2 ^ 64)
+WritesWhole text = IsNumeral 10 (without_leading_plus text) × (whole_of_text text < 2 ^ 64)
 
 -- what is told of a text: that of the number, if it writes one
 abbrev pub IsToldOfText : List ℕ → List ℕ → Result (Option PluralCategory) Fault → Type 0
 IsToldOfText table text (Ok told) =
-    (WritesWhole text × TableTells table (whole_of text) told × IsToldOfRules table (whole_of text) told)
+    (WritesWhole text × TableTells table (whole_of_text text) told × IsToldOfRules table (whole_of_text text) told)
     ⊎ (¬ (WritesWhole text) × (told ≡ None))
 IsToldOfText table text (Err fault) = ⊥
 
@@ -57,7 +57,7 @@ ReadsTable bytes (Ok table) = (length bytes ≡ 236) × (table ≡ bytes)
 ReadsTable bytes (Err fault) = (fault ≡ TableLength) × ¬ (length bytes ≡ 236)
 
 abbrev pub IsTextToldByTable : List ℕ → List ℕ → Result (Option PluralCategory) Fault → Type 0
-IsTextToldByTable bytes given = Then (ReadsTable bytes) (λ table. Then (ReadsText given) (IsToldOfText table))
+IsTextToldByTable bytes given = Then (ReadsTable bytes) (λ table. Then (ReadsTextBytes given) (IsToldOfText table))
 
 -- the number of a category, or 6 if the rules have to be asked
 abbrev pub told_number : Option PluralCategory → ℤ

@@ -1,6 +1,6 @@
 //! The arguments of a pattern.
 
-ghost use Rattle.message_format.specs.FormatArguments.{named_value_view, arguments_view, value_view};
+ghost use Rattle.message_format.specs.FormatArguments.{named_value_view, named_values_view, value_view};
 ghost use Rattle.plural_exports.specs.GivenArguments.{AreArguments, HasKind, ReadsArgument};
 ghost use Rattle.plural_exports.specs.Inner.GivenResults.{GivesSeen};
 
@@ -26,7 +26,7 @@ pub(crate) fn arguments_in<'a>(
     alloc: Global,
     given: &[GivenArgument<'a>],
 ) -> Result<Vec<Argument<'a>>, Fault>
-    ensures { GivesSeen (λ arguments. arguments_view arguments.items) (AreArguments given.now) result }
+    ensures { GivesSeen (λ arguments. named_values_view arguments.items) (AreArguments given.now) result }
 {
     let mut arguments = Vec::new(alloc);
     let mut left = given;

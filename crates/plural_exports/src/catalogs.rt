@@ -2,7 +2,7 @@
 
 ghost use Rattle.std.specs.Prelude.{pos};
 ghost use Rattle.plural_exports.specs.FormattedPatterns.{IsCatalogSaid};
-ghost use Rattle.plural_exports.specs.GivenCatalogs.{FindsBlock, ReadsCatalog};
+ghost use Rattle.plural_exports.specs.GivenPatterns.{FindsBlock, ReadsCatalogBytes};
 ghost use Rattle.plural_exports.specs.Inner.GivenResults.{GivesSeen};
 ghost use Rattle.plural_exports.specs.Results.{Answered, Written};
 
@@ -16,7 +16,7 @@ use std::alloc::Global;
 
 /// Returns 0 if the bytes are a catalogue of messages, else their fault. It allocates nothing.
 pub fn catalog_check(catalog: &[u8]) -> i32
-    ensures { Answered (ReadsCatalog catalog.now) (λ _. pos 0) result }
+    ensures { Answered (ReadsCatalogBytes catalog.now) (λ _. pos 0) result }
 {
     match catalog_in(catalog) {
         Ok(_) => 0,
@@ -50,7 +50,7 @@ pub fn catalog_say(
 
 // The messages of a catalogue, borrowed from it.
 fn catalog_in(bytes: &[u8]) -> Result<MessageCatalog<'_>, Fault>
-    ensures { ReadsCatalog bytes.now result }
+    ensures { ReadsCatalogBytes bytes.now result }
 {
     Ok(MessageCatalog::parse_bytes(bytes)?)
 }

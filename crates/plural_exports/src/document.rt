@@ -5,8 +5,7 @@ ghost use Rattle.serde_json.specs.View.{view};
 ghost use Rattle.icu_plurals.specs.FiveRules.{rules_of};
 ghost use Rattle.icu_plurals.specs.DocumentJson.{rows_for};
 ghost use Rattle.plural_exports.specs.GivenDocuments.{HasRulesAt, ReadsJson, type_numbered};
-ghost use Rattle.plural_exports.specs.Inner.GivenMaps.{HasMapsFor};
-ghost use Rattle.plural_exports.specs.Inner.GivenResults.{GivesSeen};
+ghost use Rattle.plural_exports.specs.Inner.GivenResults.{HasMapsFor, GivesSeen};
 
 use crate::fault::Fault;
 use icu_plurals::provider::PluralRulesData;

@@ -4,9 +4,7 @@ ghost use Rattle.std.specs.Prelude.{◌≡◌};
 ghost use Rattle.icu_plurals.specs.Elements.{each_by};
 ghost use Rattle.icu_plurals.specs.PackedElements.{packed_of, plain_value};
 ghost use Rattle.plural_exports.specs.GivenElements.{AreElementsFrom, ArePackedAs, CanBePacked, HasElementsFrom, eight};
-ghost use Rattle.plural_exports.specs.Inner.GivenResults.{lent_eight};
-ghost use Rattle.plural_exports.specs.Inner.GivenResults.{GivesSeen};
-ghost use Rattle.plural_exports.specs.Inner.KeptTexts.{kept_texts};
+ghost use Rattle.plural_exports.specs.Inner.GivenResults.{lent_eight, GivesSeen, kept_texts};
 ghost use Rattle.plural_exports.specs.Results.{Written};
 
 use crate::buffer::put;

@@ -1,7 +1,7 @@
 //! What the bytes that are passed mean.
 
 ghost use Rattle.icu_plurals.specs.Inner.ElementsViews.{lent_elements};
-ghost use Rattle.plural_exports.specs.GivenBytes.{ReadsElements, ReadsNumberBytes, ReadsRules, ReadsText, WritesNumber};
+ghost use Rattle.plural_exports.specs.GivenBytes.{ReadsElements, ReadsNumberBytes, ReadsRules, ReadsTextBytes, WritesNumber};
 ghost use Rattle.plural_exports.specs.Inner.GivenResults.{GivesSeen};
 
 use crate::fault::Fault;
@@ -27,7 +27,7 @@ pub(crate) fn elements_in(bytes: &[u8]) -> Result<PluralElementsPackedULE<'_>, F
 
 // The text.
 pub(crate) fn text_in(bytes: &[u8]) -> Result<&str, Fault>
-    ensures { GivesSeen (λ text. text.now) (ReadsText bytes.now) result }
+    ensures { GivesSeen (λ text. text.now) (ReadsTextBytes bytes.now) result }
 {
     match std::str::from_utf8(bytes) {
         Ok(text) => Ok(text),

@@ -6,7 +6,7 @@ ghost use Rattle.icu_plurals.specs.FiveRules.{first_category};
 ghost use Rattle.icu_plurals.specs.Operands.{of_whole};
 ghost use Rattle.icu_plurals.specs.PackedTruth.{packed_truth};
 ghost use Rattle.plural_exports.specs.NumberAnswers.{AreCategoriesOfIntegers};
-ghost use Rattle.plural_exports.specs.Results.{Written, filled};
+ghost use Rattle.plural_exports.specs.Results.{Written, filled_buffer};
 
 use crate::given::rules_in;
 use crate::ranges::number_of;
@@ -58,7 +58,7 @@ impl<'data> ManyAsked for AskedRules<'data> {
 // Writes the categories at the front of the buffer, if they fit, and returns how many they are.
 fn put_categories<R: ManyAsked + Drop>(mut rules: R, numbers: &[u64], out: &mut [u8]) -> i64
     ensures told { result ≡ pos (length numbers.now) }
-    ensures written { out.new ≡ filled (map (integer_entry (R.rules rules)) numbers.now) out.old }
+    ensures written { out.new ≡ filled_buffer (map (integer_entry (R.rules rules)) numbers.now) out.old }
 {
     let count = numbers.len();
     let room = out.len();

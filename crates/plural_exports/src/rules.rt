@@ -9,7 +9,7 @@ ghost use Rattle.plural_documents.specs.Steps.{Then};
 ghost use Rattle.plural_exports.specs.GivenDocuments.{AreRulesIn, HasRulesAt};
 ghost use Rattle.icu_plurals.specs.RuleTexts.{lent_texts};
 ghost use Rattle.plural_exports.specs.GivenTexts.{AreRulesFrom, GiveRules, PackRules, ReadsGiven, ReadsTexts};
-ghost use Rattle.plural_exports.specs.Inner.GivenResults.{GivesSeen, lent_bytes};
+ghost use Rattle.plural_exports.specs.Inner.GivenResults.{GivesSeen, lent_five};
 ghost use Rattle.plural_exports.specs.Results.{Answered, Written};
 
 use crate::buffer::put;
@@ -117,7 +117,7 @@ fn packed_for(
 
 // The block of the rules of five texts.
 fn rules_of_texts(alloc: Global, texts: &Five<&[u8]>) -> Result<Vec<u8>, Fault>
-    ensures { GivesSeen (λ block. block.items) (AreRulesFrom (lent_bytes texts.now)) result }
+    ensures { GivesSeen (λ block. block.items) (AreRulesFrom (lent_five texts.now)) result }
 {
     match given_texts(texts) {
         Ok(given) => packed_texts(alloc, &given),
@@ -137,7 +137,7 @@ fn packed_texts(alloc: Global, texts: &Five<Option<&str>>) -> Result<Vec<u8>, Fa
 
 // The texts that have any byte.
 pub(crate) fn given_texts<'a>(texts: &Five<&'a [u8]>) -> Result<Five<Option<&'a str>>, Fault>
-    ensures { GivesSeen lent_texts (ReadsTexts (lent_bytes texts.now)) result }
+    ensures { GivesSeen lent_texts (ReadsTexts (lent_five texts.now)) result }
 {
     Ok(make_five!(Five, texts, |text| given(*text)?))
 }

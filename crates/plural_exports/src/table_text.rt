@@ -1,7 +1,7 @@
 //! What a table of categories tells of a text.
 
 ghost use Rattle.plural_documents.specs.Steps.{Then};
-ghost use Rattle.plural_exports.specs.GivenBytes.{ReadsText};
+ghost use Rattle.plural_exports.specs.GivenBytes.{ReadsTextBytes};
 ghost use Rattle.plural_exports.specs.Results.{Answered};
 ghost use Rattle.plural_exports.specs.TableAnswers.{IsTextToldByTable, IsToldOfText, told_number};
 
@@ -37,7 +37,7 @@ fn told_of_given(table: &[u8], text: &[u8]) -> Result<Option<PluralCategory>, Fa
 // The same of a table.
 #[inline(always)]
 fn told_of_text(table: &CategoryTable, text: &[u8]) -> Result<Option<PluralCategory>, Fault>
-    ensures { Then (ReadsText text.now) (IsToldOfText table.now) result }
+    ensures { Then (ReadsTextBytes text.now) (IsToldOfText table.now) result }
 {
     let text = text_in(text)?;
     match text.parse::<u64>() {

@@ -2,8 +2,7 @@
 use Rattle.std.proofs.Common.{◌≡◌, ℕ, List, Result, Ok, Err, refl, sym, ◌∙◌, ap, subst}
 use Rattle.std.specs.Cow.{cow_str_bytes}
 use Rattle.plural_queries.specs.LookupAnswers.{AnswersFrom}
-use Rattle.plural_queries.specs.RunFaults.{run_origin}
-use Rattle.plural_queries.specs.CallAnswers.{GivesAnswer, GivesRunFault, GivesText, GivesValue, Text}
+use Rattle.plural_queries.specs.CallAnswers.{run_origin, GivesAnswer, GivesRunFault, GivesAnswerText, GivesValue, Text}
 use Rattle.plural_documents.proofs.InputLemmas as faults
 use Rattle.plural_documents.specs.Steps.{After, HasNoFault, Then, ◌>>=◌}
 use Rattle.plural_queries.specs.declared.error.RunError.{RunError}
@@ -93,7 +92,7 @@ after value x next y there e = rw there e
 
 -- if no value is given, its fault is the answer
 pub nothing_given : {A : Type 0} (IsText : A → List ℕ → Type 0) (given : Result A RunError) (e : RunError) (r : Result Text RunError)
-    → r ≡ Err e → GivesRunFault (λ fault. given ≡ Err fault) e → GivesText (AnswersFrom IsText given) r
+    → r ≡ Err e → GivesRunFault (λ fault. given ≡ Err fault) e → GivesAnswerText (AnswersFrom IsText given) r
 nothing_given IsText given e r is h =
     rw is (mapped (λ fault. given ≡ Err fault) (λ fault. AnswersFrom IsText given (Err fault)) (λ fault there. rw there refl) e h)
 
@@ -103,7 +102,7 @@ no_fault_of_text bytes fault h = cc
 
 -- a text for the given value is the answer
 pub line_given : {A : Type 0} (IsText : A → List ℕ → Type 0) (given : Result A RunError) (x : A) (bytes : List ℕ) (r : Result Text RunError)
-    → given ≡ Ok x → IsText x bytes → GivesValue cow_str_bytes (Ok bytes) r → GivesText (AnswersFrom IsText given) r
+    → given ≡ Ok x → IsText x bytes → GivesValue cow_str_bytes (Ok bytes) r → GivesAnswerText (AnswersFrom IsText given) r
 line_given IsText given x bytes (Ok text) there is h = let same : bytes ≡ cow_str_bytes text = cc in rw there (subst (IsText x) same is)
 line_given IsText given x bytes (Err e) there is h =
     mapped (λ fault. Ok bytes ≡ Err fault) (λ fault. AnswersFrom IsText given (Err fault))

@@ -13,8 +13,8 @@ use Rattle.plural_queries.specs.Input.{RuledElements, WholeDocument, document_of
 use Rattle.plural_queries.specs.Input.{ranged_for, ruled_with, rules_for}
 use Rattle.plural_queries.specs.Lines.{AreRuleLines, IsCategoryLine, IsElementLine, IsMessageLine, IsRangeLine}
 use Rattle.plural_queries.specs.Queries.{Lookup, number_category, range_category, printed_rules, number_element, number_message}
-use Rattle.plural_queries.specs.CallAnswers.{GivesRunFault, GivesText, Text}
-use Rattle.plural_queries.specs.KeptDocuments.{HaveElements, HaveWanted, Serves, keeps, locale_of}
+use Rattle.plural_queries.specs.CallAnswers.{GivesRunFault, GivesAnswerText, Text}
+use Rattle.plural_queries.specs.KeptDocuments.{HaveElements, HaveWanted, ServesLookup, keeps_elements, locale_of}
 use Rattle.plural_queries.specs.declared.document.ElementsSieve.{ElementsSieve}
 use Rattle.plural_queries.specs.declared.error.RunError.{RunError}
 use Rattle.plural_queries.proofs.Faults.{mapped, no_error, same_error}
@@ -30,11 +30,11 @@ use Rattle.serde_json.specs.Find.{get, get_member}
 
 -- ---- Elements
 
-all_kept : (value : Option Data) → option_and_then (outline keeps portion.Whole) value ≡ value
+all_kept : (value : Option Data) → option_and_then (outline keeps_elements portion.Whole) value ≡ value
 all_kept None = refl
 all_kept (Some value) = refl
 
-elements_in : (sieve : ElementsSieve) (whole part : Data) → outline keeps (portion.Members sieve) whole ≡ Some part
+elements_in : (sieve : ElementsSieve) (whole part : Data) → outline keeps_elements (portion.Members sieve) whole ≡ Some part
     → HaveElements part whole
 elements_in sieve null part is = ap (get (codes "elements")) (sym (some_is null part is))
 elements_in sieve (boolean b) part is = ap (get (codes "elements")) (sym (some_is (boolean b) part is))
@@ -42,11 +42,11 @@ elements_in sieve (number n) part is = ap (get (codes "elements")) (sym (some_is
 elements_in sieve (string s) part is = ap (get (codes "elements")) (sym (some_is (string s) part is))
 elements_in sieve (array items) part is = ap (get (codes "elements")) (sym (some_is (array items) part is))
 elements_in sieve (object ms) part is =
-    ap (get (codes "elements")) (sym (some_is (object (outline_members keeps sieve ms)) part is))
-    ∙ found_kept ElementsSieve keeps sieve (codes "elements") ms ∙ all_kept (get_member (codes "elements") ms)
+    ap (get (codes "elements")) (sym (some_is (object (outline_members keeps_elements sieve ms)) part is))
+    ∙ found_kept ElementsSieve keeps_elements sieve (codes "elements") ms ∙ all_kept (get_member (codes "elements") ms)
 
 -- the outline has the elements of what is held
-pub elements_kept : (sieve : ElementsSieve) (text : HeldText) (part : Data) → IsOutlineOf keeps sieve text part
+pub elements_kept : (sieve : ElementsSieve) (text : HeldText) (part : Data) → IsOutlineOf keeps_elements sieve text part
     → (held : Data) → IsHeld text held → HaveElements part held
 elements_kept sieve text part (whole, is_held, outlined) held is_other =
     elements_in sieve whole part outlined ∙ ap (get (codes "elements")) (held_same text whole held is_held is_other)
@@ -87,7 +87,7 @@ wanted (number_message locale type x word) value held same = same
 
 -- the answer of what is kept
 pub serves : (lookup : Lookup) (held : Data) (maps : Maps) (part : WholeDocument) → part.maps ≡ of_locale (locale_of lookup) maps
-    → HaveWanted lookup part.value held → Serves lookup (record { value = held; maps = maps }) part
+    → HaveWanted lookup part.value held → ServesLookup lookup (record { value = held; maps = maps }) part
 serves (number_category locale type x) held maps part is wanted answer h =
     subst (λ given. AnswersFrom (IsCategoryLine x) given answer) (rules_kept held maps locale part is type) h
 serves (range_category locale type x y) held maps part is wanted answer h =
@@ -131,6 +131,6 @@ maps_there value locale (Err refusal) some is = absurd (no_error (sym is))
 
 -- a text that is the answer to one is that to another
 pub answer_mapped : (P Q : Result (List ℕ) RunError → Type 0) → ((answer : Result (List ℕ) RunError) → P answer → Q answer)
-    → (r : Result Text RunError) → GivesText P r → GivesText Q r
+    → (r : Result Text RunError) → GivesAnswerText P r → GivesAnswerText Q r
 answer_mapped P Q f (Ok text) h = f (Ok (cow_str_bytes text)) h
 answer_mapped P Q f (Err e) h = mapped (λ fault. P (Err fault)) (λ fault. Q (Err fault)) (λ fault. f (Err fault)) e h

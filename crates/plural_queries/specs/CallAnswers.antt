@@ -8,20 +8,34 @@ use Rattle.plural_queries.specs.Commands.{Command}
 use Rattle.plural_queries.specs.QueryViews.{query_view}
 use Rattle.plural_queries.specs.NumberWords.{ReadsNumberWord, IsNumberOf}
 use Rattle.plural_queries.specs.Queries.{AsksDocument, CommandAsks, Query, of_document, truth}
-use Rattle.plural_queries.specs.RunFaults.{run_origin}
-use Rattle.plural_documents.specs.Inputs.{GivesBy, GivesByReading, IsFaultOf}
+use Rattle.plural_documents.specs.Inputs.{GivesBy, GivesByReading, IsFaultOfOrigin, Origin, from_reader, from_length, from_writer, from_memory, from_answer}
 use Rattle.plural_documents.specs.Steps.{HasNoFault}
 use Rattle.plural_queries.specs.declared.error.RunError.{RunError}
-use Rattle.plural_queries.specs.declared.error.RunError.TheVariants.{Read, Memory, TooLong}
+use Rattle.plural_queries.specs.declared.error.RunError.TheVariants.{Read, Memory, TooLong, Usage, Write}
 use Rattle.plural_queries.specs.declared.query.Query.{Query as CodeQuery}
 use Rattle.plural_documents.specs.declared.InputError.{InputError}
 use Rattle.plural_documents.specs.declared.InputError.TheVariants as cause
+
+-- ---- the faults of the program: where they come from, and its exit status
+
+-- where a fault comes from; `IsRead` says what was read by then
+abbrev pub run_origin : RunError → Origin
+run_origin Read = from_reader
+run_origin TooLong = from_length
+run_origin Write = from_writer
+run_origin Memory = from_memory
+run_origin fault = from_answer
+
+-- the exit status of the program
+abbrev pub status_of : RunError → ℕ
+status_of Usage = 2
+status_of fault = 1
 
 -- ---- Results
 
 -- a fault of this kind, or out of memory; nothing is read or written
 abbrev pub GivesRunFault : (RunError → Type 0) → RunError → Type 0
-GivesRunFault IsFault fault = IsFaultOf (run_origin fault) (IsFault fault)
+GivesRunFault IsFault fault = IsFaultOfOrigin (run_origin fault) (IsFault fault)
 
 -- the result, in the words of the definitions, or out of memory
 abbrev pub GivesAnswer : {A B : Type 0} → (A → B) → (Result B RunError → Type 0) → Result A RunError → Type 0
@@ -37,10 +51,10 @@ GivesValue seen value = GivesAnswer seen (λ answer. value ≡ answer)
 abbrev pub Text : Type 0
 Text = CowStr Global
 
-abbrev pub GivesText : (Result (List ℕ) RunError → Type 0) → Result Text RunError → Type 0
-GivesText = GivesAnswer cow_str_bytes
+abbrev pub GivesAnswerText : (Result (List ℕ) RunError → Type 0) → Result Text RunError → Type 0
+GivesAnswerText = GivesAnswer cow_str_bytes
 
--- as `GivesText`, of a call that reads, and may fail at it
+-- as `GivesAnswerText`, of a call that reads, and may fail at it
 abbrev pub GivesTextAfterReading : (Result (List ℕ) RunError → Type 0) → Result Text RunError → Type 0
 GivesTextAfterReading = GivesByReading run_origin cow_str_bytes
 

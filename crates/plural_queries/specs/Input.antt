@@ -11,7 +11,7 @@ use Rattle.icu_plurals.specs.FiveRules.{FiveRules}
 use Rattle.icu_plurals.specs.PackedElements.{PackedElements}
 use Rattle.icu_plurals.specs.Providers.{WithRanges}
 use Rattle.plural_documents.specs.Inputs.{within_limit, json_of}
-use Rattle.plural_documents.specs.Steps.{◌>>=◌, or_fault}
+use Rattle.plural_documents.specs.Steps.{◌>>=◌, value_or_fault}
 use Rattle.plural_queries.specs.declared.error.RunError.{RunError}
 use Rattle.plural_queries.specs.declared.error.RunError.TheVariants.{TooLong, Json, Document as BadDocument, Locale}
 
@@ -35,7 +35,7 @@ document_of_value value = do
 
 -- the document of the bytes
 abbrev pub document_of : List ℕ → Result WholeDocument RunError
-document_of bytes = or_fault Json (json_of bytes) >>= document_of_value
+document_of bytes = value_or_fault Json (json_of bytes) >>= document_of_value
 
 -- the document of an input, whose length is checked first
 abbrev pub document_in : List ℕ → Result WholeDocument RunError
@@ -54,13 +54,13 @@ pub record RuledElements : Type 0 where
 
 -- the rules of a locale
 abbrev pub rules_for : PluralRuleType → List ℕ → WholeDocument → Result FiveRules RunError
-rules_for type locale document = or_fault Locale (found locale (rows_for type document.maps))
+rules_for type locale document = value_or_fault Locale (found locale (rows_for type document.maps))
 
 -- the rules of a locale, and its ranges
 abbrev pub ranged_for : PluralRuleType → List ℕ → WholeDocument → Result RangedRules RunError
 ranged_for type locale document = do
   rules ← rules_for type locale document
-  ranges ← or_fault Locale (found locale document.maps.ranges)
+  ranges ← value_or_fault Locale (found locale document.maps.ranges)
   Ok (record { rules = rules; ranges = ranges })
 
 -- a document without elements has another shape

@@ -11,7 +11,7 @@ use Rattle.plural_queries.specs.declared.error.RunError.{RunError}
 use Rattle.plural_queries.specs.declared.error.RunError.TheVariants.{Json}
 use Rattle.plural_documents.specs.Inputs.{json_of}
 use Rattle.plural_documents.specs.Outlines.{HeldText, IsHeld}
-use Rattle.plural_documents.specs.Steps.{or_fault}
+use Rattle.plural_documents.specs.Steps.{value_or_fault}
 use Rattle.plural_documents.specs.declared.Portion.{Portion}
 use Rattle.plural_documents.specs.declared.Portion.TheVariants as kept
 use Rattle.serde_json.specs.Data.{Data}
@@ -20,8 +20,8 @@ use Rattle.serde_json.specs.View.{view}
 use Rattle.serde_json.specs.declared.Value.{Value}
 
 -- the elements
-abbrev pub keeps : ElementsSieve → List ℕ → Portion ElementsSieve
-keeps sieve key = if bytes_eq key (codes "elements") then kept.Whole else kept.Nothing
+abbrev pub keeps_elements : ElementsSieve → List ℕ → Portion ElementsSieve
+keeps_elements sieve key = if bytes_eq key (codes "elements") then kept.Whole else kept.Nothing
 
 -- the locale that is asked for
 abbrev pub locale_of : Lookup → List ℕ
@@ -34,7 +34,7 @@ locale_of (number_message locale type x word) = locale
 -- the text of the bytes, which write a value
 abbrev pub GivesJsonText : List ℕ → Result HeldText RunError → Type 0
 GivesJsonText bytes (Ok text) = (value : Data) × IsHeld text value × (json_of bytes ≡ Some value)
-GivesJsonText bytes (Err e) = GivesRunFault (λ fault. or_fault Json (json_of bytes) ≡ Err fault) e
+GivesJsonText bytes (Err e) = GivesRunFault (λ fault. value_or_fault Json (json_of bytes) ≡ Err fault) e
 
 -- both have the same elements
 abbrev pub HaveElements : Data → Data → Type 0
@@ -54,10 +54,10 @@ GivesElements lookup text (Ok value) = (held : Data) → IsHeld text held → Ha
 GivesElements lookup text (Err e) = GivesRunFault (λ fault. ⊥) e
 
 -- what answers the query of a part answers that of the whole
-abbrev pub Serves : Lookup → WholeDocument → WholeDocument → Type 0
-Serves lookup whole part = (answer : Result (List ℕ) RunError) → AnswersLookup lookup part answer → AnswersLookup lookup whole answer
+abbrev pub ServesLookup : Lookup → WholeDocument → WholeDocument → Type 0
+ServesLookup lookup whole part = (answer : Result (List ℕ) RunError) → AnswersLookup lookup part answer → AnswersLookup lookup whole answer
 
 -- a document that serves as this one, or its fault
 abbrev pub GivesServing : Lookup → Result WholeDocument RunError → Result CodeDocument RunError → Type 0
-GivesServing lookup stands (Ok document) = (whole : WholeDocument) × (stands ≡ Ok whole) × Serves lookup whole (document_view document)
+GivesServing lookup stands (Ok document) = (whole : WholeDocument) × (stands ≡ Ok whole) × ServesLookup lookup whole (document_view document)
 GivesServing lookup stands (Err e) = GivesRunFault (λ fault. stands ≡ Err fault) e

@@ -4,10 +4,7 @@ pub mod Queries
 pub mod Input
 pub mod Lines
 pub mod LookupAnswers
-pub mod RunFaults
 -- what calls return, and of which values
 pub mod QueryViews
 pub mod CallAnswers
 pub mod KeptDocuments
--- not definitions of the subject
-pub mod Inner

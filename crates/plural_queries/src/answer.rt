@@ -1,6 +1,6 @@
 //! The answer to a query of a document.
 
-ghost use Rattle.plural_queries.specs.CallAnswers.{GivesText};
+ghost use Rattle.plural_queries.specs.CallAnswers.{GivesAnswerText};
 ghost use Rattle.plural_queries.specs.LookupAnswers.{AnswersLookup};
 ghost use Rattle.plural_queries.specs.QueryViews.{document_view, lookup_view};
 
@@ -26,7 +26,7 @@ pub fn text_of(
     document: &Document,
     lookup: &Lookup<'_>,
 ) -> Result<CowStr<'static>, RunError>
-    ensures { GivesText (AnswersLookup (lookup_view lookup.now) (document_view document.now)) result }
+    ensures { GivesAnswerText (AnswersLookup (lookup_view lookup.now) (document_view document.now)) result }
 {
     match lookup {
         Lookup::Category(locale, rule_type, number) => {

@@ -4,7 +4,7 @@ ghost use Rattle.icu_plurals.specs.Categories.{name_of};
 ghost use Rattle.std.specs.Prelude.{◌≡◌};
 ghost use Rattle.plural_queries.specs.LookupAnswers.{AnswersFrom};
 ghost use Rattle.plural_queries.specs.Input.{rules_for};
-ghost use Rattle.plural_queries.specs.CallAnswers.{GivesText};
+ghost use Rattle.plural_queries.specs.CallAnswers.{GivesAnswerText};
 ghost use Rattle.plural_queries.specs.QueryViews.{document_view};
 ghost use Rattle.plural_queries.specs.Lines.{IsCategoryLine, line};
 
@@ -20,7 +20,7 @@ pub(crate) fn category_line(
     rule_type: PluralRuleType,
     number: &CompactDecimal,
 ) -> Result<CowStr<'static>, RunError>
-    ensures { GivesText (AnswersFrom (IsCategoryLine number.now)
+    ensures { GivesAnswerText (AnswersFrom (IsCategoryLine number.now)
         (rules_for rule_type locale.now (document_view document.now))) result }
 {
     let rules = PluralRules::from_data(rules_for(document, locale, rule_type)?);

@@ -2,7 +2,7 @@
 
 ghost use Rattle.std.specs.Prelude.{◌≡◌, map, option_map};
 ghost use Rattle.plural_queries.specs.Commands.{command_of, of_two, of_three, of_four, type_of};
-ghost use Rattle.plural_queries.specs.Inner.PrivateViews.{command_view};
+ghost use Rattle.plural_queries.specs.QueryViews.{command_view};
 
 use icu_plurals::PluralRuleType;
 

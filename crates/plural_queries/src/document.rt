@@ -33,9 +33,9 @@ pub struct Document {
 struct ElementsSieve;
 
 impl Sieve for ElementsSieve {
-    ghost use Rattle.plural_queries.specs.KeptDocuments.{keeps};
+    ghost use Rattle.plural_queries.specs.KeptDocuments.{keeps_elements};
 
-    ghost keeps = { keeps };
+    ghost keeps = { keeps_elements };
 
     fn kept(&self, key: &str) -> Portion<ElementsSieve> {
         if key == "elements" {

@@ -5,8 +5,7 @@ ghost use Rattle.serde_json.specs.Find.{get};
 ghost use Rattle.serde_json.specs.View.{view};
 ghost use Rattle.plural_queries.specs.Input.{elements_at_key, elements_for, or_bad};
 ghost use Rattle.plural_queries.specs.CallAnswers.{GivesValue};
-ghost use Rattle.plural_queries.specs.QueryViews.{document_view};
-ghost use Rattle.plural_queries.specs.Inner.PrivateViews.{elements_view};
+ghost use Rattle.plural_queries.specs.QueryViews.{document_view, elements_view};
 
 use crate::document::{Document, rules_for};
 use crate::error::RunError;

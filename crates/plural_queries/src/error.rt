@@ -1,7 +1,6 @@
 //! Why the program fails.
 
-ghost use Rattle.plural_queries.specs.RunFaults.{status_of};
-ghost use Rattle.plural_queries.specs.CallAnswers.{input_fault};
+ghost use Rattle.plural_queries.specs.CallAnswers.{status_of, input_fault};
 ghost use Rattle.std.specs.Prelude.{◌≡◌};
 
 use icu_plurals::provider::rules::reference::ParseError;

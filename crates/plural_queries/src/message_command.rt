@@ -3,9 +3,8 @@
 ghost use Rattle.std.specs.Prelude.{Ok};
 ghost use Rattle.plural_queries.specs.LookupAnswers.{AnswersFrom};
 ghost use Rattle.plural_queries.specs.Input.{elements_for};
-ghost use Rattle.plural_queries.specs.CallAnswers.{GivesText};
-ghost use Rattle.plural_queries.specs.QueryViews.{document_view};
-ghost use Rattle.plural_queries.specs.Inner.PrivateViews.{elements_view};
+ghost use Rattle.plural_queries.specs.CallAnswers.{GivesAnswerText};
+ghost use Rattle.plural_queries.specs.QueryViews.{document_view, elements_view};
 ghost use Rattle.plural_queries.specs.Lines.{IsMessageLine};
 
 use crate::document::Document;
@@ -27,7 +26,7 @@ pub(crate) fn message_line(
     number: &CompactDecimal,
     word: &str,
 ) -> Result<CowStr<'static>, RunError>
-    ensures { GivesText (AnswersFrom (IsMessageLine number.now word.now)
+    ensures { GivesAnswerText (AnswersFrom (IsMessageLine number.now word.now)
         (elements_for rule_type locale.now (document_view document.now))) result }
 {
     let given = elements_for(alloc, document, locale, rule_type)?;
@@ -43,7 +42,7 @@ fn line_of(
     number: &CompactDecimal,
     word: &str,
 ) -> Result<CowStr<'static>, RunError>
-    ensures { GivesText (AnswersFrom (IsMessageLine number.now word.now) (Ok (elements_view given.now))) result }
+    ensures { GivesAnswerText (AnswersFrom (IsMessageLine number.now word.now) (Ok (elements_view given.now))) result }
 {
     let message = Message::new(given.elements.as_packed());
     match message.format_number(alloc, number, word, &given.rules) {

@@ -5,7 +5,7 @@ ghost use Rattle.icu_plurals.specs.Categories.{name_of};
 ghost use Rattle.icu_plurals.specs.FiveRules.{rules_of as data_of};
 ghost use Rattle.plural_queries.specs.LookupAnswers.{AnswersFrom};
 ghost use Rattle.plural_queries.specs.Input.{rules_for};
-ghost use Rattle.plural_queries.specs.CallAnswers.{GivesText};
+ghost use Rattle.plural_queries.specs.CallAnswers.{GivesAnswerText};
 ghost use Rattle.plural_queries.specs.QueryViews.{document_view};
 ghost use Rattle.plural_queries.specs.Lines.{AreRuleLines, rule_line, rule_lines};
 
@@ -24,7 +24,7 @@ pub(crate) fn rule_lines(
     locale: &str,
     rule_type: PluralRuleType,
 ) -> Result<CowStr<'static>, RunError>
-    ensures { GivesText (AnswersFrom AreRuleLines
+    ensures { GivesAnswerText (AnswersFrom AreRuleLines
         (rules_for rule_type locale.now (document_view document.now))) result }
 {
     let rules = rules_for(document, locale, rule_type)?;
@@ -35,7 +35,7 @@ pub(crate) fn rule_lines(
 
 // The lines of rules, as an answer.
 fn answer_of(alloc: Global, rules: &PluralRulesData<'_>) -> Result<CowStr<'static>, RunError>
-    ensures { GivesText (AnswersFrom AreRuleLines (Ok (data_of rules.now))) result }
+    ensures { GivesAnswerText (AnswersFrom AreRuleLines (Ok (data_of rules.now))) result }
 {
     match lines_of(alloc, rules) {
         Ok(lines) => Ok(CowStr::Owned(lines)),

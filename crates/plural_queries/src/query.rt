@@ -4,8 +4,7 @@ ghost use Rattle.std.specs.Prelude.{◌≡◌, ◌↔◌, Err, None, Some, map};
 ghost use Rattle.plural_queries.specs.Commands.{category, command_of, message, range, select, test};
 ghost use Rattle.plural_queries.specs.CallAnswers.{GivesQuery};
 ghost use Rattle.plural_queries.specs.KeptDocuments.{locale_of};
-ghost use Rattle.plural_queries.specs.Inner.PrivateViews.{command_view};
-ghost use Rattle.plural_queries.specs.QueryViews.{lookup_view};
+ghost use Rattle.plural_queries.specs.QueryViews.{command_view, lookup_view};
 ghost use Rattle.plural_queries.specs.Queries.{ReadingTakesMemory, TakesMemory};
 
 use crate::command::{Command, command_of};

@@ -2,7 +2,7 @@
 
 ghost use Rattle.plural_queries.specs.LookupAnswers.{AnswersFrom};
 ghost use Rattle.plural_queries.specs.Input.{ranged_for};
-ghost use Rattle.plural_queries.specs.CallAnswers.{GivesText};
+ghost use Rattle.plural_queries.specs.CallAnswers.{GivesAnswerText};
 ghost use Rattle.plural_queries.specs.QueryViews.{document_view};
 ghost use Rattle.plural_queries.specs.Lines.{IsRangeLine};
 
@@ -21,7 +21,7 @@ pub(crate) fn range_line(
     start: &CompactDecimal,
     end: &CompactDecimal,
 ) -> Result<CowStr<'static>, RunError>
-    ensures { GivesText (AnswersFrom (IsRangeLine start.now end.now)
+    ensures { GivesAnswerText (AnswersFrom (IsRangeLine start.now end.now)
         (ranged_for rule_type locale.now (document_view document.now))) result }
 {
     let ranged = ranged_for(document, locale, rule_type)?;

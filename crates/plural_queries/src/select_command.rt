@@ -2,7 +2,7 @@
 
 ghost use Rattle.plural_queries.specs.LookupAnswers.{AnswersFrom};
 ghost use Rattle.plural_queries.specs.Input.{elements_for};
-ghost use Rattle.plural_queries.specs.CallAnswers.{GivesText};
+ghost use Rattle.plural_queries.specs.CallAnswers.{GivesAnswerText};
 ghost use Rattle.plural_queries.specs.QueryViews.{document_view};
 ghost use Rattle.plural_queries.specs.Lines.{IsElementLine};
 
@@ -24,7 +24,7 @@ pub(crate) fn element_line(
     rule_type: PluralRuleType,
     number: &CompactDecimal,
 ) -> Result<CowStr<'static>, RunError>
-    ensures { GivesText (AnswersFrom (IsElementLine number.now)
+    ensures { GivesAnswerText (AnswersFrom (IsElementLine number.now)
         (elements_for rule_type locale.now (document_view document.now))) result }
 {
     // Within the exactness bound the element is that of the number itself.

@@ -2,7 +2,7 @@
 
 ghost use Rattle.std.specs.Prelude.{pos};
 ghost use Rattle.plural_exports.specs.FormattedPatterns.{IsCatalogSaid};
-ghost use Rattle.plural_exports.specs.GivenCatalogs.{ReadsCatalog};
+ghost use Rattle.plural_exports.specs.GivenPatterns.{ReadsCatalogBytes};
 ghost use Rattle.plural_exports.specs.PackedDocuments.{IsCatalogPacked};
 ghost use Rattle.plural_exports.specs.Results.{Answered, Written};
 
@@ -32,7 +32,7 @@ pub extern "C" fn plurals_catalog_pack(
 /// Returns 0 if the bytes are a catalogue of messages, else their fault. It allocates nothing.
 #[unsafe(no_mangle)]
 pub extern "C" fn plurals_catalog_check(catalog: &[u8]) -> i32
-    ensures { Answered (ReadsCatalog catalog.now) (λ _. pos 0) result }
+    ensures { Answered (ReadsCatalogBytes catalog.now) (λ _. pos 0) result }
 {
     plural_exports::catalog_check(catalog)
 }

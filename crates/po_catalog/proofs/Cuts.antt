@@ -3,8 +3,8 @@ use Rattle.std.proofs.Common.{◌≡◌, ◌+◌, ◌<◌, ◌≤◌, ◌==◌, 
 use Rattle.std.specs.Borrow.{Bor}
 use Rattle.std.proofs.lemmas.List.{append-nil, drop_all, take_all, take_more}
 use Rattle.std.proofs.Math.Seq.{drop-cons}
-use Rattle.po_catalog.specs.FileLines.{begun_with, cut_at, first_begun_with, lines_left, lines_of, numbered}
-use Rattle.po_catalog.specs.Inner.LineViews.{bytes_left, cut_view, left_view}
+use Rattle.po_catalog.specs.FileLines.{begun_with, cut_at, first_line_begun_with, lines_left, lines_of, numbered}
+use Rattle.po_catalog.specs.Inner.LineViews.{file_bytes_left, cut_view, left_view}
 
 -- bytes before a text that is cut
 abbrev pub behind : List ℕ → List ℕ × Option (List ℕ) → List ℕ × Option (List ℕ)
@@ -56,10 +56,10 @@ cut_nowhere byte s k le =
 pub first_line : (s : List ℕ) → lines_of s ≡ (cut_at 10 s).0 ∷ lines_left (cut_at 10 s).1
 first_line [] = refl
 first_line (b ∷ s) =
-    elim (b == 10) as (λ (t : Bool). (if t then [] ∷ lines_of s else first_begun_with b (lines_of s))
+    elim (b == 10) as (λ (t : Bool). (if t then [] ∷ lines_of s else first_line_begun_with b (lines_of s))
     ≡ (if t then at_once s else begun_with b (cut_at 10 s)).0 ∷ lines_left (if t then at_once s else begun_with b (cut_at 10 s)).1) [
       | true ↦ refl
-      | false ↦ ap (first_begun_with b) (first_line s)
+      | false ↦ ap (first_line_begun_with b) (first_line s)
     ]
 
 -- the first line is taken, and the next one has the next number
@@ -75,6 +75,6 @@ next_view now n left rest cut view is e =
 
 -- the number of the next line fits where that of the line before it did
 pub next_fits : (n limit : ℕ) (rest : List ℕ) (after : Option (Bor (List ℕ))) → IfSome after (λ s. length s.now < length rest)
-    → n + (length rest + 1) < limit → n + 1 + bytes_left after < limit
+    → n + (length rest + 1) < limit → n + 1 + file_bytes_left after < limit
 next_fits n limit rest None h fits = omega arith
 next_fits n limit rest (Some s) h fits = omega (arith, h)

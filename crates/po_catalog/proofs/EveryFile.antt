@@ -7,19 +7,19 @@ use Rattle.po_catalog.specs.declared.front.Keyword.{Keyword}
 use Rattle.po_catalog.specs.declared.front.Keyword.TheVariants.{Domain, Context, Id, PluralId, Form}
 use Rattle.po_catalog.specs.Drafts.{PoDraft, PoField, all_ended, behind_empty, behind_line, comment_checked, empty_draft, ended_at_comment, flags_read, keyword_read, line_checked, passed_over, unknown_read, with_field}
 use Rattle.po_catalog.specs.FileLines.{lines_of, numbered}
-use Rattle.po_catalog.specs.Fronts.{PoFront, Nothing, Word, Mark, Unknown, behind_digit, closed_index, digit_of, first_digit, form_at, form_front, form_with_index, front_at, front_of, index_front, keyword_front, second_digit, word_front}
+use Rattle.po_catalog.specs.Fronts.{PoFront, Nothing, Word, Mark, Unknown, behind_digit, closed_index, index_digit_of, first_digit, form_at, form_front, form_with_index, front_at, front_of, index_front, catalog_keyword_front, second_digit, word_front}
 use Rattle.po_catalog.specs.LineKinds.{PoLine, Empty, Comment, Fields, line_of}
-use Rattle.po_catalog.specs.PoBytes.{behind_run, is_of_word, is_white, run_front}
+use Rattle.po_catalog.specs.PoBytes.{behind_catalog_run, is_of_keyword, is_white, catalog_run_front}
 use Rattle.po_catalog.specs.Quoted as quoted
 use Rattle.po_catalog.specs.Quoted.{Breaks, Said, End, Byte, Says, byte_of_letter, code_front, digit_value, escape_front, hexadecimal, hexadecimal_code, letter_or_code, octal, of_byte, said_code, said_front}
 use Rattle.po_catalog.specs.ReadCatalogs.{EveryFileIsACatalog, ReadsFields, ReadsLine, ReadsLines, behind_mark, catalog_at, longer, next_line, no_line}
 use Rattle.po_catalog.specs.ReadCatalogs.{ends, unknown, fits, stray_keyword, goes_on, breaks, stray_text, empty, comment, fields}
 
-behind_run_within : (is_such : ℕ → Bool) (s : List ℕ) → length (behind_run is_such s) ≤ length s
+behind_run_within : (is_such : ℕ → Bool) (s : List ℕ) → length (behind_catalog_run is_such s) ≤ length s
 behind_run_within is_such [] = omega arith
 behind_run_within is_such (b ∷ s) =
-    let more : length (behind_run is_such s) ≤ length s = behind_run_within is_such s in
-    elim (is_such b) as (λ (v : Bool). length (if v then behind_run is_such s else b ∷ s) ≤ length (b ∷ s)) [
+    let more : length (behind_catalog_run is_such s) ≤ length s = behind_run_within is_such s in
+    elim (is_such b) as (λ (v : Bool). length (if v then behind_catalog_run is_such s else b ∷ s) ≤ length (b ∷ s)) [
       | true ↦ omega (arith, more)
       | false ↦ omega arith
     ]
@@ -84,13 +84,13 @@ code_front_within b s =
 behind_digit_within : (first : ℕ) (s : List ℕ) → length (behind_digit first s).1 ≤ length s
 behind_digit_within first [] = omega arith
 behind_digit_within first (b ∷ s) =
-    elim (digit_of b) as (λ (o : Option ℕ). length (second_digit first o b s).1 ≤ length (b ∷ s))
+    elim (index_digit_of b) as (λ (o : Option ℕ). length (second_digit first o b s).1 ≤ length (b ∷ s))
     [ None ↦ omega arith | Some second ↦ omega arith ]
 
 index_within : (s : List ℕ) → CodeWithin (index_front s) (length s)
 index_within [] = tt
 index_within (b ∷ s) =
-    elim (digit_of b) as (λ (o : Option ℕ). CodeWithin (first_digit o s) (length (b ∷ s))) [
+    elim (index_digit_of b) as (λ (o : Option ℕ). CodeWithin (first_digit o s) (length (b ∷ s))) [
       | None ↦ tt
       | Some first ↦ omega (arith, behind_digit_within first s)
     ]
@@ -169,14 +169,14 @@ closed_within index (b ∷ s) =
 form_with_index_within : (i : Option (ℕ × List ℕ)) (n : ℕ) → CodeWithin i n → FrontWithin (form_with_index i) n
 form_with_index_within None n h = tt
 form_with_index_within (Some (index, s)) n h =
-    front_weaker (closed_index index (behind_run is_white s)) (length (behind_run is_white s)) n
+    front_weaker (closed_index index (behind_catalog_run is_white s)) (length (behind_catalog_run is_white s)) n
     (omega (arith, h, behind_run_within is_white s))
-    (closed_within index (behind_run is_white s))
+    (closed_within index (behind_catalog_run is_white s))
 
 form_at_within : (t rest : List ℕ) → length t ≤ length rest → FrontWithin (form_at t rest) (length rest)
 form_at_within [] rest le = omega arith
 form_at_within (b ∷ s) rest le =
-    let inner = behind_run is_white s in
+    let inner = behind_catalog_run is_white s in
     elim (b == 91) as (λ (v : Bool). FrontWithin (if v then form_with_index (index_front inner) else Word (Form None) rest) (length rest)) [
       | true ↦ form_with_index_within (index_front inner) (length rest)
           (code_weaker (index_front inner) (length inner) (length rest) (omega (arith, le, behind_run_within is_white s))
@@ -220,7 +220,7 @@ form_within word rest =
     else (if bytes_eq word (codes "msgid_plural") then Word PluralId rest
     else (if bytes_eq word (codes "msgctxt") then Word Context rest
     else (if bytes_eq word (codes "domain") then Word Domain rest else Unknown UnknownWord)))) (length rest)) [
-      | true ↦ form_at_within (behind_run is_white rest) rest
+      | true ↦ form_at_within (behind_catalog_run is_white rest) rest
           (behind_run_within is_white rest)
       | false ↦ plural_within word rest
     ]
@@ -244,11 +244,11 @@ keyword_within word rest =
 word_within : (b : ℕ) (s : List ℕ) → FrontWithin (word_front (b ∷ s)) (length s)
 unfolding word_front
 word_within b s =
-    elim (is_of_word b) as (λ (v : Bool). FrontWithin
-    (keyword_front (if v then b ∷ run_front is_of_word s else []) (if v then behind_run is_of_word s else b ∷ s)) (length s)) [
-      | true ↦ front_weaker (keyword_front (b ∷ run_front is_of_word s) (behind_run is_of_word s)) (length (behind_run is_of_word s))
-          (length s) (behind_run_within is_of_word s)
-          (keyword_within (b ∷ run_front is_of_word s) (behind_run is_of_word s))
+    elim (is_of_keyword b) as (λ (v : Bool). FrontWithin
+    (catalog_keyword_front (if v then b ∷ catalog_run_front is_of_keyword s else []) (if v then behind_catalog_run is_of_keyword s else b ∷ s)) (length s)) [
+      | true ↦ front_weaker (catalog_keyword_front (b ∷ catalog_run_front is_of_keyword s) (behind_catalog_run is_of_keyword s)) (length (behind_catalog_run is_of_keyword s))
+          (length s) (behind_run_within is_of_keyword s)
+          (keyword_within (b ∷ catalog_run_front is_of_keyword s) (behind_catalog_run is_of_keyword s))
       | false ↦ tt
     ]
 
@@ -266,7 +266,7 @@ front_at_within (b ∷ t) n le =
 
 front_within : (s : List ℕ) (n : ℕ) → length s ≤ suc n → FrontWithin (front_of s) n
 unfolding front_of
-front_within s n le = front_at_within (behind_run is_white s) n (omega (arith, le, behind_run_within is_white s))
+front_within s n le = front_at_within (behind_catalog_run is_white s) n (omega (arith, le, behind_run_within is_white s))
 
 front_nothing : front_of [] ≡ Nothing
 unfolding front_of

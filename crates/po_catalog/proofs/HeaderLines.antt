@@ -8,40 +8,40 @@ use Rattle.std.proofs.lemmas.List.{drop_all}
 use Rattle.po_catalog.specs.declared.entry.Entry.{Entry}
 use Rattle.po_catalog.specs.Catalogs.{PoMessage, message_view}
 use Rattle.po_catalog.specs.FileLines.{cut_at, lines_left}
-use Rattle.po_catalog.specs.Headers.{field_in, first_value, is_header, value_in}
+use Rattle.po_catalog.specs.Headers.{field_in, first_field_value, is_header, value_in}
 use Rattle.po_catalog.specs.Inner.LineViews.{cut_view, left_view}
 use Rattle.po_catalog.proofs.Cuts.{first_line}
 
 -- the first line, and then the others
 field_step : (name rest : List ℕ) (cut : Bor (List ℕ) × Option (Bor (List ℕ))) → cut_view cut ≡ cut_at 10 rest
-    → field_in name rest ≡ option_or (value_in name cut.0.now) (first_value name (lines_left (left_view cut.1)))
+    → field_in name rest ≡ option_or (value_in name cut.0.now) (first_field_value name (lines_left (left_view cut.1)))
 field_step name rest cut e =
-    ap (first_value name) (first_line rest)
-    ∙ ap (λ (x : List ℕ × Option (List ℕ)). option_or (value_in name x.0) (first_value name (lines_left x.1))) (sym e)
+    ap (first_field_value name) (first_line rest)
+    ∙ ap (λ (x : List ℕ × Option (List ℕ)). option_or (value_in name x.0) (first_field_value name (lines_left x.1))) (sym e)
 
 pub field_here : (name rest whole value : List ℕ) (cut : Bor (List ℕ) × Option (Bor (List ℕ)))
     → field_in name rest ≡ field_in name whole → cut_view cut ≡ cut_at 10 rest
     → Some value ≡ value_in name cut.0.now → Some value ≡ field_in name whole
 field_here name rest whole value cut h e is =
-    ap (λ (o : Option (List ℕ)). option_or o (first_value name (lines_left (left_view cut.1)))) is ∙ (sym (field_step name rest cut e) ∙ h)
+    ap (λ (o : Option (List ℕ)). option_or o (first_field_value name (lines_left (left_view cut.1)))) is ∙ (sym (field_step name rest cut e) ∙ h)
 
 pub field_later : (name rest whole : List ℕ) (cut : Bor (List ℕ) × Option (Bor (List ℕ))) → field_in name rest ≡ field_in name whole
     → cut_view cut ≡ cut_at 10 rest
-    → None ≡ value_in name cut.0.now → first_value name (lines_left (left_view cut.1)) ≡ field_in name whole
+    → None ≡ value_in name cut.0.now → first_field_value name (lines_left (left_view cut.1)) ≡ field_in name whole
 field_later name rest whole cut h e none =
-    ap (λ (o : Option (List ℕ)). option_or o (first_value name (lines_left (left_view cut.1)))) none
+    ap (λ (o : Option (List ℕ)). option_or o (first_field_value name (lines_left (left_view cut.1)))) none
     ∙ (sym (field_step name rest cut e) ∙ h)
 
 -- no line follows, or further ones
 pub field_nowhere : (name whole : List ℕ) (after result : Option (Bor (List ℕ))) → result ≡ None → after ≡ None
-    → first_value name (lines_left (left_view after)) ≡ field_in name whole → option_copied result ≡ field_in name whole
+    → first_field_value name (lines_left (left_view after)) ≡ field_in name whole → option_copied result ≡ field_in name whole
 field_nowhere name whole after result none e h =
     ap (λ (o : Option (Bor (List ℕ))). option_copied o) none
-    ∙ (sym (ap (λ (o : Option (Bor (List ℕ))). first_value name (lines_left (left_view o))) e) ∙ h)
+    ∙ (sym (ap (λ (o : Option (Bor (List ℕ))). first_field_value name (lines_left (left_view o))) e) ∙ h)
 
 pub field_goes : (name whole : List ℕ) (after : Option (Bor (List ℕ))) (rest : Bor (List ℕ)) → after ≡ Some rest
-    → first_value name (lines_left (left_view after)) ≡ field_in name whole → field_in name rest.now ≡ field_in name whole
-field_goes name whole after rest e h = sym (ap (λ (o : Option (Bor (List ℕ))). first_value name (lines_left (left_view o))) e) ∙ h
+    → first_field_value name (lines_left (left_view after)) ≡ field_in name whole → field_in name rest.now ≡ field_in name whole
+field_goes name whole after rest e h = sym (ap (λ (o : Option (Bor (List ℕ))). first_field_value name (lines_left (left_view o))) e) ∙ h
 
 -- ---- the first header
 

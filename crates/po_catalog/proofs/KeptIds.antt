@@ -9,9 +9,9 @@ use Rattle.po_catalog.specs.declared.fault.Cause.TheVariants as cause
 use Rattle.po_catalog.specs.declared.front.Keyword.{Keyword}
 use Rattle.po_catalog.specs.declared.front.Keyword.TheVariants.{Domain, Context, Id, PluralId, Form}
 use Rattle.po_catalog.specs.Catalogs.{PoMessage, PoText}
-use Rattle.po_catalog.specs.Drafts.{PoDraft, PoField, all_ended, behind_empty, behind_line, comment_checked, differ, empty_draft, ended_at_comment, ended_before, ended_if_whole, ends_before, field_at, field_begun, field_ended, field_taken, flags_read, form_checked, form_place, has_no_form, keyword_of_message, keyword_read, line_checked, message_begun, message_ended, message_kept, next_form, noted, other_line, passed_over, place_of, placed, plural_place, text_checked, text_ended, texts_checked, told, told_other, unknown_read, with_field, with_text}
+use Rattle.po_catalog.specs.Drafts.{PoDraft, PoField, all_ended, behind_empty, behind_line, comment_checked, differ, empty_draft, ended_at_comment, ended_before, ended_if_whole, ends_before, field_at, field_begun, field_ended, field_taken, flags_read, form_checked, form_place, has_no_form, keyword_of_message, keyword_read, line_checked, message_begun, message_ended, message_kept, next_form, noted, other_line, passed_over, place_of_keyword, placed, plural_place, text_checked, text_ended, texts_checked, told, told_other, unknown_read, with_field, with_text}
 use Rattle.po_catalog.specs.Fronts.{PoFront}
-use Rattle.po_catalog.specs.KeptIds.{HaveId, IdsAreKept, SaysId, text_of}
+use Rattle.po_catalog.specs.KeptIds.{HaveId, IdsAreKept, SaysId, text_of_line}
 use Rattle.po_catalog.specs.LineKinds.{PoLine, Fields}
 use Rattle.po_catalog.specs.Quoted.{Says}
 use Rattle.po_catalog.specs.ReadCatalogs.{PoCatalog, ReadsFields, ReadsLine, ReadsLines, longer, next_line, no_line}
@@ -22,13 +22,13 @@ use Rattle.po_catalog.proofs.Sayings.{one_saying, said_of}
 -- ---- where the id is: with a message that was kept, with the one that is read, or in the text that is read
 
 abbrev Taken : ℕ → List ℕ → PoDraft → Type 0
-Taken n t d = (more : List ℕ) × (d.message.id ≡ Some (text_of n t more)) × (d.is_begun ≡ true)
+Taken n t d = (more : List ℕ) × (d.message.id ≡ Some (text_of_line n t more)) × (d.is_begun ≡ true)
 
 abbrev IsClosed : ℕ → List ℕ → PoDraft → Type 0
 IsClosed n t d = HaveId n t d.messages ⊎ Taken n t d
 
 abbrev IsOpen : ℕ → List ℕ → PoField → PoDraft → Type 0
-IsOpen n t field d = (more : List ℕ) × (field.place ≡ place.Id) × (field.text ≡ text_of n t more) × (d.is_begun ≡ true)
+IsOpen n t field d = (more : List ℕ) × (field.place ≡ place.Id) × (field.text ≡ text_of_line n t more) × (d.is_begun ≡ true)
 
 abbrev NotId : Place → Type 0
 NotId place.Nowhere = Unit {0}
@@ -301,7 +301,7 @@ form_elsewhere index m =
     elim (is_none m.id) as (λ (v : Bool). GoesElsewhere (if v then Err cause.FormWithoutId else next_form index m))
     [ true ↦ tt | false ↦ next_elsewhere index m ]
 
-goes_elsewhere : (k : Keyword) (m : PoMessage) → IsOtherKeyword k → GoesElsewhere (place_of k m)
+goes_elsewhere : (k : Keyword) (m : PoMessage) → IsOtherKeyword k → GoesElsewhere (place_of_keyword k m)
 goes_elsewhere Domain m h = tt
 goes_elsewhere Context m h = tt
 goes_elsewhere Id m h = absurd h
@@ -327,7 +327,7 @@ other_read n t l o k d other h =
     let e = ended_before o k (text_ended d) in
     let closed : IsClosed n t (keyword_of_message l o k e) =
     keyword_closed n t l o k e (ended_before_closed n t o k (text_ended d) (text_ended_closed n t d h)) in
-    begun_holds n t (place_of k (keyword_of_message l o k e).message) l (keyword_of_message l o k e)
+    begun_holds n t (place_of_keyword k (keyword_of_message l o k e).message) l (keyword_of_message l o k e)
     (goes_elsewhere k (keyword_of_message l o k e).message other) closed
 
 id_read : (n : ℕ) (t : List ℕ) (l : ℕ) (o : Bool) (d : PoDraft) → Holds n t d → Holds n t (keyword_read l o Id d).0
@@ -364,8 +364,8 @@ unknown_holds : (n : ℕ) (t : List ℕ) (d : PoDraft) → Holds n t d → Holds
 unfolding unknown_read
 unknown_holds n t d h = closed_passed n t (ended_if_whole (text_ended d)) (if_whole_closed n t (text_ended d) (text_ended_closed n t d h))
 
-longer_text : (n : ℕ) (t more text : List ℕ) (field : PoField) → field.text ≡ text_of n t more
-    → (longer text field).text ≡ text_of n t (more ++ text)
+longer_text : (n : ℕ) (t more text : List ℕ) (field : PoField) → field.text ≡ text_of_line n t more
+    → (longer text field).text ≡ text_of_line n t (more ++ text)
 longer_text n t more text field e =
     ap (λ (x : PoText). record x { bytes = x.bytes ++ text }) e
     ∙ ap (λ (bs : List ℕ). record { line = n; bytes = bs }) (append_assoc t more text)

@@ -2,7 +2,7 @@
 use Rattle.std.proofs.Common.{◌≡◌, ◌+◌, ◌==◌, ◌∙◌, ℕ, List, [], ◌∷◌, ◌++◌, Bool, true, false, All, refl, sym, ap, arith, inl, inr, if◌then◌else◌}
 use Rattle.std.proofs.lemmas.Bool.{cases_Bool}
 use Rattle.std.proofs.lemmas.List.Elements.{All-nil, All-cons, All-tail, All-same, All-weaker}
-use Rattle.po_catalog.specs.FileLines.{begun_with, cut_at, first_begun_with, lines_left, lines_of, newlines, numbered, NumbersCountNewlines}
+use Rattle.po_catalog.specs.FileLines.{begun_with, cut_at, first_line_begun_with, lines_left, lines_of, newlines, numbered, NumbersCountNewlines}
 use Rattle.po_catalog.proofs.Cuts.{at_once, first_line}
 
 -- a line of a text, with its number, where the first line has the number k
@@ -36,7 +36,7 @@ behind_byte b k s line e h =
 at_newline : (b k : ℕ) (s : List ℕ) → (b == 10) ≡ true → All (IsNumberedFrom (k + 1) s) (numbered (k + 1) (lines_of s))
     → All (IsNumberedFrom k (b ∷ s)) (numbered k (lines_of (b ∷ s)))
 at_newline b k s e h =
-    let whole : lines_of (b ∷ s) ≡ [] ∷ lines_of s = ap (λ (t : Bool). if t then [] ∷ lines_of s else first_begun_with b (lines_of s)) e in
+    let whole : lines_of (b ∷ s) ≡ [] ∷ lines_of s = ap (λ (t : Bool). if t then [] ∷ lines_of s else first_line_begun_with b (lines_of s)) e in
     let first : IsNumberedFrom k (b ∷ s) (k, []) = ([], b ∷ s, refl, omega arith) in
     All-same (IsNumberedFrom k (b ∷ s)) (numbered k (lines_of (b ∷ s))) ((k, []) ∷ numbered (k + 1) (lines_of s)) (ap (numbered k) whole)
     (All-cons (IsNumberedFrom k (b ∷ s)) (k, []) (numbered (k + 1) (lines_of s)) first
@@ -51,7 +51,7 @@ at_byte b k s e h =
     let later = lines_left (cut_at 10 s).1 in
     let front : (after : List ℕ) × (s ≡ line ++ after) = cut_front 10 s in
     let whole : lines_of (b ∷ s) ≡ (b ∷ line) ∷ later
-    = ap (λ (t : Bool). if t then [] ∷ lines_of s else first_begun_with b (lines_of s)) e ∙ ap (first_begun_with b) (first_line s) in
+    = ap (λ (t : Bool). if t then [] ∷ lines_of s else first_line_begun_with b (lines_of s)) e ∙ ap (first_line_begun_with b) (first_line s) in
     let first : IsNumberedFrom k (b ∷ s) (k, b ∷ line) = ([], front.0, ap (λ (t : List ℕ). b ∷ t) front.1, omega arith) in
     let rest : All (IsNumberedFrom k s) (numbered (k + 1) later)
     = All-tail (IsNumberedFrom k s) (k, line) (numbered (k + 1) later)

@@ -7,7 +7,7 @@ use Rattle.po_catalog.specs.Fronts.{PoFront, Nothing, Word, Mark, Unknown, front
 use Rattle.po_catalog.specs.LineKinds.{PoLine, Empty, Comment, Fields, line_of}
 use Rattle.po_catalog.specs.Quoted.{Breaks, Said, End, Byte, Says, at_once, later, said_front}
 use Rattle.po_catalog.specs.ReadCatalogs.{ReadsFields, ReadsLine, ReadsLines, longer, ends, unknown, fits, stray_keyword, goes_on, breaks, stray_text, empty, comment, fields}
-use Rattle.po_catalog.specs.ReadCatalogs.{HasOneReading, IsCatalog, PoCatalog, catalog_at, next_line, no_line}
+use Rattle.po_catalog.specs.ReadCatalogs.{FilesSayOneCatalog, IsCatalog, PoCatalog, catalog_at, next_line, no_line}
 use Rattle.po_catalog.proofs.Sayings.{IsText, broken_says, one_saying, said_of}
 
 -- ---- a text breaks at one place
@@ -143,5 +143,5 @@ one_reading {b = b} (next_line d next end n line lines h more) other =
 pub one_catalog : (file : List ℕ) (a b : PoCatalog) → IsCatalog file a → IsCatalog file b → a ≡ b
 one_catalog file a b h k = sym h.whole ∙ (ap (λ (d : PoDraft). catalog_at (all_ended d)) (one_reading h.read k.read) ∙ k.whole)
 
-pub one_reading_of_file : HasOneReading
+pub one_reading_of_file : FilesSayOneCatalog
 one_reading_of_file = λ file a b h k. one_catalog file a b h k

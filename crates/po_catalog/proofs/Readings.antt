@@ -14,7 +14,7 @@ use Rattle.po_catalog.specs.Drafts.{PoDraft, PoField, behind_empty, behind_line,
 use Rattle.po_catalog.specs.Fronts.{Nothing, Word, Mark, Unknown, front_of}
 use Rattle.po_catalog.specs.LineKinds.{Empty, Comment, Fields, line_of}
 use Rattle.po_catalog.specs.ReadCatalogs.{ReadsFields, ReadsLine, longer, ends, unknown, fits, stray_keyword, goes_on, breaks, stray_text, empty, comment, fields}
-use Rattle.po_catalog.specs.Inner.DraftViews.{GoesOnIn, ReadsTold, TakesFront, TakesText, TextGoesOn}
+use Rattle.po_catalog.specs.Inner.DraftViews.{GoesOnIn, ReadsTold, TakesFront, TakesFieldText, TextGoesOn}
 use Rattle.po_catalog.specs.Inner.QuotedViews.{GoesOn}
 
 -- a field of these parts
@@ -79,20 +79,20 @@ text_breaks n o start now next line rest text cause h e (inr (none, is, stray)) 
 
 -- a text with a fault is one that breaks
 pub text_taken : (line : List ℕ) (old new : PoDraft) (cause : Cause) (result : Result (Bor (List ℕ)) ReadError) (error : ReadError)
-    → TextGoesOn line old new result → result ≡ Err error → error ≡ Fault cause → TakesText old line new (Done (Some cause))
+    → TextGoesOn line old new result → result ≡ Err error → error ≡ Fault cause → TakesFieldText old line new (Done (Some cause))
 text_taken line old new cause result error goes is fault =
     let told : ReadError → Result (Bor (List ℕ)) ReadError = λ x. Err x in
     subst (λ (r : Result (Bor (List ℕ)) ReadError). TextGoesOn line old new r) (is ∙ ap told fault) goes
 
 -- what is read behind a text is read behind the line that begins with it
 quoted_here : (n : ℕ) (o : Bool) (old new : PoDraft) (line text : List ℕ) (it : Progress) → Mark text ≡ front_of line
-    → TakesText old text new it → TakesFront n o old line new it
+    → TakesFieldText old text new it → TakesFront n o old line new it
 quoted_here n o old new line text (Left after) e h = text_read n o old old new line line text after (λ end k. k) e h
 quoted_here n o old new line text (Done None) e h = absurd h
 quoted_here n o old new line text (Done (Some cause)) e h = text_breaks n o old old new line line text cause (λ end k. k) e h
 
 pub quoted_read : (n : ℕ) (o : Bool) (old new : PoDraft) (line text : List ℕ) (r : Result Progress AllocError) → Mark text ≡ front_of line
-    → IfOk r (λ it. TakesText old text new it) → IfOk r (λ it. TakesFront n o old line new it)
+    → IfOk r (λ it. TakesFieldText old text new it) → IfOk r (λ it. TakesFront n o old line new it)
 quoted_read n o old new line text (Ok it) e h = quoted_here n o old new line text it e h
 quoted_read n o old new line text (Err error) e h = tt
 

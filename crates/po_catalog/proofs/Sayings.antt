@@ -7,7 +7,7 @@ use Rattle.po_catalog.specs.declared.fault.Cause.{Cause}
 use Rattle.po_catalog.specs.declared.fault.ReadError.{ReadError}
 use Rattle.po_catalog.specs.declared.fault.ReadError.TheVariants.{Fault, Memory}
 use Rattle.po_catalog.specs.Quoted.{Breaks, Said, End, Byte, Says, at_once, ends, goes, fails, fails_later, later, said_front}
-use Rattle.po_catalog.specs.ReadTexts.{IsSaid, ReturnsText, ReadsExactly}
+use Rattle.po_catalog.specs.ReadTexts.{IsSaid, ReturnsText, ReadsTextExactly}
 use Rattle.po_catalog.specs.Inner.QuotedViews.{GoesOn}
 
 -- a byte before what is said
@@ -113,7 +113,7 @@ returns_fault line (Ok said) cause h k = absurd (subst (λ (r : Result (List ℕ
 returns_fault line (Err (Fault found)) cause h k = inl (ap (λ (r : Result (List ℕ × List ℕ) Cause). Err (error_of r)) (one_saying h k))
 returns_fault line (Err Memory) cause h k = inr refl
 
-pub exactly : (line : List ℕ) (result : Result (Vec ℕ × Bor (List ℕ)) ReadError) → IsSaid line result → ReadsExactly line result
+pub exactly : (line : List ℕ) (result : Result (Vec ℕ × Bor (List ℕ)) ReadError) → IsSaid line result → ReadsTextExactly line result
 exactly line result h = record {
   only = h;
   text = λ text rest k. returns_text line result text rest h k;
@@ -123,11 +123,11 @@ exactly line result h = record {
 -- a text of its own
 pub ok_said : (line old : List ℕ) (text : Vec ℕ) (rest : Bor (List ℕ)) → old ≡ []
     → (said : List ℕ) × (text.items ≡ old ++ said) × Says line (Ok (said, rest.now))
-    → ReadsExactly line (Ok (text, rest))
+    → ReadsTextExactly line (Ok (text, rest))
 ok_said line old text rest e h =
     exactly line (Ok (text, rest)) (subst (λ (t : List ℕ). Says line (Ok (t, rest.now))) (sym (h.1 ∙ ap (λ (t : List ℕ). t ++ h.0) e)) h.2)
 
-pub err_said : (line old new : List ℕ) (error : ReadError) → GoesOn line old new (Err error) → ReadsExactly line (Err error)
+pub err_said : (line old new : List ℕ) (error : ReadError) → GoesOn line old new (Err error) → ReadsTextExactly line (Err error)
 err_said line old new (Fault cause) h = exactly line (Err (Fault cause)) (broken_says h.2)
 err_said line old new Memory h = exactly line (Err Memory) tt
 

@@ -11,7 +11,7 @@ use Rattle.po_catalog.specs.declared.fault.Fault.{Fault}
 use Rattle.po_catalog.specs.declared.front.Keyword.{Keyword}
 use Rattle.po_catalog.specs.declared.front.Keyword.TheVariants.{Domain, Context, Id, PluralId, Form}
 use Rattle.po_catalog.specs.Catalogs.{PoMessage, PoText}
-use Rattle.po_catalog.specs.Flags.{flags_of}
+use Rattle.po_catalog.specs.PoBytes.{message_flags_of}
 
 -- ---- a message, and its texts
 
@@ -61,27 +61,27 @@ abbrev pub form_place : Option ℕ → PoMessage → Result Place Cause
 form_place index message = if is_none message.id then Err FormWithoutId else next_form index message
 
 -- where the text of the keyword goes, or why it doesn't fit
-abbrev pub place_of : Keyword → PoMessage → Result Place Cause
-place_of Domain message = Ok place.Nowhere
-place_of Context message = Ok place.Context
-place_of Id message = Ok place.Id
-place_of PluralId message = plural_place message
-place_of (Form index) message = form_place index message
+abbrev pub place_of_keyword : Keyword → PoMessage → Result Place Cause
+place_of_keyword Domain message = Ok place.Nowhere
+place_of_keyword Context message = Ok place.Context
+place_of_keyword Id message = Ok place.Id
+place_of_keyword PluralId message = plural_place message
+place_of_keyword (Form index) message = form_place index message
 
 -- ---- texts whose bytes are no UTF-8, as their escapes may make them
 
-abbrev pub is_other : PoText → Bool
-is_other text = not (is_utf8 text.bytes)
+abbrev pub is_text_of_other_bytes : PoText → Bool
+is_text_of_other_bytes text = not (is_utf8 text.bytes)
 
 -- the line of the text, if it is such a one
 abbrev pub line_if_other : Option PoText → Option ℕ
 line_if_other None = None
-line_if_other (Some text) = if is_other text then Some text.line else None
+line_if_other (Some text) = if is_text_of_other_bytes text then Some text.line else None
 
 -- the line of the first one of these
 abbrev pub first_other : List PoText → Option ℕ
 first_other [] = None
-first_other (text ∷ more) = if is_other text then Some text.line else first_other more
+first_other (text ∷ more) = if is_text_of_other_bytes text then Some text.line else first_other more
 
 -- the line of the first one of the message
 abbrev pub other_line : PoMessage → Option ℕ
@@ -96,7 +96,7 @@ abbrev pub with_comma : List ℕ → List ℕ
 with_comma flag = flag ++ 44 ∷ []
 
 abbrev pub with_flags : List ℕ → PoMessage → PoMessage
-with_flags comment message = record message { flags = message.flags ++ flat_map with_comma (flags_of comment) }
+with_flags comment message = record message { flags = message.flags ++ flat_map with_comma (message_flags_of comment) }
 
 -- ---- what is read up to some place
 
@@ -218,7 +218,7 @@ field_begun (Ok goes) line draft = (with_field (field_at goes line) draft, None)
 field_begun (Err cause) line draft = (with_field passed_over draft, if draft.message.is_faulty then None else Some cause)
 
 unfoldable pub placed : ℕ → Keyword → PoDraft → PoDraft × Option Cause
-placed line keyword draft = field_begun (place_of keyword draft.message) line draft
+placed line keyword draft = field_begun (place_of_keyword keyword draft.message) line draft
 
 -- behind a keyword of this line, and why it doesn't fit
 unfoldable pub keyword_read : ℕ → Bool → Keyword → PoDraft → PoDraft × Option Cause

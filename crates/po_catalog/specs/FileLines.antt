@@ -14,14 +14,14 @@ cut_at byte (b ∷ s) = if b == byte then ([], Some s) else begun_with b (cut_at
 -- ---- lines
 
 -- the first line goes on with a byte before it
-abbrev pub first_begun_with : ℕ → List (List ℕ) → List (List ℕ)
-first_begun_with b [] = []
-first_begun_with b (line ∷ lines) = (b ∷ line) ∷ lines
+abbrev pub first_line_begun_with : ℕ → List (List ℕ) → List (List ℕ)
+first_line_begun_with b [] = []
+first_line_begun_with b (line ∷ lines) = (b ∷ line) ∷ lines
 
 -- what stands before, between and behind the newlines of a file
 abbrev pub lines_of : List ℕ → List (List ℕ)
 lines_of [] = [] ∷ []
-lines_of (b ∷ s) = if b == 10 then [] ∷ lines_of s else first_begun_with b (lines_of s)
+lines_of (b ∷ s) = if b == 10 then [] ∷ lines_of s else first_line_begun_with b (lines_of s)
 
 -- each line with its number, which is one more than that of the line before it
 abbrev pub numbered : ℕ → List (List ℕ) → List (ℕ × List ℕ)

@@ -5,7 +5,7 @@ use Rattle.po_catalog.specs.declared.fault.Cause.{Cause}
 use Rattle.po_catalog.specs.declared.fault.Cause.TheVariants.{BadIndex, UnknownWord}
 use Rattle.po_catalog.specs.declared.front.Keyword.{Keyword}
 use Rattle.po_catalog.specs.declared.front.Keyword.TheVariants.{Domain, Context, Id, PluralId, Form}
-use Rattle.po_catalog.specs.PoBytes.{is_of_word, is_white, is_within, behind_run, run_front}
+use Rattle.po_catalog.specs.PoBytes.{is_of_keyword, is_white, is_within, behind_catalog_run, catalog_run_front}
 
 pub data PoFront : Type 0 where
   -- nothing more, or a comment
@@ -16,8 +16,8 @@ pub data PoFront : Type 0 where
   Mark : List ℕ → PoFront
   Unknown : Cause → PoFront
 
-abbrev pub digit_of : ℕ → Option ℕ
-digit_of b = if is_within 48 57 b then Some (b - 48) else None
+abbrev pub index_digit_of : ℕ → Option ℕ
+index_digit_of b = if is_within 48 57 b then Some (b - 48) else None
 
 -- a digit and the next one, if it is one, and what follows
 abbrev pub second_digit : ℕ → Option ℕ → ℕ → List ℕ → ℕ × List ℕ
@@ -26,7 +26,7 @@ second_digit first (Some second) b s = (first * 10 + second, s)
 
 abbrev pub behind_digit : ℕ → List ℕ → ℕ × List ℕ
 behind_digit first [] = (first, [])
-behind_digit first (b ∷ s) = second_digit first (digit_of b) b s
+behind_digit first (b ∷ s) = second_digit first (index_digit_of b) b s
 
 abbrev pub first_digit : Option ℕ → List ℕ → Option (ℕ × List ℕ)
 first_digit None s = None
@@ -35,7 +35,7 @@ first_digit (Some first) s = Some (behind_digit first s)
 -- the index of one or two digits, and what follows it
 abbrev pub index_front : List ℕ → Option (ℕ × List ℕ)
 index_front [] = None
-index_front (b ∷ s) = first_digit (digit_of b) s
+index_front (b ∷ s) = first_digit (index_digit_of b) s
 
 abbrev pub closed_index : ℕ → List ℕ → PoFront
 closed_index index [] = Unknown BadIndex
@@ -43,19 +43,19 @@ closed_index index (b ∷ s) = if b == 93 then Word (Form (Some index)) s else U
 
 abbrev pub form_with_index : Option (ℕ × List ℕ) → PoFront
 form_with_index None = Unknown BadIndex
-form_with_index (Some (index, s)) = closed_index index (behind_run is_white s)
+form_with_index (Some (index, s)) = closed_index index (behind_catalog_run is_white s)
 
 abbrev pub form_at : List ℕ → List ℕ → PoFront
 form_at [] rest = Word (Form None) rest
-form_at (b ∷ s) rest = if b == 91 then form_with_index (index_front (behind_run is_white s)) else Word (Form None) rest
+form_at (b ∷ s) rest = if b == 91 then form_with_index (index_front (behind_catalog_run is_white s)) else Word (Form None) rest
 
 -- `msgstr`, with its index in brackets if it has one, and what follows it
 abbrev pub form_front : List ℕ → PoFront
-form_front rest = form_at (behind_run is_white rest) rest
+form_front rest = form_at (behind_catalog_run is_white rest) rest
 
 -- a word, and what follows it
-abbrev pub keyword_front : List ℕ → List ℕ → PoFront
-keyword_front word rest =
+abbrev pub catalog_keyword_front : List ℕ → List ℕ → PoFront
+catalog_keyword_front word rest =
     if bytes_eq word (codes "msgid") then Word Id rest
     else (if bytes_eq word (codes "msgstr") then form_front rest
     else (if bytes_eq word (codes "msgid_plural") then Word PluralId rest
@@ -64,7 +64,7 @@ keyword_front word rest =
     else Unknown UnknownWord))))
 
 unfoldable pub word_front : List ℕ → PoFront
-word_front s = keyword_front (run_front is_of_word s) (behind_run is_of_word s)
+word_front s = catalog_keyword_front (catalog_run_front is_of_keyword s) (behind_catalog_run is_of_keyword s)
 
 abbrev pub front_at : List ℕ → PoFront
 front_at [] = Nothing
@@ -72,4 +72,4 @@ front_at (b ∷ s) = if b == 35 then Nothing else (if b == 34 then Mark s else w
 
 -- behind white space
 unfoldable pub front_of : List ℕ → PoFront
-front_of s = front_at (behind_run is_white s)
+front_of s = front_at (behind_catalog_run is_white s)

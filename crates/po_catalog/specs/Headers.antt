@@ -10,13 +10,13 @@ use Rattle.po_catalog.specs.PoBytes.{first_flag}
 
 -- ---- the header
 
-abbrev pub is_empty_text : Option PoText → Bool
-is_empty_text None = false
-is_empty_text (Some text) = length text.bytes == 0
+abbrev pub is_empty_id : Option PoText → Bool
+is_empty_id None = false
+is_empty_id (Some text) = length text.bytes == 0
 
 -- its id is empty, it has no context, and it doesn't stand behind `#~`
 abbrev pub is_header : PoMessage → Bool
-is_header message = not message.is_obsolete && (is_none message.context && is_empty_text message.id)
+is_header message = not message.is_obsolete && (is_none message.context && is_empty_id message.id)
 
 abbrev pub first_text : List PoText → Option (List ℕ)
 first_text [] = None
@@ -55,12 +55,12 @@ abbrev pub value_in : List ℕ → List ℕ → Option (List ℕ)
 value_in name line = if is_named (cut_at 58 line).0 name then value_behind (cut_at 58 line).1 else None
 
 -- the value of the first line that has one
-abbrev pub first_value : List ℕ → List (List ℕ) → Option (List ℕ)
-first_value name [] = None
-first_value name (line ∷ lines) = option_or (value_in name line) (first_value name lines)
+abbrev pub first_field_value : List ℕ → List (List ℕ) → Option (List ℕ)
+first_field_value name [] = None
+first_field_value name (line ∷ lines) = option_or (value_in name line) (first_field_value name lines)
 
 abbrev pub field_in : List ℕ → List ℕ → Option (List ℕ)
-field_in name text = first_value name (lines_of text)
+field_in name text = first_field_value name (lines_of text)
 
 -- the value of a field of the header
 abbrev pub field_of : List ℕ → List PoMessage → Option (List ℕ)
@@ -69,16 +69,16 @@ field_of name messages = option_and_then (field_in name) (header_text messages)
 -- ---- its charset
 
 -- what follows the first place where this text stands
-abbrev pub behind_first : List ℕ → List ℕ → Option (List ℕ)
-behind_first text [] = None
-behind_first text (b ∷ s) = if bytes_eq (take (length text) (b ∷ s)) text then Some (drop (length text) (b ∷ s)) else behind_first text s
+abbrev pub behind_first_place : List ℕ → List ℕ → Option (List ℕ)
+behind_first_place text [] = None
+behind_first_place text (b ∷ s) = if bytes_eq (take (length text) (b ∷ s)) text then Some (drop (length text) (b ∷ s)) else behind_first_place text s
 
 -- up to the first semicolon, comma or white space
 abbrev pub charset_word : List ℕ → List ℕ
 charset_word s = first_flag (cut_at 59 s).0
 
 abbrev pub charset_in : List ℕ → Option (List ℕ)
-charset_in s = option_map charset_word (behind_first (codes "charset=") s)
+charset_in s = option_map charset_word (behind_first_place (codes "charset=") s)
 
 -- the charset that `Content-Type` names
 abbrev pub charset_of : List PoMessage → Option (List ℕ)

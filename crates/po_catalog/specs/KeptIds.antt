@@ -21,8 +21,8 @@ pub record SaysId (line text : List ℕ) : Type 0 where
   pub said : Says quoted (Ok (text, after))
 
 -- a text of this line, which begins with these bytes
-abbrev pub text_of : ℕ → List ℕ → List ℕ → PoText
-text_of number text more = record { line = number; bytes = text ++ more }
+abbrev pub text_of_line : ℕ → List ℕ → List ℕ → PoText
+text_of_line number text more = record { line = number; bytes = text ++ more }
 
 -- one of the messages has an id of this line, which begins with these bytes
 pub record HaveId (number : ℕ) (text : List ℕ) (messages : List PoMessage) : Type 0 where
@@ -31,7 +31,7 @@ pub record HaveId (number : ℕ) (text : List ℕ) (messages : List PoMessage) :
   pub after : List PoMessage
   pub more : List ℕ
   pub stands : messages ≡ before ++ message ∷ after
-  pub id : message.id ≡ Some (text_of number text more)
+  pub id : message.id ≡ Some (text_of_line number text more)
 
 -- the id of each line that begins with one is that of a message
 abbrev pub IdsAreKept : Type 0

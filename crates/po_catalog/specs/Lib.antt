@@ -1,9 +1,7 @@
 -- gettext's catalogs
 pub mod Catalogs
-pub mod Causes
 pub mod Drafts
 pub mod FileLines
-pub mod Flags
 pub mod Fronts
 pub mod Headers
 pub mod KeptIds

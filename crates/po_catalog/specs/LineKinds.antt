@@ -1,6 +1,6 @@
 -- The kinds of lines of a catalog: empty, a comment, or keywords and texts.
 use Rattle.std.specs.Prelude.{ℕ, ◌==◌, ◌||◌, Bool, true, false, List, [], ◌∷◌, if◌then◌else◌}
-use Rattle.po_catalog.specs.PoBytes.{is_white, behind_run}
+use Rattle.po_catalog.specs.PoBytes.{is_white, behind_catalog_run}
 
 pub data PoLine : Type 0 where
   Empty : PoLine
@@ -25,4 +25,4 @@ line_at (b ∷ s) = if b == 35 then hash_line s else Fields false (b ∷ s)
 
 -- behind white space
 abbrev pub line_of : List ℕ → PoLine
-line_of line = line_at (behind_run is_white line)
+line_of line = line_at (behind_catalog_run is_white line)

@@ -58,12 +58,12 @@ pub record PoCatalog : Type 0 where
   pub messages : List PoMessage
   pub faults : List Fault
 
--- the bytes behind the mark of UTF-8 at their front, if it is there
-abbrev pub mark : List ℕ
-mark = 239 ∷ 187 ∷ 191 ∷ []
+-- the bytes behind the byte_order_mark of UTF-8 at their front, if it is there
+abbrev pub byte_order_mark : List ℕ
+byte_order_mark = 239 ∷ 187 ∷ 191 ∷ []
 
 abbrev pub behind_mark : List ℕ → List ℕ
-behind_mark s = if bytes_eq (take (length mark) s) mark then drop (length mark) s else s
+behind_mark s = if bytes_eq (take (length byte_order_mark) s) byte_order_mark then drop (length byte_order_mark) s else s
 
 abbrev pub catalog_at : PoDraft → PoCatalog
 catalog_at draft = record { messages = draft.messages; faults = draft.faults }
@@ -93,8 +93,8 @@ pub record ReadsCatalog (file : List ℕ) (result : Result Catalog AllocError) :
 -- ---- laws
 
 -- a file says one catalog
-abbrev pub HasOneReading : Type 0
-HasOneReading = (file : List ℕ) (a b : PoCatalog) → IsCatalog file a → IsCatalog file b → a ≡ b
+abbrev pub FilesSayOneCatalog : Type 0
+FilesSayOneCatalog = (file : List ℕ) (a b : PoCatalog) → IsCatalog file a → IsCatalog file b → a ≡ b
 
 -- and each file says one
 abbrev pub EveryFileIsACatalog : Type 0

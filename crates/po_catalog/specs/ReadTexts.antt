@@ -21,7 +21,7 @@ ReturnsText (Err error) text rest = error ≡ Memory
 
 -- a text is returned if and only if the line says it, and a fault if and only if the line has it,
 -- out of memory aside
-pub record ReadsExactly (line : List ℕ) (result : Result (Vec ℕ × Bor (List ℕ)) ReadError) : Type 0 where
+pub record ReadsTextExactly (line : List ℕ) (result : Result (Vec ℕ × Bor (List ℕ)) ReadError) : Type 0 where
   pub only : IsSaid line result
   pub text : (text rest : List ℕ) → Says line (Ok (text, rest)) → ReturnsText result text rest
   pub fault : (cause : Cause) → Says line (Err cause) → (result ≡ Err (Fault cause)) ⊎ (result ≡ Err Memory)

@@ -4,10 +4,8 @@ ghost use Rattle.std.specs.Prelude.{◌≡◌, ◌≤◌, ◌<◌, ◌+◌, ◌+
 ghost use Rattle.std.specs.Str.{is_utf8};
 ghost use Rattle.po_catalog.specs.Drafts.{with_comma};
 ghost use Rattle.po_catalog.specs.FileLines.{cut_at};
-ghost use Rattle.po_catalog.specs.Flags.{flags_of};
-ghost use Rattle.po_catalog.specs.PoBytes.{behind_flag, behind_run, first_flag, is_between_flags, is_of_word, is_white, run_front};
-ghost use Rattle.po_catalog.specs.Inner.ByteClasses.{is_in};
-ghost use Rattle.po_catalog.specs.Inner.LineViews.{cut_view};
+ghost use Rattle.po_catalog.specs.PoBytes.{message_flags_of, behind_flag, behind_catalog_run, first_flag, is_between_flags, is_of_keyword, is_white, catalog_run_front};
+ghost use Rattle.po_catalog.specs.Inner.LineViews.{is_in_catalog_class, cut_view};
 
 use std::alloc::AllocError;
 use std::str;
@@ -30,7 +28,7 @@ fn is_white(byte: u8) -> bool
 
 #[inline(always)]
 fn is_of_word(byte: u8) -> bool
-    ensures { result ≡ is_of_word byte }
+    ensures { result ≡ is_of_keyword byte }
 {
     b'a' <= byte && byte <= b'z'
         || byte == b'_'
@@ -47,7 +45,7 @@ fn is_between_flags(byte: u8) -> bool
 
 #[inline(always)]
 fn is_in(class: Class, byte: u8) -> bool
-    ensures { result ≡ is_in class byte }
+    ensures { result ≡ is_in_catalog_class class byte }
 {
     match class {
         Class::White => is_white(byte),
@@ -60,7 +58,7 @@ fn is_in(class: Class, byte: u8) -> bool
 // What follows the longest front of the class.
 #[inline(always)]
 pub(crate) fn behind_run(class: Class, text: &[u8]) -> &[u8]
-    ensures rest { result.now ≡ behind_run (is_in class) text.now }
+    ensures rest { result.now ≡ behind_catalog_run (is_in_catalog_class class) text.now }
     ensures shorter { length result.now ≤ length text.now }
 {
     let mut rest = text;
@@ -76,8 +74,8 @@ pub(crate) fn behind_run(class: Class, text: &[u8]) -> &[u8]
 // The longest front of the class, and what follows it.
 #[inline(always)]
 pub(crate) fn split_run(class: Class, text: &[u8]) -> (&[u8], &[u8])
-    ensures front { result.0.now ≡ run_front (is_in class) text.now }
-    ensures rest { result.1.now ≡ behind_run (is_in class) text.now }
+    ensures front { result.0.now ≡ catalog_run_front (is_in_catalog_class class) text.now }
+    ensures rest { result.1.now ≡ behind_catalog_run (is_in_catalog_class class) text.now }
     ensures whole { length result.0.now + length result.1.now ≡ length text.now }
 {
     text.split_at(text.len() - behind_run(class, text).len())
@@ -86,7 +84,7 @@ pub(crate) fn split_run(class: Class, text: &[u8]) -> (&[u8], &[u8])
 // The bytes after the white space at the front.
 #[inline(always)]
 pub(crate) fn after_white(text: &[u8]) -> &[u8]
-    ensures rest { result.now ≡ behind_run is_white text.now }
+    ensures rest { result.now ≡ behind_catalog_run is_white text.now }
     ensures shorter { length result.now ≤ length text.now }
 {
     behind_run(Class::White, text)
@@ -104,7 +102,7 @@ pub fn first_flag(flags: &[u8]) -> (&[u8], &[u8])
 
 // Adds the flags of a comment, with a comma behind each.
 pub(crate) fn add_flags(flags: &mut Vec<u8>, comment: &[u8]) -> Result<(), AllocError>
-    ensures { OnOk result (flags.new.items ≡ flags.old.items ++ flat_map with_comma (flags_of comment.now)) }
+    ensures { OnOk result (flags.new.items ≡ flags.old.items ++ flat_map with_comma (message_flags_of comment.now)) }
 {
     let mut rest = comment;
     'words: loop {

@@ -2,7 +2,7 @@
 
 ghost use Rattle.std.specs.Prelude.{◌≡◌, ◌<◌, length, map, option_map, IfOk, OnOk};
 ghost use Rattle.po_catalog.specs.Catalogs.{message_view, text_view};
-ghost use Rattle.po_catalog.specs.Drafts.{ends_before, field_at, first_other, form_place, has_id, is_other, line_if_other, next_form, other_line, passed_over, place_of, plural_place, with_text};
+ghost use Rattle.po_catalog.specs.Drafts.{ends_before, field_at, first_other, form_place, has_id, is_text_of_other_bytes, line_if_other, next_form, other_line, passed_over, place_of_keyword, plural_place, with_text};
 ghost use Rattle.po_catalog.specs.Inner.DraftViews.{GoesOnIn, field_view};
 
 use crate::bytes::is_utf8;
@@ -67,7 +67,7 @@ impl Field {
 impl Text {
     // Whether its bytes are no UTF-8.
     fn is_other(&self) -> bool
-        ensures { result ≡ is_other (text_view self.now) }
+        ensures { result ≡ is_text_of_other_bytes (text_view self.now) }
     {
         !is_utf8(&self.bytes)
     }
@@ -142,7 +142,7 @@ impl Entry {
 
     // Where the text of the keyword goes.
     pub(crate) fn place_of(&self, keyword: Keyword) -> Result<Place, Cause>
-        ensures { result ≡ place_of keyword (message_view self.now) }
+        ensures { result ≡ place_of_keyword keyword (message_view self.now) }
     {
         match keyword {
             Keyword::Domain => Ok(Place::Nowhere),

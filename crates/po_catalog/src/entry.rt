@@ -4,7 +4,7 @@ ghost use Rattle.std.specs.Prelude.{◌≡◌, ◌↔◌, codes, IsTrue, IsUtf8,
 ghost use Rattle.std.specs.List.{Contains};
 ghost use Rattle.po_catalog.specs.Catalogs.{message_view, text_view};
 ghost use Rattle.po_catalog.specs.Drafts.{empty_message, empty_text};
-ghost use Rattle.po_catalog.specs.Flags.{flags_of};
+ghost use Rattle.po_catalog.specs.PoBytes.{message_flags_of};
 ghost use Rattle.po_catalog.specs.Headers.{is_header};
 
 use crate::bytes::first_flag;
@@ -77,7 +77,7 @@ impl Entry {
 
     /// Whether the flag is one of the message's, as `c-format`.
     pub fn has_flag(&self, name: &[u8]) -> bool
-        ensures { IsTrue result ↔ Contains (flags_of self.now.flags.items) name.now }
+        ensures { IsTrue result ↔ Contains (message_flags_of self.now.flags.items) name.now }
     {
         let mut rest = self.flags.as_slice();
         'flags: loop {
@@ -94,7 +94,7 @@ impl Entry {
 
     /// Whether the message has the flag `fuzzy`: its text has to be looked at again.
     pub fn is_fuzzy(&self) -> bool
-        ensures { IsTrue result ↔ Contains (flags_of self.now.flags.items) (codes "fuzzy") }
+        ensures { IsTrue result ↔ Contains (message_flags_of self.now.flags.items) (codes "fuzzy") }
     {
         self.has_flag(b"fuzzy")
     }

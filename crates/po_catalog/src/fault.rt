@@ -40,7 +40,7 @@ pub enum Cause {
 
 impl fmt::Display for Cause {
     ghost use Rattle.std.specs.Prelude.{Some};
-    ghost use Rattle.po_catalog.specs.Causes.{cause_text};
+    ghost use Rattle.po_catalog.specs.Catalogs.{cause_text};
 
     ghost output = { λ cause. Some (cause_text cause) };
 

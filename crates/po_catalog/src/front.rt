@@ -1,8 +1,8 @@
 //! What stands at the front of a line.
 
 ghost use Rattle.std.specs.Prelude.{◌≡◌, ◌≤◌, ◌<◌, ◌+◌, length, IfSome};
-ghost use Rattle.po_catalog.specs.Fronts.{behind_digit, digit_of, form_front, front_of, index_front, word_front};
-ghost use Rattle.po_catalog.specs.Inner.FrontViews.{IsBehind, IsBelow, IsNotLonger, front_view, index_view, other_front};
+ghost use Rattle.po_catalog.specs.Fronts.{behind_digit, index_digit_of, form_front, front_of, index_front, word_front};
+ghost use Rattle.po_catalog.specs.Inner.FrontViews.{IsBehindLineFront, IsBelow, IsNotLongerThanText, line_front_view, index_view, other_front};
 
 use crate::bytes::{Class, after_white, split_run};
 use crate::fault::Cause;
@@ -30,8 +30,8 @@ pub(crate) enum Front<'l> {
 // The front of a line.
 #[tactic(auto, unfolding(crate::specs::Fronts::front_of))]
 pub(crate) fn front_of(line: &[u8]) -> Front<'_>
-    ensures front { front_view result ≡ front_of line.now }
-    ensures shorter { IsBehind result line.now }
+    ensures front { line_front_view result ≡ front_of line.now }
+    ensures shorter { IsBehindLineFront result line.now }
 {
     let text = after_white(line);
     match text {
@@ -44,8 +44,8 @@ pub(crate) fn front_of(line: &[u8]) -> Front<'_>
 // The keyword at the front.
 #[tactic(auto, unfolding(crate::specs::Fronts::word_front), using(crate::proofs::FrontLengths::behind_word))]
 fn word_front(text: &[u8]) -> Front<'_>
-    ensures front { front_view result ≡ word_front text.now }
-    ensures shorter { IsBehind result text.now }
+    ensures front { line_front_view result ≡ word_front text.now }
+    ensures shorter { IsBehindLineFront result text.now }
 {
     let (word, rest) = split_run(Class::Word, text);
     if word == b"msgid".as_slice() {
@@ -59,7 +59,7 @@ fn word_front(text: &[u8]) -> Front<'_>
 
 // A keyword that is rarer, with what follows it.
 fn other_front<'l>(word: &[u8], rest: &'l [u8]) -> Front<'l>
-    ensures front { front_view result ≡ other_front word.now rest.now }
+    ensures front { line_front_view result ≡ other_front word.now rest.now }
     ensures shorter { IsBelow result (length word.now + length rest.now) }
 {
     if word == b"msgid_plural".as_slice() {
@@ -75,8 +75,8 @@ fn other_front<'l>(word: &[u8], rest: &'l [u8]) -> Front<'l>
 
 // The keyword `msgstr`, with what follows it.
 fn form_front(rest: &[u8]) -> Front<'_>
-    ensures front { front_view result ≡ form_front rest.now }
-    ensures shorter { IsNotLonger result rest.now }
+    ensures front { line_front_view result ≡ form_front rest.now }
+    ensures shorter { IsNotLongerThanText result rest.now }
 {
     let [b'[', inner @ ..] = after_white(rest) else {
         return Front::Keyword(Keyword::Form(None), rest);
@@ -122,7 +122,7 @@ fn behind_digit(first: usize, text: &[u8]) -> (usize, &[u8])
 
 // The value of a digit.
 fn digit_of(byte: u8) -> Option<usize>
-    ensures value { result ≡ digit_of byte }
+    ensures value { result ≡ index_digit_of byte }
     ensures within { IfSome result (λ value. value < 10) }
 {
     if b'0' <= byte && byte <= b'9' {

@@ -2,7 +2,7 @@
 
 ghost use Rattle.po_catalog.specs.FileLines.{NumbersCountNewlines};
 ghost use Rattle.po_catalog.specs.KeptIds.{IdsAreKept};
-ghost use Rattle.po_catalog.specs.ReadCatalogs.{EveryFileIsACatalog, HasOneReading};
+ghost use Rattle.po_catalog.specs.ReadCatalogs.{EveryFileIsACatalog, FilesSayOneCatalog};
 
 /// Each line that [`Lines`](crate::Lines) gives stands in the file, and its number is one more than
 /// the newlines before it.
@@ -12,7 +12,7 @@ pub fn numbers_count_newlines()
 
 /// A file says one catalog: two that it says are the same.
 pub fn one_catalog()
-    ensures { HasOneReading }
+    ensures { FilesSayOneCatalog }
 {}
 
 /// Each file says a catalog.

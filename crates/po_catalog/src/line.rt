@@ -23,13 +23,13 @@ pub struct Lines<'f> {
 impl<'f> Model for Lines<'f> {
     ghost use Rattle.std.specs.Prelude.{ℕ, List, ◌+◌, ◌<◌, ◌^◌};
     ghost use Rattle.po_catalog.specs.FileLines.{lines_left, numbered};
-    ghost use Rattle.po_catalog.specs.Inner.LineViews.{bytes_left, left_view};
+    ghost use Rattle.po_catalog.specs.Inner.LineViews.{file_bytes_left, left_view};
 
     ghost Value = { List (ℕ × List ℕ) };
 
     ghost view = { λ lines. numbered lines.number (lines_left (left_view lines.rest)) };
 
-    ghost invariant = { λ lines. lines.number + bytes_left lines.rest < 2 ^ 64 };
+    ghost invariant = { λ lines. lines.number + file_bytes_left lines.rest < 2 ^ 64 };
 }
 
 impl<'f> Lines<'f> {

@@ -2,7 +2,7 @@
 
 ghost use Rattle.std.specs.Prelude.{◌≡◌};
 ghost use Rattle.po_catalog.specs.LineKinds.{hash_line, line_of};
-ghost use Rattle.po_catalog.specs.Inner.KindViews.{kind_view};
+ghost use Rattle.po_catalog.specs.Inner.LineViews.{kind_view};
 
 use crate::bytes::after_white;
 

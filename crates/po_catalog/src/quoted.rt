@@ -2,8 +2,8 @@
 
 ghost use Rattle.std.specs.Prelude.{◌≡◌, ◌∷◌, ◌≤◌, ◌<◌, ◌+◌, length, IfOk, IfSome};
 ghost use Rattle.po_catalog.specs.Quoted.{byte_of_letter, code_front, digit_value, escape_front, hexadecimal, hexadecimal_code, octal, of_byte, said_front};
-ghost use Rattle.po_catalog.specs.ReadTexts.{ReadsExactly};
-ghost use Rattle.po_catalog.specs.Inner.QuotedViews.{GoesOn, IsShorter, code_view, front_view};
+ghost use Rattle.po_catalog.specs.ReadTexts.{ReadsTextExactly};
+ghost use Rattle.po_catalog.specs.Inner.QuotedViews.{GoesOn, IsShorterBehindSaid, code_view, said_view};
 
 use crate::fault::{Cause, ReadError};
 use std::alloc::Global;
@@ -148,8 +148,8 @@ fn code_front(first: u8, rest: &[u8]) -> Option<(u8, &[u8])>
 
 // What stands behind a backslash.
 fn escape_front(text: &[u8]) -> Said<'_>
-    ensures front { front_view result ≡ escape_front text.now }
-    ensures shorter { IsShorter result text.now }
+    ensures front { said_view result ≡ escape_front text.now }
+    ensures shorter { IsShorterBehindSaid result text.now }
 {
     let [letter, rest @ ..] = text else {
         return Said::Bad(Cause::UnclosedText);
@@ -166,8 +166,8 @@ fn escape_front(text: &[u8]) -> Said<'_>
 // The front of a text.
 #[inline(always)]
 fn said_front(text: &[u8]) -> Said<'_>
-    ensures front { front_view result ≡ said_front text.now }
-    ensures shorter { IsShorter result text.now }
+    ensures front { said_view result ≡ said_front text.now }
+    ensures shorter { IsShorterBehindSaid result text.now }
 {
     match text {
         [] => Said::Bad(Cause::UnclosedText),
@@ -201,7 +201,7 @@ pub(crate) fn push_text<'l>(line: &'l [u8], text: &mut Vec<u8>) -> Result<&'l [u
 /// taken for the bytes.
 #[tactic(auto, using(crate::proofs::Sayings::ok_said, crate::proofs::Sayings::err_said))]
 pub fn read_text(alloc: Global, line: &[u8]) -> Result<(Vec<u8>, &[u8]), ReadError>
-    ensures { ReadsExactly line.now result }
+    ensures { ReadsTextExactly line.now result }
 {
     let mut text = Vec::new(alloc);
     let rest = push_text(line, &mut text)?;

@@ -4,7 +4,7 @@ ghost use Rattle.std.specs.Prelude.{◌≡◌, ◌<◌, length, IfOk, OnOk};
 ghost use Rattle.po_catalog.specs.Drafts.{all_ended, behind_empty, behind_line, comment_checked, empty_draft, ended_at_comment, ended_before, ended_if_whole, flags_read};
 ghost use Rattle.po_catalog.specs.Drafts.{field_taken, form_checked, keyword_of_message, keyword_read, line_checked, message_begun, message_ended, message_kept};
 ghost use Rattle.po_catalog.specs.Drafts.{noted, placed, text_checked, text_ended, texts_checked, told, unknown_read};
-ghost use Rattle.po_catalog.specs.Inner.DraftViews.{IsFurther, ReadsTold, TakesFront, TakesText, TextGoesOn, draft_view, field_view};
+ghost use Rattle.po_catalog.specs.Inner.DraftViews.{IsFurther, ReadsTold, TakesFront, TakesFieldText, TextGoesOn, draft_view, field_view};
 ghost use Rattle.po_catalog.specs.ReadCatalogs.{ReadsFields, ReadsLine, catalog_at, catalog_view};
 
 use crate::bytes::{add_flags, is_utf8};
@@ -306,7 +306,7 @@ impl Reader {
     // Reads a text from behind its first quotation mark on.
     #[tactic(auto, using(crate::proofs::Readings::text_taken))]
     fn read_quoted<'l>(&mut self, line: &'l [u8]) -> Result<Progress<'l>, AllocError>
-        ensures read { IfOk result (λ it. TakesText (draft_view self.old) line.now (draft_view self.new) it) }
+        ensures read { IfOk result (λ it. TakesFieldText (draft_view self.old) line.now (draft_view self.new) it) }
         ensures shorter { IfOk result (λ it. IsFurther it line.now) }
     {
         match self.read_text(line) {

@@ -6,12 +6,12 @@ use Rattle.std.proofs.lemmas.Nat.Gcd.{dvd_of_mod-eq-zero, dvd_trans, dvd-zero, m
 use Rattle.std.proofs.Math.Nat.{dvd-mul_right, mod-eq_of_lt, one-dvd, zero-div, div-one}
 use Rattle.std.specs.Int.{◌∣◌}
 use Rattle.plural_operands.specs.Operands.{Operands}
-use Rattle.rule_notes.specs.Inner.OwnNumbers.{IsLeft}
+use Rattle.rule_notes.specs.Inner.OwnNumbers.{AreDigitsLeft}
 use Rattle.rule_notes.specs.LookedAtNumbers.{HasDecimal}
 
 -- ---- Digits without the zeros at their end
 
-pub none_left : (places : ℕ) → IsLeft places 0 0 0
+pub none_left : (places : ℕ) → AreDigitsLeft places 0 0 0
 none_left places = record {
   divides = dvd-zero (10 ^ (places - 0));
   least = λ k d. omega arith;
@@ -23,7 +23,7 @@ no_hundred written few some d =
     let rest : written % 100 ≡ 0 = mod-eq-zero_of_dvd 100 d in
     let same : written % 100 ≡ written = mod-eq_of_lt few in some (sym same ∙ rest)
 
-one_left_of_two : (written : ℕ) → written < 100 → written ≢ 0 → written % 10 ≡ 0 → IsLeft 2 written 1 (written / 10)
+one_left_of_two : (written : ℕ) → written < 100 → written ≢ 0 → written % 10 ≡ 0 → AreDigitsLeft 2 written 1 (written / 10)
 one_left_of_two written few some ends = record {
   divides = dvd_of_mod-eq-zero 10 ends;
   least = least;
@@ -38,13 +38,13 @@ no_zero_at_end : (written : ℕ) → written < 10 → written ≢ 0 → (written
 no_zero_at_end written few some ends = some (sym (mod-eq_of_lt few) ∙ ends)
 
 pub one_left : (places written : ℕ) → places ≤ 2 → written < 10 ^ places → written ≢ 0 → written % 10 ≡ 0
-    → IsLeft places written 1 (written / 10)
+    → AreDigitsLeft places written 1 (written / 10)
 one_left zero written most few some ends = let one : written < 1 = few in absurd (some (omega arith))
 one_left (suc zero) written most few some ends = absurd (no_zero_at_end written few some ends)
 one_left (suc (suc zero)) written most few some ends = one_left_of_two written few some ends
 one_left (suc (suc (suc n))) written most few some ends = absurd (omega arith)
 
-pub all_left : (places written : ℕ) → written % 10 ≢ 0 → IsLeft places written places written
+pub all_left : (places written : ℕ) → written % 10 ≢ 0 → AreDigitsLeft places written places written
 all_left places written last =
     let none : places - places ≡ 0 = omega arith in record {
       divides = rw none (one-dvd written);
@@ -66,7 +66,7 @@ all_left places written last =
 
 -- ---- Operands
 
-pub decimal_of : (places unit parts w t : ℕ) → unit ≡ 10 ^ places → IsLeft places (parts % unit) w t
+pub decimal_of : (places unit parts w t : ℕ) → unit ≡ 10 ^ places → AreDigitsLeft places (parts % unit) w t
     → HasDecimal places parts (record { i = parts / unit; v = places; w = w; f = parts % unit; t = t; c = 0 })
 decimal_of places unit parts w t is left = record {
   whole = ap (λ (u : ℕ). parts / u) is;

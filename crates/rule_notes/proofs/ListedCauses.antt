@@ -5,9 +5,8 @@ use Rattle.plural_reference.specs.declared.ast.Condition.{Condition}
 use Rattle.plural_reference.specs.declared.ast.RangeListItem.{RangeListItem}
 use Rattle.plural_reference.specs.declared.ast.RangeListItem.TheVariants as items
 use Rattle.plural_reference.specs.declared.ast.Relation.{Relation}
-use Rattle.rule_notes.specs.ConditionCauses.{AreConditionCauses, AreGroupCauses, AreItemCauses, AreRelationCauses, EachNotes, IsNotedIf}
+use Rattle.rule_notes.specs.ConditionCauses.{AreConditionCauses, AreGroupCauses, AreItemCauses, AreRelationCauses, EachNotes, IsNotedIf, IsEmpty, IsUpsideDown}
 use Rattle.rule_notes.specs.Inner.CauseLists.{condition_causes, group_causes, is_empty, item_causes, own_causes, relation_causes}
-use Rattle.rule_notes.specs.NeverTrue.{IsEmpty, IsUpsideDown}
 use Rattle.rule_notes.specs.declared.cause.Cause.TheVariants.{UpsideDown, Empty}
 use Rattle.rule_notes.proofs.NeverTrueTests.{down_holds, empty_holds, not_down, not_empty}
 use Rattle.std.proofs.Common.{nat_lt, ℕ, ◌+◌, ◌<◌, length, take, get_or, ap, sym, ◌∙◌, append_assoc}

@@ -15,7 +15,7 @@ use Rattle.plural_reference.specs.declared.ast.RangeListItem.{RangeListItem}
 use Rattle.plural_reference.specs.declared.ast.RangeListItem.TheVariants as items
 use Rattle.plural_reference.specs.declared.ast.Relation.{Relation}
 use Rattle.plural_reference.specs.declared.ast.Value.{Value}
-use Rattle.rule_notes.specs.NeverTrue.{IsEmpty, IsUpsideDown}
+use Rattle.rule_notes.specs.ConditionCauses.{IsEmpty, IsUpsideDown}
 use Rattle.rule_notes.specs.Inner.CauseLists.{is_empty, is_equal, is_out, is_over}
 
 -- ---- Ranges

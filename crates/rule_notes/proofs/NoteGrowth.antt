@@ -2,7 +2,7 @@
 use Rattle.std.proofs.Common.{◌≡◌, ℕ, ◌+◌, ◌<◌, List, [], ◌∷◌, ◌++◌, length, take, get_or, refl, ap, sym, subst, ◌∙◌, append_assoc}
 use Rattle.std.proofs.lemmas.List.{append-nil, take_more}
 use Rattle.rule_notes.specs.ConditionCauses.{NotesBoth}
-use Rattle.rule_notes.specs.Inner.NoteSteps.{Adds}
+use Rattle.rule_notes.specs.Inner.CauseLists.{Adds}
 use Rattle.rule_notes.specs.RuleNotes.{AreNotesOfRule, AreRuleNotes}
 use Rattle.rule_notes.specs.declared.category_rule.CategoryRule.{CategoryRule}
 use Rattle.rule_notes.specs.declared.note.Note.{Note}

@@ -10,10 +10,9 @@ use Rattle.plural_reference.specs.declared.ast.Condition.{Condition}
 use Rattle.plural_reference.specs.declared.ast.RangeListItem.{RangeListItem}
 use Rattle.plural_reference.specs.declared.ast.RangeListItem.TheVariants as items
 use Rattle.plural_reference.specs.declared.ast.Relation.{Relation}
-use Rattle.rule_notes.specs.ConditionCauses.{AreConditionCauses, AreGroupCauses, AreItemCauses, AreRelationCauses, EachNotes, IsNotedIf, NotesBoth}
-use Rattle.rule_notes.specs.EarlierRules.{AreAlikeCauses, HasFirstText, IsTaken, alike_if}
-use Rattle.rule_notes.specs.NeverTrue.{IsEmpty, IsUpsideDown}
-use Rattle.rule_notes.specs.RuleNotes.{AddsRule, AreNotesOf, AreNotesOfRule, AreRuleCauses, AreRuleNotes, AreRulesOf, HasCondition, notes_under, rule_if}
+use Rattle.rule_notes.specs.ConditionCauses.{AreConditionCauses, AreGroupCauses, AreItemCauses, AreRelationCauses, EachNotes, IsNotedIf, NotesBoth, IsEmpty, IsUpsideDown}
+use Rattle.rule_notes.specs.EarlierRules.{AreAlikeCauses, HasFirstText, IsTakenByEarlier, alike_if}
+use Rattle.rule_notes.specs.RuleNotes.{AddsRule, AreNotesOf, AreNotesOfRule, AreRuleCauses, AreRuleNotes, AreCategoryRulesOf, HasCondition, notes_under, rule_if}
 use Rattle.rule_notes.specs.declared.category_rule.CategoryRule.{CategoryRule}
 use Rattle.rule_notes.specs.declared.cause.Cause.TheVariants.{Empty, Taken, UpsideDown}
 
@@ -67,9 +66,9 @@ one_alike earlier rule a b (category, first, is) (other, also, same) =
 
 one_of_rule : (earlier : List CategoryRule) (rule : CategoryRule) → AtMostOne (AreRuleCauses earlier rule)
 one_of_rule earlier rule =
-    let taken = IsNotedIf (IsTaken earlier rule) Taken in
+    let taken = IsNotedIf (IsTakenByEarlier earlier rule) Taken in
     one_of_both (AreConditionCauses rule.condition) (NotesBoth (AreAlikeCauses earlier rule) taken) (one_of_condition rule.condition)
-    (one_of_both (AreAlikeCauses earlier rule) taken (one_alike earlier rule) (one_if (IsTaken earlier rule) Taken))
+    (one_of_both (AreAlikeCauses earlier rule) taken (one_alike earlier rule) (one_if (IsTakenByEarlier earlier rule) Taken))
 
 -- ---- Notes
 
@@ -107,7 +106,7 @@ one_more : TextsAreRead → (category : PluralCategory) (text : Option (List ℕ
 one_more law category text earlier others a b same (c, has, is) (d, also, too) =
     is ∙ ap (λ l. l ++ rule_if category c) same ∙ ap (λ o. others ++ rule_if category o) (one_condition law text c d has also) ∙ sym too
 
-one_list_of_rules : TextsAreRead → (texts : Five (Option (List ℕ))) → AtMostOne (AreRulesOf texts)
+one_list_of_rules : TextsAreRead → (texts : Five (Option (List ℕ))) → AtMostOne (AreCategoryRulesOf texts)
 one_list_of_rules law texts a b (z, o, t, f, zero, one, two, few, many) (y, p, s, g, zero', one', two', few', many') =
     let first = one_more law Zero texts.zero [] [] z y refl zero zero' in
     let second = one_more law One texts.one z y o p first one one' in

@@ -6,7 +6,7 @@ use Rattle.plural_operands.specs.Operands.{Operands, of_whole}
 use Rattle.plural_reference.specs.Truth.{is_true_of, tree_relation_truth, tree_truth}
 use Rattle.plural_reference.specs.declared.ast.AndCondition.{AndCondition}
 use Rattle.plural_reference.specs.declared.ast.Relation.{Relation}
-use Rattle.rule_notes.specs.EarlierRules.{IsTaken}
+use Rattle.rule_notes.specs.EarlierRules.{IsTakenByEarlier}
 use Rattle.rule_notes.specs.Inner.OwnNumbers.{HasOwn, HasOwnDecimal, HasOwnWhole, has_all, is_own, is_taken_at}
 use Rattle.rule_notes.specs.LookedAtNumbers.{IsLookedAt, IsWhole}
 use Rattle.rule_notes.specs.declared.category_rule.CategoryRule.{CategoryRule}
@@ -58,7 +58,7 @@ second_of_both true true is = absurd cc
 second_of_both true false is = refl
 second_of_both false b is = absurd cc
 
-pub all_taken : (earlier : List CategoryRule) (rule : CategoryRule) → HasOwn [] rule → ¬ (HasOwn earlier rule) → IsTaken earlier rule
+pub all_taken : (earlier : List CategoryRule) (rule : CategoryRule) → HasOwn [] rule → ¬ (HasOwn earlier rule) → IsTakenByEarlier earlier rule
 all_taken earlier rule some none = record {
   some = (some.number, some.looked_at, first_of_both (tree_truth some.number rule.condition) false some.own);
   all = λ number looked is. at number looked is (is_taken_at earlier number) refl;
@@ -74,7 +74,7 @@ all_taken earlier rule some none = record {
           own = both (tree_truth number rule.condition) (is_taken_at earlier number) is taken;
         }))
 
-pub none_not_taken : (earlier : List CategoryRule) (rule : CategoryRule) → ¬ (HasOwn [] rule) → ¬ (IsTaken earlier rule)
+pub none_not_taken : (earlier : List CategoryRule) (rule : CategoryRule) → ¬ (HasOwn [] rule) → ¬ (IsTakenByEarlier earlier rule)
 none_not_taken earlier rule none taken =
     none (record {
       number = taken.some.0;
@@ -82,7 +82,7 @@ none_not_taken earlier rule none taken =
       own = both (tree_truth taken.some.0 rule.condition) false taken.some.2 refl;
     })
 
-pub own_not_taken : (earlier : List CategoryRule) (rule : CategoryRule) → HasOwn earlier rule → ¬ (IsTaken earlier rule)
+pub own_not_taken : (earlier : List CategoryRule) (rule : CategoryRule) → HasOwn earlier rule → ¬ (IsTakenByEarlier earlier rule)
 own_not_taken earlier rule has taken =
     let truth = tree_truth has.number rule.condition in
     let is : truth ≡ true = first_of_both truth (is_taken_at earlier has.number) has.own in
@@ -92,7 +92,7 @@ own_not_taken earlier rule has taken =
 -- the two tests decide it
 pub taken_if : (earlier : List CategoryRule) (rule : CategoryRule) (has : Bool) → HasOwn [] rule
     → MatchBool has (HasOwn earlier rule) (¬ (HasOwn earlier rule))
-    → MatchBool (not has) (IsTaken earlier rule) (¬ (IsTaken earlier rule))
+    → MatchBool (not has) (IsTakenByEarlier earlier rule) (¬ (IsTakenByEarlier earlier rule))
 taken_if earlier rule true some own = own_not_taken earlier rule own
 taken_if earlier rule false some none = all_taken earlier rule some none
 
@@ -106,7 +106,7 @@ own_if earlier rule false small tenths hundredths none = no_own earlier rule sma
 
 -- a rule without a number isn't taken
 pub not_taken_if : (earlier : List CategoryRule) (rule : CategoryRule) (has : Bool) → has ≡ false
-    → MatchBool has (HasOwn [] rule) (¬ (HasOwn [] rule)) → MatchBool has (IsTaken earlier rule) (¬ (IsTaken earlier rule))
+    → MatchBool has (HasOwn [] rule) (¬ (HasOwn [] rule)) → MatchBool has (IsTakenByEarlier earlier rule) (¬ (IsTakenByEarlier earlier rule))
 not_taken_if earlier rule true is some = absurd cc
 not_taken_if earlier rule false is none = none_not_taken earlier rule none
 

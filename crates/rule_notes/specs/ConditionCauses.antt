@@ -5,16 +5,29 @@
 --     AreRelationCauses relation causes      the ranges of a relation that are upside down, and then
 --         the relation, if it is empty
 --     AreConditionCauses condition causes      those of each relation
-use Rattle.std.specs.Prelude.{◌≡◌, ◌⊎◌, List, [], ◌∷◌, ◌++◌}
+use Rattle.std.specs.Prelude.{◌≡◌, ◌⊎◌, List, [], ◌∷◌, ◌++◌, ℕ, IsFalse}
 use Rattle.plural_reference.specs.Serializer.{relation_text}
 use Rattle.plural_reference.specs.declared.ast.AndCondition.{AndCondition}
 use Rattle.plural_reference.specs.declared.ast.Condition.{Condition}
 use Rattle.plural_reference.specs.declared.ast.RangeListItem.{RangeListItem}
 use Rattle.plural_reference.specs.declared.ast.RangeListItem.TheVariants as items
 use Rattle.plural_reference.specs.declared.ast.Relation.{Relation}
-use Rattle.rule_notes.specs.NeverTrue.{IsEmpty, IsUpsideDown}
 use Rattle.rule_notes.specs.declared.cause.Cause.{Cause}
 use Rattle.rule_notes.specs.declared.cause.Cause.TheVariants.{UpsideDown, Empty}
+use Rattle.plural_operands.specs.Operands.{Operands}
+use Rattle.plural_reference.specs.Truth.{ends_of, range_holds, tree_relation_truth}
+use Rattle.plural_reference.specs.declared.ast.Operator.TheVariants.{Eq}
+
+-- ---- what is never true in a condition, whatever the number is
+
+-- no value is between its ends
+abbrev pub IsUpsideDown : RangeListItem → Type 0
+IsUpsideDown item = (value : ℕ) → IsFalse (range_holds value (ends_of item))
+
+-- an `=` that is false at every six operand numbers
+pub record IsEmpty (relation : Relation) : Type 0 where
+  pub equal : relation.operator ≡ Eq
+  pub never : (number : Operands) → IsFalse (tree_relation_truth number relation)
 
 -- ---- Lists
 

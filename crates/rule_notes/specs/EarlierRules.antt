@@ -2,7 +2,7 @@
 -- Plural Rules: the first category whose condition is true has the number).
 --     HasFirstText rules text category      the first category whose condition prints as a text
 --     AreAlikeCauses earlier rule causes      the first earlier category whose condition prints alike
---     IsTaken earlier rule      the condition is true of some number that is looked at, and of each
+--     IsTakenByEarlier earlier rule      the condition is true of some number that is looked at, and of each
 --         such number an earlier one is true
 use Rattle.std.specs.Prelude.{◌≡◌, ◌≢◌, ◌⊎◌, ℕ, List, [], ◌∷◌, Option, Some, None, IsTrue}
 use Rattle.std.specs.List.{list_any}
@@ -41,6 +41,6 @@ IsTrueOf rule number = IsTrue (tree_truth number rule.condition)
 abbrev pub IsTakenAt : List CategoryRule → Operands → Type 0
 IsTakenAt earlier number = IsTrue (list_any (λ rule. tree_truth number rule.condition) earlier)
 
-pub record IsTaken (earlier : List CategoryRule) (rule : CategoryRule) : Type 0 where
+pub record IsTakenByEarlier (earlier : List CategoryRule) (rule : CategoryRule) : Type 0 where
   pub some : (number : Operands) × IsLookedAt number × IsTrueOf rule number
   pub all : (number : Operands) → IsLookedAt number → IsTrueOf rule number → IsTakenAt earlier number

@@ -1,5 +1,3 @@
--- what is never true
-pub mod NeverTrue
 -- what is noted of a condition by itself
 pub mod ConditionCauses
 -- what is noted of it beside earlier ones
@@ -7,8 +5,5 @@ pub mod LookedAtNumbers
 pub mod EarlierRules
 -- the notes of a language's rules
 pub mod RuleNotes
-pub mod RuleNoteLaws
--- the texts of notes
-pub mod CauseTexts
 -- no definitions of the subject
 pub mod Inner

@@ -1,10 +1,10 @@
 -- The notes of a language's rules.
 --     HasCondition text condition      the condition of a text that is present, not long and a rule
---     AreRulesOf texts rules      the conditions of five texts, from zero to many, as far as there
+--     AreCategoryRulesOf texts rules      the conditions of five texts, from zero to many, as far as there
 --         are any
 --     AreRuleNotes earlier rules notes      the notes of each rule, beside the earlier ones
 --     AreNotesOf texts notes      the notes of five texts
-use Rattle.std.specs.Prelude.{◌≡◌, ◌⊎◌, ℕ, List, [], ◌∷◌, ◌++◌, map, Option, Some, None, IsFalse, IsTrue}
+use Rattle.std.specs.Prelude.{◌≡◌, ◌⊎◌, ℕ, List, [], ◌∷◌, ◌++◌, map, Option, Some, None, IsFalse, IsTrue, codes}
 use Rattle.plural_base.specs.declared.category.PluralCategory.{PluralCategory}
 use Rattle.plural_base.specs.declared.category.PluralCategory.TheVariants.{Zero, One, Two, Few, Many}
 use Rattle.plural_base.specs.declared.five.Five.{Five}
@@ -14,11 +14,13 @@ use Rattle.plural_reference.specs.Samples.{FaultyRule, ReadsCondition}
 use Rattle.plural_reference.specs.declared.ast.Condition.{Condition}
 use Rattle.plural_reference.specs.declared.error.ParseError.{ParseError}
 use Rattle.rule_notes.specs.ConditionCauses.{AreConditionCauses, IsNotedIf, NotesBoth}
-use Rattle.rule_notes.specs.EarlierRules.{AreAlikeCauses, IsTaken}
+use Rattle.rule_notes.specs.EarlierRules.{AreAlikeCauses, IsTakenByEarlier}
 use Rattle.rule_notes.specs.declared.category_rule.CategoryRule.{CategoryRule}
 use Rattle.rule_notes.specs.declared.cause.Cause.{Cause}
-use Rattle.rule_notes.specs.declared.cause.Cause.TheVariants.{Taken}
+use Rattle.rule_notes.specs.declared.cause.Cause.TheVariants.{Taken, UpsideDown, Empty, Alike}
 use Rattle.rule_notes.specs.declared.note.Note.{Note}
+use Rattle.std.specs.Fmt.{decimal}
+use Rattle.plural_base.specs.Categories.{name_of}
 
 -- ---- The rules of texts
 
@@ -35,8 +37,8 @@ rule_if category (Some condition) = record { category = category; condition = co
 abbrev pub AddsRule : PluralCategory → Option (List ℕ) → List CategoryRule → List CategoryRule → Type 0
 AddsRule category text earlier rules = (condition : Option Condition) × HasCondition text condition × (rules ≡ earlier ++ rule_if category condition)
 
-abbrev pub AreRulesOf : Five (Option (List ℕ)) → List CategoryRule → Type 0
-AreRulesOf texts rules =
+abbrev pub AreCategoryRulesOf : Five (Option (List ℕ)) → List CategoryRule → Type 0
+AreCategoryRulesOf texts rules =
     (zero one two few : List CategoryRule) × AddsRule Zero texts.zero [] zero × AddsRule One texts.one zero one
     × AddsRule Two texts.two one two × AddsRule Few texts.few two few × AddsRule Many texts.many few rules
 
@@ -45,7 +47,7 @@ AreRulesOf texts rules =
 -- its condition by itself, and then beside the earlier ones
 abbrev pub AreRuleCauses : List CategoryRule → CategoryRule → List Cause → Type 0
 AreRuleCauses earlier rule =
-    NotesBoth (AreConditionCauses rule.condition) (NotesBoth (AreAlikeCauses earlier rule) (IsNotedIf (IsTaken earlier rule) Taken))
+    NotesBoth (AreConditionCauses rule.condition) (NotesBoth (AreAlikeCauses earlier rule) (IsNotedIf (IsTakenByEarlier earlier rule) Taken))
 
 -- under its category
 abbrev pub notes_under : PluralCategory → List Cause → List Note
@@ -61,4 +63,23 @@ AreRuleNotes earlier (rule ∷ rules) notes =
     NotesBoth (AreNotesOfRule earlier rule) (AreRuleNotes (earlier ++ rule ∷ []) rules) notes
 
 abbrev pub AreNotesOf : Five (Option (List ℕ)) → List Note → Type 0
-AreNotesOf texts notes = (rules : List CategoryRule) × AreRulesOf texts rules × AreRuleNotes [] rules notes
+AreNotesOf texts notes = (rules : List CategoryRule) × AreCategoryRulesOf texts rules × AreRuleNotes [] rules notes
+
+-- ---- the texts of notes
+
+-- `range 4..2 is upside down`, `n % 10 = 12 is never true`, `same condition as one`
+abbrev pub note_cause_text : Cause → List ℕ
+note_cause_text (UpsideDown start end) = codes "range " ++ (decimal start ++ (codes ".." ++ (decimal end ++ codes " is upside down")))
+note_cause_text (Empty relation) = relation ++ codes " is never true"
+note_cause_text (Alike category) = codes "same condition as " ++ name_of category
+note_cause_text Taken = codes "earlier rules have all its numbers, of 0 to 9999, 0.0 to 99.9 and 0.00 to 99.99"
+
+-- `few: range 4..2 is upside down`
+abbrev pub note_text : Note → List ℕ
+note_text note = name_of note.category ++ (codes ": " ++ note_cause_text note.cause)
+
+-- ---- what the notes of texts are is determined
+
+-- five texts have one list of notes
+abbrev pub HaveOneListOfNotes : Type 0
+HaveOneListOfNotes = (texts : Five (Option (List ℕ))) (notes others : List Note) → AreNotesOf texts notes → AreNotesOf texts others → notes ≡ others

@@ -3,7 +3,7 @@
 ghost use Rattle.std.specs.Prelude.{◌≡◌, IfOk, OnOk};
 ghost use Rattle.std.specs.Option.{option_copied};
 ghost use Rattle.plural_checker.specs.LanguageTexts.{six_texts};
-ghost use Rattle.rule_notes.specs.RuleNotes.{AddsRule, AreRulesOf, HasCondition};
+ghost use Rattle.rule_notes.specs.RuleNotes.{AddsRule, AreCategoryRulesOf, HasCondition};
 
 use plural_base::{PluralCategory, for_five};
 use plural_checker::{LanguageTexts, MOST_TEXT_BYTES};
@@ -23,7 +23,7 @@ pub(crate) fn rules_of(
     alloc: Global,
     texts: &LanguageTexts<'_>,
 ) -> Result<Vec<CategoryRule>, AllocError>
-    ensures { IfOk result (λ rules. AreRulesOf (six_texts texts.now).five rules.items) }
+    ensures { IfOk result (λ rules. AreCategoryRulesOf (six_texts texts.now).five rules.items) }
 {
     let mut rules = Vec::new(alloc);
     for_five!(texts, |text, category| {

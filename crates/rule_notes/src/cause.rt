@@ -2,7 +2,7 @@
 
 ghost use Rattle.std.specs.Prelude.{◌≡◌, Some, IfOk};
 ghost use Rattle.plural_reference.specs.Serializer.{relation_text};
-ghost use Rattle.rule_notes.specs.CauseTexts.{cause_text};
+ghost use Rattle.rule_notes.specs.RuleNotes.{note_cause_text};
 
 use crate::printed::printed;
 use plural_base::PluralCategory;
@@ -57,7 +57,7 @@ impl fmt::Display for PrintedRelation {
 }
 
 impl fmt::Display for Cause {
-    ghost output = { λ cause. Some (cause_text cause) };
+    ghost output = { λ cause. Some (note_cause_text cause) };
 
     fn fmt<W: fmt::Write>(&self, f: &mut fmt::Formatter<W>) -> fmt::Result {
         match self {

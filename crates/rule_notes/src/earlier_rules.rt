@@ -3,8 +3,8 @@
 ghost use Rattle.std.specs.Prelude.{IfOk, MatchBool, OnOk};
 ghost use Rattle.plural_reference.specs.Serializer.{condition_text};
 ghost use Rattle.rule_notes.specs.ConditionCauses.{IsNotedIf};
-ghost use Rattle.rule_notes.specs.EarlierRules.{AreAlikeCauses, HasFirstText, IsTaken};
-ghost use Rattle.rule_notes.specs.Inner.NoteSteps.{Adds};
+ghost use Rattle.rule_notes.specs.EarlierRules.{AreAlikeCauses, HasFirstText, IsTakenByEarlier};
+ghost use Rattle.rule_notes.specs.Inner.CauseLists.{Adds};
 
 use crate::category_rule::CategoryRule;
 use crate::cause::Cause;
@@ -67,7 +67,7 @@ pub(crate) fn add_taken(
     rule: &CategoryRule,
     causes: &mut Vec<Cause>,
 ) -> Result<(), AllocError>
-    ensures { OnOk result (Adds (IsNotedIf (IsTaken earlier.now rule.now) Cause.Taken) causes.old.items causes.new.items) }
+    ensures { OnOk result (Adds (IsNotedIf (IsTakenByEarlier earlier.now rule.now) Cause.Taken) causes.old.items causes.new.items) }
 {
     if is_taken(earlier, rule) {
         causes.push(Cause::Taken)?;
@@ -78,7 +78,7 @@ pub(crate) fn add_taken(
 // Whether the rule is true of some number that is looked at, and an earlier one is true of each such
 // number.
 fn is_taken(earlier: &[CategoryRule], rule: &CategoryRule) -> bool
-    ensures { MatchBool result (IsTaken earlier.now rule.now) (¬ (IsTaken earlier.now rule.now)) }
+    ensures { MatchBool result (IsTakenByEarlier earlier.now rule.now) (¬ (IsTakenByEarlier earlier.now rule.now)) }
 {
     has_own(&[], rule) && !has_own(earlier, rule)
 }

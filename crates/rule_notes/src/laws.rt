@@ -1,6 +1,6 @@
 //! A law of notes.
 
-ghost use Rattle.rule_notes.specs.RuleNoteLaws.{HaveOneListOfNotes};
+ghost use Rattle.rule_notes.specs.RuleNotes.{HaveOneListOfNotes};
 
 use plural_reference::laws::reading::texts_are_read;
 

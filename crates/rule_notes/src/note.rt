@@ -1,7 +1,7 @@
 //! A note on a category's rule.
 
 ghost use Rattle.std.specs.Prelude.{Some};
-ghost use Rattle.rule_notes.specs.CauseTexts.{note_text};
+ghost use Rattle.rule_notes.specs.RuleNotes.{note_text};
 
 use crate::cause::Cause;
 use plural_base::PluralCategory;

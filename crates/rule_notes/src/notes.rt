@@ -2,7 +2,7 @@
 
 ghost use Rattle.std.specs.Prelude.{◌≡◌, ◌++◌, [], IfOk, OnOk};
 ghost use Rattle.plural_checker.specs.LanguageTexts.{six_texts};
-ghost use Rattle.rule_notes.specs.Inner.NoteSteps.{Adds};
+ghost use Rattle.rule_notes.specs.Inner.CauseLists.{Adds};
 ghost use Rattle.rule_notes.specs.RuleNotes.{AreNotesOf, AreNotesOfRule, AreRuleCauses, AreRuleNotes, notes_under};
 
 use crate::category_rule::{CategoryRule, rules_of};

@@ -1,7 +1,7 @@
 //! Numbers of rules among those that are looked at.
 
 ghost use Rattle.std.specs.Prelude.{◌≡◌, ◌^◌, ◌<◌, ◌≤◌, MatchBool};
-ghost use Rattle.rule_notes.specs.Inner.OwnNumbers.{HasOwn, HasOwnDecimal, HasOwnWhole, IsLeft, has_all, is_own, is_taken_at};
+ghost use Rattle.rule_notes.specs.Inner.OwnNumbers.{HasOwn, HasOwnDecimal, HasOwnWhole, AreDigitsLeft, has_all, is_own, is_taken_at};
 ghost use Rattle.rule_notes.specs.LookedAtNumbers.{HasDecimal};
 
 use crate::category_rule::CategoryRule;
@@ -84,7 +84,7 @@ fn operands_of(places: usize, unit: u64, parts: u64) -> PluralOperands
 fn without_zeros(places: usize, written: u64) -> (usize, u64)
     requires places { places ≤ 2 }
     requires written { written < 10 ^ places }
-    ensures { IsLeft places written result.0 result.1 }
+    ensures { AreDigitsLeft places written result.0 result.1 }
 {
     if written == 0 {
         (0, 0)

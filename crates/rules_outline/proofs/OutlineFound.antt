@@ -14,8 +14,8 @@ use Rattle.plural_fallback.specs.declared.locales.Part.{Part}
 use Rattle.plural_fallback.specs.declared.locales.Part.TheVariants.{Cardinal, Ordinal, Ranges}
 use Rattle.serde_json.specs.Data.{Data, null, boolean, number, string, array, object, Members, no_members, member}
 use Rattle.serde_json.specs.Find.{as_object, as_str, get, get_member}
-use Rattle.rules_outline.specs.Inner.RulesOutline.{is_inside, is_part, keeps}
-use Rattle.rules_outline.specs.LocaleKeys.{value_at}
+use Rattle.rules_outline.specs.Inner.RulesOutline.{is_inside, is_part, keeps_rules}
+use Rattle.rules_outline.specs.LocaleKeys.{value_at_key}
 use Rattle.rules_outline.specs.declared.outline.KeptLocales.{KeptLocales}
 use Rattle.rules_outline.specs.declared.outline.RulesSieve.{RulesSieve}
 use Rattle.rules_outline.specs.declared.outline.RulesSieve.TheVariants.{Document, Keys}
@@ -45,18 +45,18 @@ module _ (locales : KeptLocales) where
 
   -- a test that only locales inside pass finds the same key
   find_kept : (test : List ℕ → Bool) → ((key : List ℕ) → test key ≡ true → IsInside key) → (ms : Members)
-      → find test (keys_of (outline_members keeps (Keys locales) ms)) ≡ find test (keys_of ms)
+      → find test (keys_of (outline_members keeps_rules (Keys locales) ms)) ≡ find test (keys_of ms)
   find_kept test inside no_members = refl
   find_kept test inside (member key value ms) = by (test key) refl (find_kept test inside ms)
     where
-      by : (b : Bool) → test key ≡ b → find test (keys_of (outline_members keeps (Keys locales) ms)) ≡ find test (keys_of ms)
-          → find test (keys_of (outline_members keeps (Keys locales) (member key value ms))) ≡ cond b (Some key) (find test (keys_of ms))
+      by : (b : Bool) → test key ≡ b → find test (keys_of (outline_members keeps_rules (Keys locales) ms)) ≡ find test (keys_of ms)
+          → find test (keys_of (outline_members keeps_rules (Keys locales) (member key value ms))) ≡ cond b (Some key) (find test (keys_of ms))
       by true passes further = rw (inside key passes, passes) refl
       by false passes further =
-          passed_over test key (outline keeps (keeps (Keys locales) key) value) (outline_members keeps (Keys locales) ms) passes ∙ further
+          passed_over test key (outline keeps_rules (keeps_rules (Keys locales) key) value) (outline_members keeps_rules (Keys locales) ms) passes ∙ further
 
   abbrev pub part_of : Option Data → Option Data
-  part_of whole = option_and_then (outline keeps (kept.Members (Keys locales))) whole
+  part_of whole = option_and_then (outline keeps_rules (kept.Members (Keys locales))) whole
 
   find_in_part : (test : List ℕ → Bool) → ((key : List ℕ) → test key ≡ true → IsInside key) → (whole : Option Data)
       → find test (keys_in_object (option_and_then as_object (part_of whole)))
@@ -80,7 +80,7 @@ module _ (locales : KeptLocales) where
         find_in_part (is_same locale) (λ key same. sym (inside_same locales locale key same) ∙ inside) whole,
       ) refl
 
-  all_kept : (found : Option Data) → option_and_then (outline {C = RulesSieve} keeps kept.Whole) found ≡ found
+  all_kept : (found : Option Data) → option_and_then (outline {C = RulesSieve} keeps_rules kept.Whole) found ≡ found
   all_kept None = refl
   all_kept (Some value) = refl
 
@@ -93,7 +93,7 @@ module _ (locales : KeptLocales) where
   value_in_part key inside (Some (string text)) = refl
   value_in_part key inside (Some (array items)) = refl
   value_in_part key inside (Some (object ms)) =
-      found_kept RulesSieve keeps (Keys locales) key ms ∙ rw inside (all_kept (get_member key ms))
+      found_kept RulesSieve keeps_rules (Keys locales) key ms ∙ rw inside (all_kept (get_member key ms))
 
   -- the key that is found for a locale inside is inside
   pub key_inside : (keys : List (List ℕ)) (locale key : List ℕ) → IsInside locale → key_of keys locale ≡ Some key → IsInside key
@@ -118,17 +118,17 @@ module _ (part : Part) (locales : KeptLocales) (name : List ℕ) (named : is_par
   top = Document part locales
 
   -- what is kept of a part
-  part_kept : (ms : Members) → get_member name (outline_members keeps top ms) ≡ part_of locales (get_member name ms)
-  part_kept ms = found_kept RulesSieve keeps top name ms ∙ rw named refl
+  part_kept : (ms : Members) → get_member name (outline_members keeps_rules top ms) ≡ part_of locales (get_member name ms)
+  part_kept ms = found_kept RulesSieve keeps_rules top name ms ∙ rw named refl
 
-  pub part_found : (whole document : Data) → outline keeps (kept.Members top) whole ≡ Some document
+  pub part_found : (whole document : Data) → outline keeps_rules (kept.Members top) whole ≡ Some document
       → get name document ≡ part_of locales (get name whole)
   part_found null document is = rw (← some_same null document is) refl
   part_found (boolean truth) document is = rw (← some_same (boolean truth) document is) refl
   part_found (number n) document is = rw (← some_same (number n) document is) refl
   part_found (string text) document is = rw (← some_same (string text) document is) refl
   part_found (array items) document is = rw (← some_same (array items) document is) refl
-  part_found (object ms) document is = rw (← some_same (object (outline_members keeps top ms)) document is) (part_kept ms)
+  part_found (object ms) document is = rw (← some_same (object (outline_members keeps_rules top ms)) document is) (part_kept ms)
 
 pub part_named : (part : Part) → is_part part (part_name part) ≡ true
 part_named part = rw ((bytes_eq-Decides (part_name part) (part_name part)).1 refl) refl
@@ -140,7 +140,7 @@ parents_named Ranges = refl
 
 -- the outline of a document
 module _ (part : Part) (locales : KeptLocales) (whole document : Data)
-    (is : outline keeps (kept.Members (Document part locales)) whole ≡ Some document) where
+    (is : outline keeps_rules (kept.Members (Document part locales)) whole ≡ Some document) where
   -- a locale inside has the same key
   pub same_key : (locale : List ℕ) → is_inside locales locale ≡ true
       → key_of (keys_under (part_name part) document) locale ≡ key_of (keys_under (part_name part) whole) locale
@@ -149,7 +149,7 @@ module _ (part : Part) (locales : KeptLocales) (whole document : Data)
       (key_in_part locales locale inside (get (part_name part) whole))
 
   -- and a key inside the same value
-  pub same_value : (key : List ℕ) → is_inside locales key ≡ true → value_at document part key ≡ value_at whole part key
+  pub same_value : (key : List ℕ) → is_inside locales key ≡ true → value_at_key document part key ≡ value_at_key whole part key
   same_value key inside =
       rw (part_found part locales (part_name part) (part_named part) whole document is)
       (value_in_part locales key inside (get (part_name part) whole))

@@ -3,7 +3,7 @@ use Rattle.std.proofs.Common.{◌≡◌, ℕ, zero, suc, ◌<◌, ◌≤◌, Lis
 use Rattle.std.proofs.Common.{refl, sym, ap, subst, ◌∙◌, arith}
 use Rattle.std.specs.Prelude.{◌||◌, bytes_eq, codes, IfOk, IfErr, is_some, option_and_then, string_bytes}
 use Rattle.plural_documents.proofs.HeldOutlines.{outline_held}
-use Rattle.plural_documents.specs.Outlines.{HeldText, IsOutlineOf, is_named, outline, part_by_names}
+use Rattle.plural_documents.specs.Outlines.{HeldText, IsOutlineOf, is_among_names, outline, part_by_names}
 use Rattle.plural_documents.specs.declared.Portion.TheVariants as kept
 use Rattle.plural_fallback.specs.Chain.{next_of}
 use Rattle.plural_fallback.specs.FirstKeys.{NoneBefore, locale_at}
@@ -14,7 +14,7 @@ use Rattle.plural_fallback.specs.declared.error.FallbackError.TheVariants.{NotFo
 use Rattle.plural_fallback.specs.declared.locales.Part.{Part}
 use Rattle.serde_json.specs.Data.{Data}
 use Rattle.serde_json.specs.View.{view}
-use Rattle.rules_outline.specs.Inner.RulesOutline.{HoldsPart, IsFirst, IsFirstInside, StaysInside, is_inside, keeps}
+use Rattle.rules_outline.specs.Inner.RulesOutline.{HoldsPart, GivesFirstKey, IsFirstInside, StaysInside, is_inside, keeps_rules}
 use Rattle.rules_outline.specs.KeptRules.{IsServedBy, ServesAt, key_by}
 use Rattle.rules_outline.specs.LocaleKeys.{HasNoKey, IsKeyOf, key_after, most_locales}
 use Rattle.rules_outline.specs.declared.outline.KeptLocales.{KeptLocales}
@@ -24,7 +24,7 @@ use Rattle.rules_outline.specs.declared.outline.RulesSieve.TheVariants.{Document
 use Rattle.rules_outline.proofs.OutlineFound.{key_inside, same_key, same_next, same_value}
 
 module _ (part : Part) (locale : List ℕ) (locales : KeptLocales) (whole document : Data)
-    (is : outline keeps (kept.Members (Document part locales)) whole ≡ Some document) (stays : StaysInside locales document part locale)
+    (is : outline keeps_rules (kept.Members (Document part locales)) whole ≡ Some document) (stays : StaysInside locales document part locale)
   where
     -- the locale after some steps of the chain
     abbrev at : Data → ℕ → Option (List ℕ)
@@ -106,7 +106,7 @@ module _ (part : Part) (locale : List ℕ) (locales : KeptLocales) (whole docume
             key_inside locales (keys_under (part_name part) document) current found (inside first.0 current first.1 first.3 here)
             (sym (ap (option_and_then (key_of (keys_under (part_name part) document))) here) ∙ first.2)
 
-    pub outline_serves : (first : Result (List ℕ) FallbackError) → IsFirst document part locale first
+    pub outline_serves : (first : Result (List ℕ) FallbackError) → GivesFirstKey document part locale first
         → ServesAt part locale document whole first
     outline_serves (Ok key) first = (first_key key first, same_value part locales whole document is key (key_is_inside key first))
     outline_serves (Err reason) none = no_key reason none
@@ -123,17 +123,17 @@ with_none false true is = is
 with_none false false is = refl
 
 -- no other member is kept
-no_other : (part : Part) (locales : KeptLocales) (key : List ℕ) → is_named (part_name part ∷ codes "parents" ∷ []) key ≡ false
-    → keeps (Document part locales) key ≡ kept.Nothing
+no_other : (part : Part) (locales : KeptLocales) (key : List ℕ) → is_among_names (part_name part ∷ codes "parents" ∷ []) key ≡ false
+    → keeps_rules (Document part locales) key ≡ kept.Nothing
 no_other part locales key other = rw (with_none (bytes_eq key (part_name part)) (bytes_eq key (codes "parents")) other) refl
 
 -- so what is kept of a part serves
 pub part_serves : (part : Part) (locale : List ℕ) (text : HeldText) (locales : KeptLocales) (kept : KeptRules)
     (first : Result (List ℕ) FallbackError)
-    → HoldsPart part text → IsOutlineOf keeps (Document part locales) text (view kept.document) → key_by string_bytes kept.key ≡ first
+    → HoldsPart part text → IsOutlineOf keeps_rules (Document part locales) text (view kept.document) → key_by string_bytes kept.key ≡ first
     → IsFirstInside locales (view kept.document) part locale first → IsServedBy part locale text.bytes kept
 part_serves part locale text locales kept first names (held, (whole, reads, is_held), outlined) key (stays, is_first) =
-    let same = outline_held keeps (Document part locales) (part_name part ∷ codes "parents" ∷ []) (no_other part locales) whole held
+    let same = outline_held keeps_rules (Document part locales) (part_name part ∷ codes "parents" ∷ []) (no_other part locales) whole held
     (ap (λ given. part_by_names given whole) (sym names) ∙ is_held) in (
       whole,
       reads,
@@ -144,6 +144,6 @@ part_serves part locale text locales kept first names (held, (whole, reads, is_h
 -- the first key, as it is found
 pub first_found : {K : Type 0} (text : K → List ℕ) (document : Data) (part : Part) (locale : List ℕ) (r : Result K FallbackError)
     → IfOk r (λ key. IsKeyOf document part locale (text key)) → IfErr r (HasNoKey document part locale)
-    → IsFirst document part locale (key_by text r)
+    → GivesFirstKey document part locale (key_by text r)
 first_found text document part locale (Ok key) first none = first
 first_found text document part locale (Err reason) first none = none

@@ -10,7 +10,7 @@ use Rattle.plural_fallback.specs.declared.error.FallbackError.{FallbackError}
 use Rattle.plural_fallback.specs.declared.locales.Part.{Part}
 use Rattle.serde_json.specs.Data.{Data}
 use Rattle.serde_json.specs.View.{view}
-use Rattle.rules_outline.specs.LocaleKeys.{HasNoKey, IsKeyOf, value_at}
+use Rattle.rules_outline.specs.LocaleKeys.{HasNoKey, IsKeyOf, value_at_key}
 use Rattle.rules_outline.specs.declared.outline.KeptRules.{KeptRules}
 
 -- a key as its text
@@ -20,7 +20,7 @@ key_by text (Err reason) = Err reason
 
 -- the first key of the whole has in a document what it has in the whole
 abbrev pub ServesAt : Part → List ℕ → Data → Data → Result (List ℕ) FallbackError → Type 0
-ServesAt part locale document whole (Ok key) = IsKeyOf whole part locale key × (value_at document part key ≡ value_at whole part key)
+ServesAt part locale document whole (Ok key) = IsKeyOf whole part locale key × (value_at_key document part key ≡ value_at_key whole part key)
 ServesAt part locale document whole (Err reason) = HasNoKey whole part locale reason
 
 -- so has that of what is kept

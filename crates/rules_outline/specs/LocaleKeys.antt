@@ -1,7 +1,7 @@
 -- The key that a part of a document has for a locale: the first one along the locale's chain.
 --     IsKeyOf document part locale key      the first key
 --     HasNoKey document part locale reason      there is none, for this reason
---     value_at document part key      what stands under a key
+--     value_at_key document part key      what stands under a key
 use Rattle.std.specs.Prelude.{ℕ, List, Option}
 use Rattle.std.specs.Option.{option_and_then}
 use Rattle.plural_fallback.specs.Chain.{next_of}
@@ -27,5 +27,5 @@ abbrev pub HasNoKey : Data → Part → List ℕ → FallbackError → Type 0
 HasNoKey document part locale reason =
     Misses most_locales (locale_at (next_of (parent_in document)) locale) (key_after document part locale) (λ _. ⊥) reason
 
-abbrev pub value_at : Data → Part → List ℕ → Option Data
-value_at document part key = option_and_then (get key) (get (part_name part) document)
+abbrev pub value_at_key : Data → Part → List ℕ → Option Data
+value_at_key document part key = option_and_then (get key) (get (part_name part) document)

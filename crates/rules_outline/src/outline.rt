@@ -40,9 +40,9 @@ pub(crate) enum RulesSieve<'a> {
 }
 
 impl<'a> Sieve for RulesSieve<'a> {
-    ghost use Rattle.rules_outline.specs.Inner.RulesOutline.{keeps};
+    ghost use Rattle.rules_outline.specs.Inner.RulesOutline.{keeps_rules};
 
-    ghost keeps = { keeps };
+    ghost keeps = { keeps_rules };
 
     fn kept(&self, key: &str) -> Portion<RulesSieve<'a>> {
         match *self {

@@ -9,11 +9,11 @@ use Rattle.serde_json.specs.declared.Value.{Value}
 use Rattle.icu_plurals.specs.Categories.{name_of}
 use Rattle.icu_plurals.specs.declared.PluralCategory.{PluralCategory}
 use Rattle.icu_plurals.specs.declared.PluralCategory.TheVariants.{Zero, One, Two, Few, Many, Other}
-use Rattle.translation_files.specs.MessageDocuments.{is_category_name, is_empty}
+use Rattle.translation_files.specs.MessageDocuments.{is_category_name, has_no_member}
 
 -- whether a map has members
 pub none_there : (entries : List (String Global × Value)) (none : Bool) → (length entries ≡ 0 → none ≡ true)
-    → (none ≡ true → length entries ≡ 0) → none ≡ is_empty (members_view entries)
+    → (none ≡ true → length entries ≡ 0) → none ≡ has_no_member (members_view entries)
 none_there [] none from to = from refl
 none_there (entry ∷ entries) true from to = absurd (omega (arith, to refl))
 none_there (entry ∷ entries) false from to = refl

@@ -3,7 +3,7 @@ use Rattle.std.proofs.Common.{◌≡◌, ℕ, Bool, true, false, ◌&&◌, if◌
 use Rattle.std.specs.BTreeMap.{get_by_text}
 use Rattle.std.proofs.lemmas.Bool.{cases_Bool, cond-false, cond-true}
 use Rattle.std.proofs.lemmas.Slice.Eq.{bytes_eq-Decides}
-use Rattle.translation_files.specs.FilePlaces.{KeepsPlaces, PutsPlace, is_kind, place_at, place_in, places_of}
+use Rattle.translation_files.specs.FilePlaces.{KeepsPlaces, PutsPlace, is_kind, place_at, place_in, places_of_kind}
 use Rattle.translation_files.specs.Inner.PlaceSteps.{HasNoLines, KeepsLines, KeepsTexts, PutsLines, PutsText, lines_at}
 use Rattle.translation_files.specs.declared.lines.MessageKind.{MessageKind}
 use Rattle.translation_files.specs.declared.lines.MessageKind.TheVariants.{Cardinal, Ordinal, Pattern}

@@ -1,7 +1,5 @@
 -- notices, kinds and counts
-pub mod NoticeCodes
 pub mod NoticeSeverities
-pub mod MessageKinds
 pub mod MessageFates
 -- where messages stand
 pub mod FilePlaces

@@ -14,9 +14,9 @@ abbrev pub some_member : (List ℕ → Data → Bool) → Members → Bool
 some_member test no_members = false
 some_member test (member key value others) = test key value || some_member test others
 
-abbrev pub is_empty : Members → Bool
-is_empty no_members = true
-is_empty (member key value others) = false
+abbrev pub has_no_member : Members → Bool
+has_no_member no_members = true
+has_no_member (member key value others) = false
 
 -- an object, whose members pass the test
 abbrev pub members_pass : (Members → Bool) → Option Members → Bool
@@ -59,8 +59,8 @@ abbrev pub is_name_of_part : List ℕ → Bool
 is_name_of_part key = is_name_of_type key || bytes_eq key (codes "source") || bytes_eq key (codes "patterns")
 
 -- the key of a locale, or of a part whose locale is forgotten
-abbrev pub is_named : List ℕ → Bool
-is_named key = is_named_as_locale key || is_name_of_part key
+abbrev pub is_named_key : List ℕ → Bool
+is_named_key key = is_named_as_locale key || is_name_of_part key
 
 abbrev pub is_category_name : List ℕ → Bool
 is_category_name name = list_any (λ category. bytes_eq name (name_of category)) all_categories
@@ -68,11 +68,11 @@ is_category_name name = list_any (λ category. bytes_eq name (name_of category))
 -- ---- Locales
 
 -- messages of a type; where the locale's key isn't named as one, they have no texts
-abbrev pub is_part : Bool → List ℕ → Data → Bool
-is_part named key part = is_name_of_type key && is_object_of (λ messages. named || not (has_text messages)) part
+abbrev pub is_message_part : Bool → List ℕ → Data → Bool
+is_message_part named key part = is_name_of_type key && is_object_of (λ messages. named || not (has_text messages)) part
 
 abbrev pub has_part : List ℕ → Data → Bool
-has_part key locale = is_object_of (some_member (is_part (is_named key))) locale
+has_part key locale = is_object_of (some_member (is_message_part (is_named_key key))) locale
 
 -- the text of a category
 abbrev pub is_form : List ℕ → Data → Bool
@@ -85,23 +85,23 @@ abbrev pub have_forms : Members → Bool
 have_forms messages = some_member (λ key message. has_forms message) messages
 
 abbrev pub are_messages : Members → Bool
-are_messages messages = is_empty messages || have_forms messages
+are_messages messages = has_no_member messages || have_forms messages
 
 -- no part, and none that is misspelt
-abbrev pub is_other : List ℕ → Data → Bool
-is_other key part = is_text part || not (is_name_of_part key) && not (is_object_of are_messages part)
+abbrev pub is_other_member : List ℕ → Data → Bool
+is_other_member key part = is_text part || not (is_name_of_part key) && not (is_object_of are_messages part)
 
 abbrev pub are_parts : Members → Bool
-are_parts parts = not (is_empty parts) && not (some_member is_other parts)
+are_parts parts = not (has_no_member parts) && not (some_member is_other_member parts)
 
 abbrev pub has_parts : List ℕ → Data → Bool
-has_parts key locale = is_named key && is_object_of are_parts locale
+has_parts key locale = is_named_key key && is_object_of are_parts locale
 
 -- ---- Documents
 
 -- a locale has messages, or each one that may be a locale has parts alone, and there is no text
 abbrev pub are_locales : Members → Bool
-are_locales members = some_member has_part members || (is_empty members || some_member has_parts members) && not (has_text members)
+are_locales members = some_member has_part members || (has_no_member members || some_member has_parts members) && not (has_text members)
 
 -- a file of ARB, or what a tool tells of a file
 abbrev pub says_file : Data → Bool

@@ -1,6 +1,6 @@
 -- What is returned of a translators' file.
 --     IsUnread line code text file      nothing of it is read, and an error tells why
---     ReadsJson bytes file      what a JSON file gives
+--     ReadsJsonFile bytes file      what a JSON file gives
 --     ReadsPo bytes file      what a gettext catalog gives
 --     IsReadAs kind bytes file      what a file gives, which is of this kind
 --     file_kind bytes      the kind of a file, by its bytes
@@ -74,8 +74,8 @@ abbrev pub IsReadAsJson : List ℕ → Option Data → FileMessages → Type 0
 IsReadAsJson bytes None file = IsBroken bytes file
 IsReadAsJson bytes (Some value) file = IsReadOf value file
 
-abbrev pub ReadsJson : List ℕ → FileMessages → Type 0
-ReadsJson bytes file = IsReadAsJson (behind_mark bytes) (json_of (behind_mark bytes)) file
+abbrev pub ReadsJsonFile : List ℕ → FileMessages → Type 0
+ReadsJsonFile bytes file = IsReadAsJson (behind_mark bytes) (json_of (behind_mark bytes)) file
 
 -- ---- gettext
 
@@ -87,7 +87,7 @@ pub record ReadsPo (bytes : List ℕ) (file : FileMessages) : Type 0 where
 -- ---- Files of any kind
 
 abbrev pub IsReadAs : FileKind → List ℕ → FileMessages → Type 0
-IsReadAs Json bytes file = ReadsJson bytes file
+IsReadAs Json bytes file = ReadsJsonFile bytes file
 IsReadAs Po bytes file = ReadsPo bytes file
 IsReadAs Xml bytes file = IsUnread None NotRead XML.now file
 IsReadAs Wide bytes file = IsUnread None NotRead WIDE.now file

@@ -1,7 +1,7 @@
 //! The codes of notices.
 
 ghost use Rattle.std.specs.Prelude.{◌≡◌};
-ghost use Rattle.translation_files.specs.NoticeCodes.{notice_code_name};
+ghost use Rattle.translation_files.specs.NoticeSeverities.{notice_code_name};
 
 /// What is told of a file, in a word that stays the same from version to version.
 #[derive(Clone, Copy, Debug, PartialEq, Eq)]

@@ -2,7 +2,7 @@
 
 ghost use Rattle.std.specs.Prelude.{◌≡◌, option_and_then, option_copied, option_map};
 ghost use Rattle.message_report.specs.MessagePlaces.{message_place_view, pattern_place_view, place_view};
-ghost use Rattle.translation_files.specs.FilePlaces.{kind_of, line_of, message_target, pattern_target, placeholder_of, target, target_of};
+ghost use Rattle.translation_files.specs.FilePlaces.{kind_of_type, line_of_target, message_target, pattern_target, placeholder_of, target, target_of};
 ghost use Rattle.translation_files.specs.Inner.PlaceSteps.{target_view};
 
 use crate::counts::FileCounts;
@@ -48,7 +48,7 @@ impl FileMessages {
         key: &str,
         form: Option<Form>,
     ) -> Option<u64>
-        ensures { result ≡ line_of self.now.places (target locale.now kind key.now form) }
+        ensures { result ≡ line_of_target self.now.places (target locale.now kind key.now form) }
     {
         let lines = self.places.find(locale, kind, key)?;
         Some(lines.line_of(form))
@@ -66,7 +66,7 @@ impl FileMessages {
 
     /// Returns the line of a finding's place, if its message is known.
     pub fn line_at(&self, place: &Place<'_>) -> Option<u64>
-        ensures { result ≡ option_and_then (line_of self.now.places) (target_of (place_view place.now)) }
+        ensures { result ≡ option_and_then (line_of_target self.now.places) (target_of (place_view place.now)) }
     {
         let target = target_of(place)?;
         self.line(target.locale, target.kind, target.key, target.form)
@@ -132,7 +132,7 @@ fn target_of<'a>(place: &Place<'a>) -> Option<Target<'a>>
 
 // The kind of messages of a type.
 fn kind_of(rule_type: PluralRuleType) -> MessageKind
-    ensures { result ≡ kind_of rule_type }
+    ensures { result ≡ kind_of_type rule_type }
 {
     match rule_type {
         PluralRuleType::Cardinal => MessageKind::Cardinal,

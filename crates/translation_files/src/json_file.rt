@@ -34,7 +34,7 @@ ghost use Rattle.std.specs.Prelude.{◌≡◌, [], All, false, IfOk};
 ghost use Rattle.serde_json.specs.Errors.{IsMemory};
 ghost use Rattle.serde_json.specs.View.{view};
 ghost use Rattle.translation_files.specs.NoticeSeverities.{IsGraded};
-ghost use Rattle.translation_files.specs.ReadFiles.{IsBroken, IsDocumentOf, IsReadOf, ReadsJson, tells_notices};
+ghost use Rattle.translation_files.specs.ReadFiles.{IsBroken, IsDocumentOf, IsReadOf, ReadsJsonFile, tells_notices};
 
 use crate::code::NoticeCode;
 use crate::counts::{Fate, FileCounts};
@@ -78,7 +78,7 @@ pub fn read_json<S: RulesOfLocales>(
     rules: &S,
     locale: Option<&str>,
 ) -> Result<FileMessages, AllocError>
-    ensures { IfOk result (ReadsJson bytes.now) }
+    ensures { IfOk result (ReadsJsonFile bytes.now) }
 {
     let bytes = without_mark(bytes);
     match Value::from_slice(alloc, bytes) {

@@ -1,8 +1,7 @@
 //! Where a message stands in its file.
 
 ghost use Rattle.std.specs.Prelude.{◌≡◌};
-ghost use Rattle.translation_files.specs.FilePlaces.{form_line};
-ghost use Rattle.translation_files.specs.MessageKinds.{kind_name};
+ghost use Rattle.translation_files.specs.FilePlaces.{form_line, kind_name};
 
 use message_report::Form;
 

@@ -2,7 +2,7 @@
 
 ghost use Rattle.std.specs.Prelude.{◌≡◌, IsSome, OnErr, OnOk, option_copied, string_bytes};
 ghost use Rattle.std.specs.BTreeMap.{get_by_text};
-ghost use Rattle.translation_files.specs.FilePlaces.{HasNoPlaces, KeepsPlaces, PutsPlace, place_at, places_of};
+ghost use Rattle.translation_files.specs.FilePlaces.{HasNoPlaces, KeepsPlaces, PutsPlace, place_at, places_of_kind};
 ghost use Rattle.translation_files.specs.Inner.PlaceSteps.{HasNoLines, KeepsLines, KeepsTexts, PutsLines, PutsText};
 
 use crate::lines::{MessageKind, MessageLines};
@@ -30,7 +30,7 @@ impl LocalePlaces {
 
     // Those of a kind.
     fn of_kind(&self, kind: MessageKind) -> &BTreeMap<String, MessageLines>
-        ensures { result.now ≡ places_of kind self.now }
+        ensures { result.now ≡ places_of_kind kind self.now }
     {
         match kind {
             MessageKind::Cardinal => &self.cardinal,

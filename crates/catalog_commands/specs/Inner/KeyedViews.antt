@@ -7,7 +7,20 @@ use Rattle.catalog_commands.specs.declared.arguments.Word.{Word}
 use Rattle.catalog_commands.specs.declared.fault.PatternsFault.{PatternsFault}
 use Rattle.catalog_commands.specs.declared.fault.PatternsFault.TheVariants as fault
 use Rattle.catalog_commands.specs.declared.texts.Keyed.{Keyed}
-use Rattle.serde_json.specs.Data.{Members}
+use Rattle.serde_json.specs.Data.{Members, Data}
+use Rattle.std.specs.Borrow.{Bor}
+use Rattle.catalog_commands.specs.LocaleMessages.{OneLocale, one_locale}
+use Rattle.catalog_commands.specs.declared.locales.LocaleMessages.{LocaleMessages}
+use Rattle.serde_json.specs.View.{view}
+use Rattle.serde_json.specs.declared.value.Value.{Value}
+
+-- ---- the messages of a locale as they are seen
+
+abbrev pub locale_view : LocaleMessages → OneLocale
+locale_view of = one_locale of.locale.now (view of.messages.now)
+
+abbrev pub json_value_view : Bor Value → Data
+json_value_view value = view value.now
 
 abbrev pub keyed_view : Keyed → KeyedText
 keyed_view keyed = record { key = keyed.key.now; text = keyed.text.now }

@@ -7,8 +7,8 @@ use Rattle.document_formats.specs.declared.word_fault.WordFault.TheVariants as w
 use Rattle.document_formats.specs.declared.words.Asked.{Asked as CodeAsked}
 use Rattle.document_formats.specs.declared.words.Asked.TheVariants as code
 
-abbrev pub words_view : List (Bor (List ℕ)) → List (List ℕ)
-words_view words = map (λ w. w.now) words
+abbrev pub check_words_view : List (Bor (List ℕ)) → List (List ℕ)
+check_words_view words = map (λ w. w.now) words
 
 abbrev pub word_fault_view : CodeFault → WordFault
 word_fault_view wrong.NoFormat = no_format
@@ -18,7 +18,7 @@ word_fault_view (wrong.Option word) = bad_option word.now
 abbrev pub request_view : CodeAsked → Asked
 request_view code.Help = help
 request_view code.Version = version
-request_view (code.Reports format files) = reports format (words_view files.now)
+request_view (code.Reports format files) = reports format (check_words_view files.now)
 
 abbrev pub asked_view : Result CodeAsked CodeFault → Result Asked WordFault
 asked_view (Ok asked) = Ok (request_view asked)

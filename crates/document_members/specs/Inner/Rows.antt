@@ -1,11 +1,13 @@
 -- Not a definition of the subject: rows of parents by the folded names of their locales.
-use Rattle.std.specs.Prelude.{◌≡◌, ◌<◌, ℕ, List, length, Option, None, option_map, Vec}
+use Rattle.std.specs.Prelude.{◌≡◌, ◌<◌, ℕ, List, length, Option, None, option_map, Vec, Some}
 use Rattle.std.specs.BTreeMap.{BTreeMap, get_by}
 use Rattle.std.specs.Cmp.Lexicographic.{slice_cmp}
 use Rattle.std.specs.declared.alloc.Global.{Global}
 use Rattle.std.specs.Option.{option_copied}
 use Rattle.std.specs.Ordering.{nat_cmp}
 use Rattle.document_members.specs.declared.parent_rows.Row.{Row}
+use Rattle.plural_fallback.specs.FirstKeys.{locale_at}
+use Rattle.document_members.specs.declared.chains.Stop.{Stop}
 
 -- the parent of a row
 abbrev pub row_text : Row → Option (List ℕ)
@@ -25,3 +27,9 @@ row_at rows name = option_map row_seen (get_by (λ key. slice_cmp nat_cmp name k
 -- no longer name has a row
 abbrev pub AreUpTo : ℕ → (List ℕ → Option Seen) → Type 0
 AreUpTo most rows = (name : List ℕ) → most < length name → rows name ≡ None
+
+-- ---- the locales on the way of a chain
+
+-- the locale after some steps of a chain
+abbrev pub IsStop : (List ℕ → Option (List ℕ)) → List ℕ → Stop → Type 0
+IsStop next locale stop = locale_at next locale stop.steps ≡ Some stop.locale.now

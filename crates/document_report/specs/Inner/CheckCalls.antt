@@ -13,8 +13,12 @@ use Rattle.plural_checker.specs.declared.Fault.{Fault}
 use Rattle.document_report.specs.DocumentFindings.{Finding}
 use Rattle.document_report.specs.DocumentPlaces.{LocalePlace}
 use Rattle.document_report.specs.DocumentReport.{text_finding}
-use Rattle.plural_documents.specs.FirstLines.{most_told}
-use Rattle.plural_documents.specs.Inputs.{GivesBy, GivesByReading, IsFaultOf}
+use Rattle.plural_documents.specs.PrintedKeys.{most_told}
+use Rattle.plural_documents.specs.Inputs.{GivesBy, GivesByReading, IsFaultOfOrigin}
+use Rattle.std.proofs.Common.{refl, append_assoc}
+use Rattle.std.proofs.Math.Nat.{add_assoc, add-zero}
+use Rattle.std.proofs.lemmas.List.{append-nil}
+use Rattle.document_report.specs.FoundInDocuments.{Found, nothing_found, together}
 
 -- ---- Values
 
@@ -38,8 +42,8 @@ category_numbered number =
 -- ---- Results
 
 -- a fault of this kind, or out of memory; the call neither reads nor writes
-abbrev pub GivesFault : (CheckError → Type 0) → CheckError → Type 0
-GivesFault IsFault fault = IsFaultOf (check_origin fault) (IsFault fault)
+abbrev pub GivesCheckFault : (CheckError → Type 0) → CheckError → Type 0
+GivesCheckFault IsFault fault = IsFaultOfOrigin (check_origin fault) (IsFault fault)
 
 -- the result, in the words of the definitions, or out of memory
 abbrev pub Gives : {A B : Type 0} → (A → B) → (Result B CheckError → Type 0) → Result A CheckError → Type 0
@@ -56,3 +60,18 @@ GivesAfterReading = GivesByReading check_origin answer_view
 -- the finding of a fault, if few enough of the same text come before it
 abbrev pub told_after : LocalePlace → ℕ → Fault → List Finding
 told_after place before fault = if nat_lt before most_told then text_finding place fault ∷ [] else []
+
+-- ---- what is found, put together
+
+-- adding nothing at the end changes nothing
+pub together-nothing : (a : Found) → together a nothing_found ≡ a
+together-nothing a = rw (append-nil a.findings, add-zero a.faults, add-zero a.checked, add-zero a.cases) refl
+
+pub together_assoc : (a b c : Found) → together (together a b) c ≡ together a (together b c)
+together_assoc a b c =
+    rw (
+      append_assoc a.findings b.findings c.findings,
+      add_assoc a.faults b.faults c.faults,
+      add_assoc a.checked b.checked c.checked,
+      add_assoc a.cases b.cases c.cases,
+    ) refl

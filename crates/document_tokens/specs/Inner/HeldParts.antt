@@ -6,7 +6,7 @@ use Rattle.json.specs.Token.{Token}
 use Rattle.json.specs.Tree.{json_tokens}
 use Rattle.document_tokens.specs.HeldTokens.{Held, held_of, held_tokens}
 use Rattle.document_tokens.specs.TextTokens.{json_part}
-use Rattle.document_tokens.specs.Inner.OpenBrackets.{Comes, IsAfter, Passes, most_open}
+use Rattle.document_tokens.specs.Inner.OpenBrackets.{Comes, IsAfter, PassesToken, most_open}
 use Rattle.document_tokens.specs.declared.token_place.TokenPlace.{TokenPlace}
 use Rattle.serde_json.specs.Read.{number_of}
 
@@ -42,7 +42,7 @@ fits Token.bad = false
 
 -- the token comes after the old place and fits, what comes after it comes after the new one, and this is held of it
 abbrev pub IsHeldAt : TokenPlace → Token → TokenPlace → Held → Type 0
-IsHeldAt old token new held = Passes old token new × (fits token ≡ true) × (held ≡ held_of token)
+IsHeldAt old token new held = PassesToken old token new × (fits token ≡ true) × (held ≡ held_of token)
 
 -- it doesn't come after the place, or doesn't fit
 abbrev pub IsUnfit : TokenPlace → Token → Type 0

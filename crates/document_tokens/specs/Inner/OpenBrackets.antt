@@ -6,27 +6,27 @@ use Rattle.json.specs.Json.{Json, Items, Members}
 use Rattle.json.specs.Token.{Token}
 use Rattle.json.specs.Tree.{depth, items_depth, items_tokens, json_tokens, members_depth, members_tokens}
 use Rattle.document_tokens.specs.HeldTokens.{held_of, opened_after}
-use Rattle.document_tokens.specs.Inner.OpenKinds.{is_in}
+use Rattle.document_tokens.specs.Inner.OpenKinds.{is_innermost_kind}
 use Rattle.document_tokens.specs.declared.token_place.TokenPlace.{TokenPlace}
 
 -- ---- What completes it
 
 -- after these tokens, all that is open has ended; arrays and objects nest to a depth
-abbrev pub Completes : ℕ → List Token → List Bool → List Token → Type 0
-Completes most rest [] tokens = tokens ≡ rest
-Completes most rest (true ∷ opened) tokens =
+abbrev pub CompletesOpen : ℕ → List Token → List Bool → List Token → Type 0
+CompletesOpen most rest [] tokens = tokens ≡ rest
+CompletesOpen most rest (true ∷ opened) tokens =
     (members : Members) × (after : List Token) × (tokens ≡ members_tokens members ++ after)
-    × (members_depth members ≤ most - suc (length opened)) × Completes most rest opened after
-Completes most rest (false ∷ opened) tokens =
+    × (members_depth members ≤ most - suc (length opened)) × CompletesOpen most rest opened after
+CompletesOpen most rest (false ∷ opened) tokens =
     (items : Items) × (after : List Token) × (tokens ≡ items_tokens items ++ after)
-    × (items_depth items ≤ most - suc (length opened)) × Completes most rest opened after
+    × (items_depth items ≤ most - suc (length opened)) × CompletesOpen most rest opened after
 
 -- the same, after a value if one is due
 abbrev pub Comes : ℕ → List Token → Bool → List Bool → List Token → Type 0
 Comes most rest true opened tokens =
     (value : Json) × (after : List Token) × (tokens ≡ json_tokens value ++ after) × (depth value ≤ most - length opened)
-    × Completes most rest opened after
-Comes most rest false opened tokens = Completes most rest opened tokens
+    × CompletesOpen most rest opened after
+Comes most rest false opened tokens = CompletesOpen most rest opened tokens
 
 -- ---- A place
 
@@ -44,19 +44,19 @@ Goes old token new =
     (tokens : List Token) → (IsAfter old (token ∷ tokens) → IsAfter new tokens) × (IsAfter new tokens → IsAfter old (token ∷ tokens))
 
 -- and as many are open there as the token leaves open
-abbrev pub Passes : TokenPlace → Token → TokenPlace → Type 0
-Passes old token new = Goes old token new × (length new.«open» ≡ opened_after (length old.«open») (held_of token))
+abbrev pub PassesToken : TokenPlace → Token → TokenPlace → Type 0
+PassesToken old token new = Goes old token new × (length new.«open» ≡ opened_after (length old.«open») (held_of token))
 
 -- the token doesn't come after the place
-abbrev pub IsRefused : TokenPlace → Token → Type 0
-IsRefused place token = (tokens : List Token) → IsAfter place (token ∷ tokens) → ⊥
+abbrev pub IsRefusedToken : TokenPlace → Token → Type 0
+IsRefusedToken place token = (tokens : List Token) → IsAfter place (token ∷ tokens) → ⊥
 
 -- ---- Kinds of tokens
 
 -- it goes on in an object, if this is true, or in an array
 abbrev pub goes_on : Bool → Bool → List Bool → Bool
 goes_on is_object true opened = false
-goes_on is_object false opened = is_in is_object opened
+goes_on is_object false opened = is_innermost_kind is_object opened
 
 -- a value may come
 abbrev pub may_have_value : Bool → List Bool → Bool
@@ -87,4 +87,4 @@ is_scalar Token.bad = false
 
 -- past any of these, if it may come
 abbrev pub GoesByScalar : Bool → TokenPlace → TokenPlace → Type 0
-GoesByScalar passed old new = (token : Token) → is_scalar token ≡ true → MatchBool passed (Passes old token new) (IsRefused old token)
+GoesByScalar passed old new = (token : Token) → is_scalar token ≡ true → MatchBool passed (PassesToken old token new) (IsRefusedToken old token)

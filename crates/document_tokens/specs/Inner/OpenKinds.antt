@@ -11,7 +11,7 @@ innermost [] = None
 innermost (first ∷ opened) = Some first
 
 -- the innermost is an object, if this is true, or an array
-abbrev pub is_in : Bool → List Bool → Bool
-is_in is_object [] = false
-is_in true (first ∷ opened) = first
-is_in false (first ∷ opened) = not first
+abbrev pub is_innermost_kind : Bool → List Bool → Bool
+is_innermost_kind is_object [] = false
+is_innermost_kind true (first ∷ opened) = first
+is_innermost_kind false (first ∷ opened) = not first

@@ -9,6 +9,12 @@ use Rattle.form_commands.specs.RuleConditions.{atoms_of_group, conditions_of_gro
 use Rattle.form_commands.specs.declared.c_condition.Group.{Group}
 use Rattle.form_commands.specs.declared.joined.Joined.{Joined}
 
+-- ---- a text has grown
+
+-- by a text of this kind
+abbrev pub Grows : (List ℕ → Type 0) → List ℕ → List ℕ → Type 0
+Grows Is old new = (more : List ℕ) × Is more × (new ≡ old ++ more)
+
 abbrev pub is_begun : List (List ℕ) → Bool
 is_begun [] = false
 is_begun (piece ∷ pieces) = true
@@ -37,9 +43,9 @@ pub record AreCut (done : List (List PackedRelation)) (group : List PackedRelati
   pub is_current : IsGroup group current
 
 -- those before a relation
-abbrev pub ended_before : AndOr → List (List PackedRelation) → List PackedRelation → List (List PackedRelation)
-ended_before And done group = done
-ended_before Or done group = done ++ group ∷ []
+abbrev pub groups_ended_before : AndOr → List (List PackedRelation) → List PackedRelation → List (List PackedRelation)
+groups_ended_before And done group = done
+groups_ended_before Or done group = done ++ group ∷ []
 
 abbrev pub begun_before : AndOr → List PackedRelation → List PackedRelation
 begun_before And group = group

@@ -9,7 +9,7 @@ use Rattle.plural_documents.specs.Inputs.{IsPartWritten}
 use Rattle.rules_outline.specs.declared.outline.KeptRules.{KeptRules}
 use Rattle.number_lines.specs.PrintedTexts.{PrintedText}
 use Rattle.form_commands.specs.Inner.RunSteps.{WritesAnswer}
-use Rattle.form_commands.specs.KeyNotes.{note_text}
+use Rattle.form_commands.specs.KeyNotes.{key_note_text}
 use Rattle.form_commands.specs.declared.error.LanguageError.{LanguageError}
 use Rattle.form_commands.specs.declared.error.FormsError.{FormsError}
 use Rattle.form_commands.specs.declared.error.FormsError.TheVariants.{Write, Memory}
@@ -17,7 +17,7 @@ use Rattle.form_commands.specs.declared.error.Verdict.{Verdict}
 
 -- the note of the key that is kept
 abbrev pub note_of_key : Part → List ℕ → Result (String Global) FallbackError → List ℕ
-note_of_key part locale (Ok key) = note_text [] part locale (string_bytes key)
+note_of_key part locale (Ok key) = key_note_text [] part locale (string_bytes key)
 note_of_key part locale (Err reason) = []
 
 abbrev pub IsKeptNote : KeptRules → Part → List ℕ → List ℕ → Type 0

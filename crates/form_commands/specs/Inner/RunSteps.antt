@@ -5,7 +5,7 @@ use Rattle.std.specs.declared.alloc.AllocError.{AllocError}
 use Rattle.std.specs.declared.alloc.Global.{Global}
 use Rattle.icu_plurals.specs.DocumentJson.{Document, document_of_json}
 use Rattle.icu_plurals.specs.declared.JsonError.{JsonError}
-use Rattle.message_report.specs.FoundInMessages.{Found}
+use Rattle.message_report.specs.FoundInMessages.{MessageFound}
 use Rattle.message_report.specs.MessagesRun.{IsReportedAs}
 use Rattle.message_report.specs.declared.counts.Counts.{Counts}
 use Rattle.message_report.specs.declared.error.ReportError.{ReportError}
@@ -23,7 +23,7 @@ use Rattle.rules_outline.specs.KeptRules.{Serves, key_by}
 use Rattle.rules_outline.specs.declared.outline.KeptRules.{KeptRules}
 use Rattle.form_commands.specs.FormsAnswers.{IsDocumentIn, IsNoJson, IsStreamed, IsUntouched, rules_source, verdict_of, verdict_of_counts}
 use Rattle.form_commands.specs.Inner.FormsInputFaults.{lines_fault, report_fault}
-use Rattle.form_commands.specs.Languages.{IsFoundAt, IsKnown, IsKnownIn, IsUnknown, IsUnknownIn, unknown_error}
+use Rattle.form_commands.specs.Languages.{IsFoundAt, IsKnownForPart, IsKnownIn, IsUnknownForPart, IsUnknownIn, unknown_error}
 use Rattle.form_commands.specs.declared.error.FormsError.{FormsError}
 use Rattle.form_commands.specs.declared.error.FormsError.TheVariants.{Rules, TooLong, Json, Refused, Language, Numbers, Write, Memory}
 use Rattle.form_commands.specs.declared.error.LanguageError.{LanguageError}
@@ -31,6 +31,12 @@ use Rattle.form_commands.specs.declared.error.LanguageError.TheVariants.{NotFoun
 use Rattle.form_commands.specs.declared.error.Verdict.{Verdict}
 use Rattle.form_commands.specs.declared.error.Verdict.TheVariants.{Complete, Faults}
 use Rattle.form_commands.specs.declared.language.LanguageRules as code
+use Rattle.finding_formats.specs.LocatedFindings.{Located}
+use Rattle.finding_formats.specs.LocatedReport.{located_text}
+use Rattle.finding_formats.specs.declared.format.Format.{Format}
+use Rattle.finding_formats.specs.declared.totals.Totals.{Totals}
+use Rattle.form_commands.specs.TranslationReports.{told_verdict}
+use Rattle.form_commands.specs.declared.translations.Report.{Report}
 
 -- the result of a report
 abbrev pub result_of_report : Result Counts ReportError → Result Verdict FormsError
@@ -75,12 +81,12 @@ GivesDocument input (Err Memory) = ⊤
 -- ---- The rules of a locale
 
 -- what stands under the key, or why there is none
-abbrev pub IsFoundUnder : Data → Part → List ℕ → Result (List ℕ) FallbackError → Result code.LanguageRules LanguageError → Type 0
-IsFoundUnder document part locale (Ok key) answer = IsFoundAt document part key answer
-IsFoundUnder document part locale (Err reason) answer = answer ≡ Err (NotFound part locale reason)
+abbrev pub IsFoundUnderKey : Data → Part → List ℕ → Result (List ℕ) FallbackError → Result code.LanguageRules LanguageError → Type 0
+IsFoundUnderKey document part locale (Ok key) answer = IsFoundAt document part key answer
+IsFoundUnderKey document part locale (Err reason) answer = answer ≡ Err (NotFound part locale reason)
 
 abbrev pub IsFoundBy : KeptRules → Part → List ℕ → Result code.LanguageRules LanguageError → Type 0
-IsFoundBy kept part locale = IsFoundUnder (view kept.document) part locale (key_by string_bytes kept.key)
+IsFoundBy kept part locale = IsFoundUnderKey (view kept.document) part locale (key_by string_bytes kept.key)
 
 -- the key that is kept is `root`, which wasn't asked for
 abbrev pub is_roots_key : List ℕ → Result (String Global) FallbackError → Bool
@@ -107,20 +113,20 @@ TellsKnown part locale document (Err error) =
 -- the language of a locale is unknown by a document, and the error says so
 abbrev pub IsToldUnknown : Part → List ℕ → Data → FormsError → Type 0
 IsToldUnknown part locale whole error =
-    IsUnknown whole part locale × (error ≡ Language (unknown_error whole part locale))
+    IsUnknownForPart whole part locale × (error ≡ Language (unknown_error whole part locale))
 
 -- what is kept of the bytes' value, where the language is known; or that it is unknown, or that they
 -- have none
 abbrev pub GivesRulesIn : Part → List ℕ → List ℕ → Result KeptRules FormsError → Type 0
 GivesRulesIn part locale bytes (Ok kept) =
-    (whole : Data) × (json_of bytes ≡ Some whole) × Serves part locale kept whole × IsKnown whole part locale
+    (whole : Data) × (json_of bytes ≡ Some whole) × Serves part locale kept whole × IsKnownForPart whole part locale
 GivesRulesIn part locale bytes (Err error) =
     GivesJsonValue bytes (Err error) ⊎ ((whole : Data) × (json_of bytes ≡ Some whole) × IsToldUnknown part locale whole error)
 
 -- the same of an input
 abbrev pub GivesRules : Part → List ℕ → List ℕ → Result KeptRules FormsError → Type 0
 GivesRules part locale input (Ok kept) =
-    (whole : Data) × IsDocumentIn input whole × Serves part locale kept whole × IsKnown whole part locale
+    (whole : Data) × IsDocumentIn input whole × Serves part locale kept whole × IsKnownForPart whole part locale
 GivesRules part locale input (Err error) =
     GivesDocument input (Err error) ⊎ ((whole : Data) × IsDocumentIn input whole × IsToldUnknown part locale whole error)
 
@@ -158,14 +164,22 @@ AnswersLines IsFound before left old new result =
 -- ---- Files of messages
 
 -- the report under the rules of a document, as the result of a command
-abbrev pub Reports : (Found → List ℕ) → Data → Document → List MessageFile → Option (List ℕ) → Option (List ℕ) → Result Verdict FormsError → Type 0
+abbrev pub Reports : (MessageFound → List ℕ) → Data → Document → List MessageFile → Option (List ℕ) → Option (List ℕ) → Result Verdict FormsError → Type 0
 Reports text_of value document files old new result =
     (reported : Result Counts ReportError) × IsReportedAs text_of (rules_source value document) files old new reported
     × (result ≡ result_of_report reported)
 
 -- the same, or nothing at all
-abbrev pub Checks : (Found → List ℕ) → Data → List MessageFile → Option (List ℕ) → Option (List ℕ) → Result Verdict FormsError → Type 0
+abbrev pub Checks : (MessageFound → List ℕ) → Data → List MessageFile → Option (List ℕ) → Option (List ℕ) → Result Verdict FormsError → Type 0
 Checks text_of value files old new result =
     ((document : Document) × (document_of_json value ≡ Ok document) × Reports text_of value document files old new result)
     ⊎ (((error : JsonError) × (document_of_json value ≡ Err error) × (result ≡ Err (Refused error)) × Keeps old new)
     ⊎ ((result ≡ Err Memory) × Keeps old new))
+
+-- ---- a report of translators' files before it is written
+
+-- its text is one report in the format, and its verdict that of the totals
+abbrev pub IsReport : Format → Bool → Report → Type 0
+IsReport format strict report =
+    (told : List Located) × (totals : Totals) × (string_bytes report.text ≡ located_text format told totals)
+    × (report.verdict ≡ told_verdict strict totals)

@@ -7,11 +7,11 @@ use Rattle.form_commands.specs.declared.similar_keys.SimilarKeys.{SimilarKeys}
 use Rattle.form_commands.specs.declared.similar_keys.SimilarKeys.TheVariants.{Nothing, One, Two, Three}
 
 -- the keys as a list
-abbrev pub names_of : SimilarKeys → List (List ℕ)
-names_of Nothing = []
-names_of (One first) = first ∷ []
-names_of (Two first second) = first ∷ second ∷ []
-names_of (Three first second third) = first ∷ second ∷ third ∷ []
+abbrev pub similar_key_list : SimilarKeys → List (List ℕ)
+similar_key_list Nothing = []
+similar_key_list (One first) = first ∷ []
+similar_key_list (Two first second) = first ∷ second ∷ []
+similar_key_list (Three first second third) = first ∷ second ∷ third ∷ []
 
 -- a key is like a language in this way
 abbrev pub is_like : Likeness → List ℕ → List ℕ → Bool
@@ -20,4 +20,4 @@ is_like Beginning language key = is_only_alike language key
 
 -- the first three of some keys and of those of a list that are like a language
 abbrev pub told_in : Likeness → List ℕ → SimilarKeys → List (List ℕ) → SimilarKeys
-told_in likeness language before keys = first_three (names_of before ++ filter (is_like likeness language) keys)
+told_in likeness language before keys = first_three (similar_key_list before ++ filter (is_like likeness language) keys)

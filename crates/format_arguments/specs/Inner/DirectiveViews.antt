@@ -1,12 +1,13 @@
 -- What private functions return, without where it lies in memory.
-use Rattle.std.specs.Prelude.{ℕ, ◌+◌, ◌≤◌, ◌<◌, Bool, List, length, Option, Some, None}
+use Rattle.std.specs.Prelude.{ℕ, ◌+◌, ◌≤◌, ◌<◌, Bool, List, length, Option, Some, None, ◌||◌, codes}
 use Rattle.std.specs.Borrow.{Bor}
 use Rattle.format_arguments.specs.declared.directive.Which as whiches
 use Rattle.format_arguments.specs.declared.directive.Which.TheVariants as which
 use Rattle.format_arguments.specs.declared.directive.Directive as directives
 use Rattle.format_arguments.specs.declared.directive.Front as fronts
 use Rattle.format_arguments.specs.declared.directive.Front.TheVariants as front
-use Rattle.format_arguments.specs.Directives.{Which, Next, At, Named, Directive, Front, End, Takes, Broken, behind_closing}
+use Rattle.format_arguments.specs.Directives.{Which, Next, At, Named, Directive, PieceFront, End, Takes, Broken, behind_closing}
+use Rattle.std.specs.Str.{bytes_eq}
 
 abbrev pub which_view : whiches.Which → Which
 which_view which.Next = Next
@@ -36,10 +37,10 @@ abbrev pub says_view : Option directives.Directive → Option Directive
 says_view None = None
 says_view (Some d) = Some (directive_view d)
 
-abbrev pub front_view : fronts.Front → Front
-front_view front.End = End
-front_view (front.Takes says rest) = Takes (says_view says) rest.now
-front_view front.Broken = Broken
+abbrev pub piece_front_view : fronts.Front → PieceFront
+piece_front_view front.End = End
+piece_front_view (front.Takes says rest) = Takes (says_view says) rest.now
+piece_front_view front.Broken = Broken
 
 -- how many bytes a directive has at least
 abbrev pub least_width : Option directives.Directive → ℕ
@@ -62,3 +63,11 @@ abbrev pub Shortens : fronts.Front → ℕ → Type 0
 Shortens front.End n = Unit {0}
 Shortens (front.Takes says rest) n = least_width says + length rest.now < n
 Shortens front.Broken n = Unit {0}
+
+-- ---- part of the words that name a number, for a private contract
+
+-- the longer ones of these words
+abbrev pub is_long_number_word : List ℕ → Bool
+is_long_number_word word =
+    bytes_eq word (codes "number") || bytes_eq word (codes "count") || bytes_eq word (codes "cnt") || bytes_eq word (codes "amount")
+    || bytes_eq word (codes "quantity")

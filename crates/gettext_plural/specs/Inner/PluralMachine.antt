@@ -81,27 +81,27 @@ abbrev pub close_stage : List Waiting → Formula → Result Stage FaultKind
 close_stage [] a = Err ExpectedOperator
 close_stage (w ∷ ws) a = close_with (is_bracket w) ws a
 
-abbrev pub closed : List Waiting × Formula → Result Stage FaultKind
-closed it = close_stage it.0 it.1
+abbrev pub bracket_closed : List Waiting × Formula → Result Stage FaultKind
+bracket_closed it = close_stage it.0 it.1
 
-abbrev pub begin : List Waiting → Token → Result Stage FaultKind
-begin ws (Number k) = Ok (has ws (number k))
-begin ws N = Ok (has ws the_n)
-begin ws Not = Ok (expects (negation ∷ ws))
-begin ws Open = Ok (expects (bracket ∷ ws))
-begin ws _ = Err ExpectedOperand
+abbrev pub begin_operand : List Waiting → Token → Result Stage FaultKind
+begin_operand ws (Number k) = Ok (has ws (number k))
+begin_operand ws N = Ok (has ws the_n)
+begin_operand ws Not = Ok (expects (negation ∷ ws))
+begin_operand ws Open = Ok (expects (bracket ∷ ws))
+begin_operand ws _ = Err ExpectedOperand
 
 abbrev pub follow : List Waiting → Formula → Token → Result Stage FaultKind
 follow ws e (Joint o) = Ok (jointed o (unwind (binding o) ws e))
 follow ws e Question = Ok (questioned (unwind 1 ws e))
 follow ws e Colon = coloned (unwind 0 ws e)
-follow ws e Close = closed (unwind 0 ws e)
+follow ws e Close = bracket_closed (unwind 0 ws e)
 follow ws e _ = Err ExpectedOperator
 
 -- what a token does
-abbrev pub step : Stage → Token → Result Stage FaultKind
-step (expects ws) t = begin ws t
-step (has ws e) t = follow ws e t
+abbrev pub stage_step : Stage → Token → Result Stage FaultKind
+stage_step (expects ws) t = begin_operand ws t
+stage_step (has ws e) t = follow ws e t
 
 abbrev pub whole : List Waiting → Formula → Result Formula FaultKind
 whole [] e = Ok e
@@ -116,17 +116,17 @@ finish (expects ws) = Err ExpectedOperand
 finish (has ws e) = finished (unwind 0 ws e)
 
 -- the expression, or a fault and the tokens from where it is on
-abbrev pub Outcome : Type 0
-Outcome = Result Formula (FaultKind × List Token)
+abbrev pub FormulaOutcome : Type 0
+FormulaOutcome = Result Formula (FaultKind × List Token)
 
-abbrev pub ended : Result Formula FaultKind → Outcome
+abbrev pub ended : Result Formula FaultKind → FormulaOutcome
 ended (Ok e) = Ok e
 ended (Err kind) = Err (kind, [])
 
-abbrev pub proceed : List Token → Result Stage FaultKind → (Stage → Outcome) → Outcome
-proceed ts (Ok s) next = next s
-proceed ts (Err kind) next = Err (kind, ts)
+abbrev pub proceed_from_stage : List Token → Result Stage FaultKind → (Stage → FormulaOutcome) → FormulaOutcome
+proceed_from_stage ts (Ok s) next = next s
+proceed_from_stage ts (Err kind) next = Err (kind, ts)
 
-unfoldable pub run : Stage → List Token → Outcome
-run s [] = ended (finish s)
-run s (t ∷ ts) = proceed (t ∷ ts) (step s t) (λ next. run next ts)
+unfoldable pub run_from_stage : Stage → List Token → FormulaOutcome
+run_from_stage s [] = ended (finish s)
+run_from_stage s (t ∷ ts) = proceed_from_stage (t ∷ ts) (stage_step s t) (λ next. run_from_stage next ts)

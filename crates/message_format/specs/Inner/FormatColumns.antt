@@ -55,8 +55,8 @@ pub record IsDistance (x : Decimal) (o : Places) (below : Bool) (ds : List ℕ) 
   pub places : most_fraction x o + 1 ≤ length ds
 
 -- the number with these digits, of which the last are those of the fraction
-abbrev pub number_of : Bool → ℕ → List ℕ → Decimal
-number_of negative fraction ds = record {
+abbrev pub decimal_of_digits : Bool → ℕ → List ℕ → Decimal
+decimal_of_digits negative fraction ds = record {
   sign = sign_when negative;
   absolute = record { whole = take (length ds - fraction) ds; fraction = drop (length ds - fraction) ds };
 }

@@ -6,9 +6,10 @@ use Rattle.fixed_decimal.specs.Written.{CompactNumber}
 use Rattle.fixed_decimal.specs.declared.error.DecimalError.{DecimalError}
 use Rattle.fixed_decimal.specs.declared.error.DecimalError.TheVariants as number
 use Rattle.message_pattern.specs.declared.part.Part as parts
-use Rattle.message_pattern.specs.PatternParts.{Part, parts_view}
+use Rattle.message_pattern.specs.PatternParts.{Part, parts_view, Selector, branches_of}
 use Rattle.message_format.specs.declared.arguments.Value as values
 use Rattle.message_format.specs.declared.source.Found as found
+use Rattle.message_format.specs.declared.error.ArgumentFault.{ArgumentFault}
 use Rattle.message_format.specs.declared.error.ArgumentFault.TheVariants.{NotANumber, OverLimit}
 use Rattle.message_format.specs.declared.error.FormatError.{FormatError}
 use Rattle.message_format.specs.declared.error.FormatError.TheVariants as error
@@ -17,11 +18,25 @@ use Rattle.message_format.specs.declared.shown.Shown as shown
 use Rattle.message_format.specs.declared.saying.Next as next
 use Rattle.message_format.specs.declared.shown.Shown.TheVariants as shows
 use Rattle.message_format.specs.FormatArguments.{Argument, Value, value_view}
-use Rattle.message_format.specs.FormatParts.{AreLeftOf}
+use Rattle.message_format.specs.FormatParts.{AreLeftOf, IsFirstChosen}
 use Rattle.fixed_decimal.specs.SameValue.{digit_of}
 use Rattle.message_format.specs.FormatSteps.{Step, Prints, Chooses, Fails, TwoRules, both}
-use Rattle.message_format.specs.FormatMeaning.{PatternOutcome, Said, Faulty, Says}
-use Rattle.message_format.specs.FormatWalk.{GoesOn, GoesOnBehind}
+use Rattle.message_format.specs.FormatMeaning.{PatternOutcome, Said, Faulty, MessageSays}
+
+-- ---- how a message goes on behind its first part
+
+-- the parts come to what the rest comes to, behind the text that is said then
+pub record GoesOnWithRest (arguments : List Argument) (rules : TwoRules) (hash old new : List ℕ) (ps rest : List Part) : Type 0 where
+  pub comes : (o : PatternOutcome) → MessageSays arguments rules hash new rest o → MessageSays arguments rules hash old ps o
+
+-- the same behind a branch, in which `#` is a text of its own; or they have the fault of the branch
+pub record GoesOnBehind (arguments : List Argument) (rules : TwoRules) (hash number old new : List ℕ) (ps branch rest : List Part) : Type 0 where
+  pub comes : (said : List ℕ) (o : PatternOutcome) → MessageSays arguments rules number new branch (Said said) → MessageSays arguments rules hash said rest o
+      → MessageSays arguments rules hash old ps o
+  pub breaks : (fault : ArgumentFault) (name : List ℕ) → MessageSays arguments rules number new branch (Faulty fault name)
+      → MessageSays arguments rules hash old ps (Faulty fault name)
+
+-- ---- values of private types
 
 abbrev pub any_value : Option values.Value → Option Value
 any_value None = None
@@ -82,27 +97,27 @@ abbrev pub two_rules : rules.Rules → TwoRules
 two_rules r = both r.cardinal.now r.ordinal.now
 
 -- what an error says of parts, or nothing if memory ran out
-abbrev pub IsFaultOf : List Argument → TwoRules → List ℕ → List Part → List ℕ → FormatError → Type 0
-IsFaultOf arguments rules hash parts old (error.Argument fault name) = Says arguments rules hash old parts (Faulty fault name.now)
-IsFaultOf arguments rules hash parts old error.Memory = Unit {0}
+abbrev pub IsFaultOfParts : List Argument → TwoRules → List ℕ → List Part → List ℕ → FormatError → Type 0
+IsFaultOfParts arguments rules hash parts old (error.Argument fault name) = MessageSays arguments rules hash old parts (Faulty fault name.now)
+IsFaultOfParts arguments rules hash parts old error.Memory = Unit {0}
 
 -- what a call returns, with the text before it and what holds of that after it: the outcome, or out
 -- of memory
 abbrev pub GivesOutcome : {F : Type 0} → (F → FormatError) → List Argument → TwoRules → List ℕ → List Part → List ℕ → (List ℕ → Type 0) → Result (Unit {0}) F → Type 0
-GivesOutcome error arguments rules hash parts old IsNew (Ok x) = (new : List ℕ) × IsNew new × Says arguments rules hash old parts (Said new)
-GivesOutcome error arguments rules hash parts old IsNew (Err f) = IsFaultOf arguments rules hash parts old (error f)
+GivesOutcome error arguments rules hash parts old IsNew (Ok x) = (new : List ℕ) × IsNew new × MessageSays arguments rules hash old parts (Said new)
+GivesOutcome error arguments rules hash parts old IsNew (Err f) = IsFaultOfParts arguments rules hash parts old (error f)
 
 -- how the parts go on behind a part: by way of a branch, or not
 abbrev pub GoesTo : {P : Type 0} → (P → List Part) → List Argument → TwoRules → List ℕ → List Part → List ℕ → List ℕ → List Part → Option (shown.Shown × P) → Type 0
-GoesTo parts arguments rules hash ps old new rest None = GoesOn arguments rules hash old new ps rest
+GoesTo parts arguments rules hash ps old new rest None = GoesOnWithRest arguments rules hash old new ps rest
 GoesTo parts arguments rules hash ps old new rest (Some b) = GoesOnBehind arguments rules hash (shown_view b.0) old new ps (parts b.1) rest
 
 -- what a step returns: how the parts go on, that they end, or a fault
 abbrev pub StepsTo : {P F : Type 0} → (P → List Part) → (F → FormatError) → List Argument → TwoRules → List ℕ → List Part → List ℕ → (List ℕ → Type 0) → Result (Option (next.Next P)) F → Type 0
-StepsTo parts error arguments rules hash ps old IsNew (Ok None) = IsNew old × Says arguments rules hash old ps (Said old)
+StepsTo parts error arguments rules hash ps old IsNew (Ok None) = IsNew old × MessageSays arguments rules hash old ps (Said old)
 StepsTo parts error arguments rules hash ps old IsNew (Ok (Some n)) =
     (new : List ℕ) × IsNew new × GoesTo parts arguments rules hash ps old new (parts n.rest) n.branch
-StepsTo parts error arguments rules hash ps old IsNew (Err f) = IsFaultOf arguments rules hash ps old (error f)
+StepsTo parts error arguments rules hash ps old IsNew (Err f) = IsFaultOfParts arguments rules hash ps old (error f)
 
 -- fewer parts follow, and fewer are those from a branch on
 abbrev pub IsBranchFewer : {P : Type 0} → (P → List Part) → List Part → Option (shown.Shown × P) → Type 0
@@ -131,3 +146,10 @@ pub record IsSpanOf (x : CompactNumber) (low high : ℤ) : Type 0 where
   pub outside : IsZeroOutside x low high
   pub least : neg_ℤ (pos 32767) ≤ℤ low
   pub top : neg_ℤ (pos 32767) ≤ℤ high → 0 < digit_of x high
+
+-- ---- what a walk over the branches of an argument passes
+
+-- no branch before the parts that are left is chosen
+abbrev pub ArePassed : (Selector → Type 0) → ℕ → List Part → List Part → Type 0
+ArePassed IsChosen depth parts left =
+    (found : Option (List Part)) → IsFirstChosen IsChosen (branches_of depth left) found → IsFirstChosen IsChosen (branches_of depth parts) found

@@ -9,8 +9,8 @@ use Rattle.message_report.specs.PatternFaults.{PluralArgument, TwoLanguages}
 use Rattle.message_report.specs.declared.plural_argument.Argument.{Argument}
 use Rattle.message_report.specs.declared.languages.Languages.{Languages}
 
-abbrev pub argument_view : Argument → PluralArgument
-argument_view a = record {
+abbrev pub plural_argument_view : Argument → PluralArgument
+plural_argument_view a = record {
   name = a.name.now;
   has_offset = a.has_offset;
   depth = a.depth;

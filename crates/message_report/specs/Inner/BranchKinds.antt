@@ -5,13 +5,13 @@ use Rattle.icu_plurals.specs.declared.PluralCategory.TheVariants.{Zero, One, Two
 use Rattle.message_pattern.specs.PatternParts.{Branching, Selector, Exactly, Keyword}
 use Rattle.message_report.specs.declared.branch_kinds.BranchKinds.{BranchKinds}
 
-abbrev pub is_of_number : Selector → Bool
-is_of_number (Exactly number) = true
-is_of_number (Keyword word) = false
+abbrev pub is_number_selector : Selector → Bool
+is_number_selector (Exactly number) = true
+is_number_selector (Keyword word) = false
 
 abbrev pub has_number_branch : List Branching → Bool
 has_number_branch [] = false
-has_number_branch (b ∷ bs) = is_of_number b.selector || has_number_branch bs
+has_number_branch (b ∷ bs) = is_number_selector b.selector || has_number_branch bs
 
 abbrev pub has_kind : PluralCategory → BranchKinds → Bool
 has_kind Zero kinds = kinds.categories.zero

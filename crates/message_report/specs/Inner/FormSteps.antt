@@ -5,7 +5,7 @@ use Rattle.serde_json.specs.Data.{Data}
 use Rattle.serde_json.specs.View.{view}
 use Rattle.serde_json.specs.declared.Value.{Value}
 use Rattle.message_report.specs.FormFaults.{Language, form_value_fault, HasFaultUnder}
-use Rattle.message_report.specs.FoundInMessages.{Found, nothing_found, one_form}
+use Rattle.message_report.specs.FoundInMessages.{MessageFound, nothing_found_in_messages, one_form}
 use Rattle.message_report.specs.Inner.LanguageViews.{language_view}
 use Rattle.message_report.specs.declared.fault.FormFault.{FormFault}
 use Rattle.message_report.specs.declared.form.Form.{Form}
@@ -27,5 +27,5 @@ HasFaultOf (Some language) own_zero own_one (Category category) value fault =
     HasFaultUnder language category (language.numbers category own_zero own_one) value fault
 
 -- a value that is there is counted
-abbrev pub value_count : Option Data → Found
-value_count value = if is_some value then one_form else nothing_found
+abbrev pub value_count : Option Data → MessageFound
+value_count value = if is_some value then one_form else nothing_found_in_messages

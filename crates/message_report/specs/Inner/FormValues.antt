@@ -5,7 +5,7 @@ use Rattle.std.specs.Option.{option_and_then}
 use Rattle.serde_json.specs.Data.{Data}
 use Rattle.icu_plurals.specs.declared.PluralCategory.TheVariants.{Zero, One, Two, Few, Many, Other}
 use Rattle.message_report.specs.FormFaults.{Language, told_of}
-use Rattle.message_report.specs.FoundInMessages.{Found, together}
+use Rattle.message_report.specs.FoundInMessages.{MessageFound, messages_together}
 use Rattle.message_report.specs.Inner.FormSteps.{HasFaultOf, value_count, value_lent}
 use Rattle.message_report.specs.MessagePlaces.{MessagePlace}
 use Rattle.message_report.specs.MessagesReport.{found_of_fault}
@@ -15,20 +15,20 @@ use Rattle.message_report.specs.declared.form.Form.TheVariants.{ExplicitZero, Ex
 use Rattle.message_report.specs.declared.form.OwnForms.{OwnForms}
 use Rattle.message_report.specs.declared.form_values.FormValues.{FormValues}
 
-abbrev pub value_under : Form → FormValues → Option Data
-value_under ExplicitZero values = value_lent values.zero
-value_under ExplicitOne values = value_lent values.one
-value_under (Category Zero) values = value_lent values.categories.zero
-value_under (Category One) values = value_lent values.categories.one
-value_under (Category Two) values = value_lent values.categories.two
-value_under (Category Few) values = value_lent values.categories.few
-value_under (Category Many) values = value_lent values.categories.many
-value_under (Category Other) values = value_lent values.other
+abbrev pub value_of_form : Form → FormValues → Option Data
+value_of_form ExplicitZero values = value_lent values.zero
+value_of_form ExplicitOne values = value_lent values.one
+value_of_form (Category Zero) values = value_lent values.categories.zero
+value_of_form (Category One) values = value_lent values.categories.one
+value_of_form (Category Two) values = value_lent values.categories.two
+value_of_form (Category Few) values = value_lent values.categories.few
+value_of_form (Category Many) values = value_lent values.categories.many
+value_of_form (Category Other) values = value_lent values.other
 
 abbrev pub own_forms : FormValues → OwnForms
 own_forms values = record {
-  zero = is_some (value_under ExplicitZero values);
-  one = is_some (value_under ExplicitOne values);
+  zero = is_some (value_of_form ExplicitZero values);
+  one = is_some (value_of_form ExplicitOne values);
 }
 
 -- the first of two that is there
@@ -42,8 +42,8 @@ under_key true value = Some value
 under_key false value = None
 
 -- in a form, by what stands under the keys
-abbrev pub IsFoundByValues : Option Language → Bool → MessagePlace → FormValues → Form → Found → Type 0
+abbrev pub IsFoundByValues : Option Language → Bool → MessagePlace → FormValues → Form → MessageFound → Type 0
 IsFoundByValues language needs_number place values form found =
-    (fault : Option FormFault) × HasFaultOf language (own_forms values).zero (own_forms values).one form (value_under form values) fault
+    (fault : Option FormFault) × HasFaultOf language (own_forms values).zero (own_forms values).one form (value_of_form form values) fault
     × (found
-    ≡ together (value_count (value_under form values)) (found_of_fault place form (option_and_then (told_of needs_number) fault)))
+    ≡ messages_together (value_count (value_of_form form values)) (found_of_fault place form (option_and_then (told_of needs_number) fault)))

@@ -1,5 +1,5 @@
 -- Not a definition of the subject: a language of the code, in the words of the definitions.
-use Rattle.std.specs.Prelude.{Bool, true}
+use Rattle.std.specs.Prelude.{Bool, true, ◌≡◌, ◌⊎◌, ℕ, List, Option, Some, None, false}
 use Rattle.icu_plurals.specs.declared.PluralCategory.{PluralCategory}
 use Rattle.icu_plurals.specs.declared.PluralCategory.TheVariants.{Zero, One, Two, Few, Many, Other}
 use Rattle.plural_checker.specs.declared.coverage.CategorySet.{CategorySet}
@@ -9,6 +9,10 @@ use Rattle.message_report.specs.declared.category_numbers.CategoryNumbers.{Categ
 use Rattle.message_report.specs.declared.language.Language.{Language as CodeLanguage}
 use Rattle.message_report.specs.declared.language_numbers.LanguageNumbers.{LanguageNumbers}
 use Rattle.message_report.specs.declared.rare_samples.TwoSamples.{TwoSamples}
+use Rattle.icu_plurals.specs.FiveRules.{FiveRules}
+use Rattle.plural_fallback.specs.UnknownLanguages.{IsKnownLanguage, IsUnknownLanguage, is_unknown}
+use Rattle.plural_fallback.specs.declared.locales.Part.{Part}
+use Rattle.plural_fallback.specs.declared.locales.Part.TheVariants.{Cardinal, Ordinal}
 
 abbrev pub numbers_at : LanguageNumbers → PluralCategory → CategoryNumbers
 numbers_at language Zero = language.numbers.zero
@@ -48,3 +52,11 @@ language_view language = record {
   numbers = λ category own_zero own_one. chosen_of (numbers_at language.numbers category) own_zero own_one;
   samples = samples_at language;
 }
+
+-- ---- what was loaded for a locale is given, unless its language is unknown
+
+-- the rules under the first key of a part, where that is of the language, or another part has one
+abbrev pub GivesKnown : (Part → List (List ℕ)) → (List ℕ → Option (List ℕ)) → List ℕ → List ℕ → FiveRules → Option FiveRules → Type 0
+GivesKnown keys next locale key rules (Some given) =
+    (given ≡ rules) × ((is_unknown locale key ≡ false) ⊎ IsKnownLanguage (keys Cardinal) (keys Ordinal) next locale)
+GivesKnown keys next locale key rules None = IsUnknownLanguage (keys Cardinal) (keys Ordinal) next locale

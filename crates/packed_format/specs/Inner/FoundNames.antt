@@ -9,13 +9,13 @@ abbrev pub placed_arguments : PlacedValues → List Argument
 placed_arguments p = at_places (names_view p.names.now) (values_view p.values.now)
 
 -- a name is among others
-abbrev pub has_name : List ℕ → List (List ℕ) → Bool
-has_name name [] = false
-has_name name (n ∷ ns) = if bytes_eq n name then true else has_name name ns
+abbrev pub is_name_among : List ℕ → List (List ℕ) → Bool
+is_name_among name [] = false
+is_name_among name (n ∷ ns) = if bytes_eq n name then true else is_name_among name ns
 
 -- with a name behind them that isn't among them
 abbrev pub with_name : List (List ℕ) → List ℕ → List (List ℕ)
-with_name found name = if has_name name found then found else found ++ name ∷ []
+with_name found name = if is_name_among name found then found else found ++ name ∷ []
 
 -- with several
 abbrev pub with_names : List (List ℕ) → List (List ℕ) → List (List ℕ)

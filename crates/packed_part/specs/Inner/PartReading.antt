@@ -7,7 +7,7 @@ use Rattle.message_pattern.specs.declared.part.ArgumentKind.{ArgumentKind}
 use Rattle.message_pattern.specs.declared.part.ArgumentKind.TheVariants.{Plural, Ordinal, Select}
 use Rattle.message_pattern.specs.PatternParts.{Part, PatternPiece, Exactly, Keyword, Text, Hash, Argument, Begin, Branch, End}
 use Rattle.packed_part.specs.PartOrder.{before_all, first_misplaced}
-use Rattle.packed_part.specs.PackedParts.{items_of, is_packable}
+use Rattle.packed_part.specs.PackedParts.{part_items_of, is_packable}
 
 -- the kind that a number names
 abbrev pub kind_in : ℕ → ArgumentKind
@@ -38,8 +38,8 @@ abbrev pub place_room : ℕ → ℕ
 place_room tag = 2 * place_count tag
 
 -- the piece of a form in what it has of its own
-abbrev pub piece_in : ℕ → List ℕ → PatternPiece
-piece_in tag own =
+abbrev pub piece_in_form : ℕ → List ℕ → PatternPiece
+piece_in_form tag own =
     if tag == 0 then Text own
     else if tag == 1 then Hash
     else if tag == 2 then Argument own
@@ -50,7 +50,7 @@ piece_in tag own =
 
 -- the part that an item holds, if it is one
 abbrev pub part_in : List ℕ → Part
-part_in (tag ∷ depth ∷ content) = record { depth = depth; piece = piece_in tag (drop (place_room tag) content) }
+part_in (tag ∷ depth ∷ content) = record { depth = depth; piece = piece_in_form tag (drop (place_room tag) content) }
 part_in _ = record { depth = 0; piece = End }
 
 -- a plural or an ordinal begins
@@ -74,7 +74,7 @@ item_places (tag ∷ depth ∷ content) = numbers (place_count tag) content
 item_places _ = []
 
 -- the items are those of the parts that they hold
-pub record IsBlock (items : List (List ℕ)) : Type 0 where
+pub record AreBlockItems (items : List (List ℕ)) : Type 0 where
   pub packable : IsTrue (list_all is_packable (map part_in items))
   pub nested : first_misplaced 0 before_all (map part_in items) ≡ None
-  pub packed : items_of (map part_in items) ≡ items
+  pub packed : part_items_of (map part_in items) ≡ items

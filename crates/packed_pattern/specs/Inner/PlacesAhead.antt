@@ -6,10 +6,17 @@ use Rattle.message_pattern.specs.declared.part.ArgumentKind.TheVariants.{Select}
 use Rattle.message_pattern.specs.PatternParts.{Part, PatternPiece, Begin, Branch, Exactly, Keyword}
 use Rattle.packed_pattern.specs.declared.ahead.Ahead.{Ahead}
 use Rattle.packed_part.specs.PartOrder.{first_misplaced, may_follow}
-use Rattle.packed_part.specs.PartPlaces.{AnyNumber, Word, argument_length, branch_length, branch_place, or_place}
-use Rattle.packed_part.specs.PackedParts.{is_packable, items_of}
-use Rattle.packed_part.specs.Inner.PartReading.{part_in}
+use Rattle.packed_part.specs.PartPlaces.{AnyNumber, Word, argument_length, branch_length, branch_place, or_place, PlacedPart}
+use Rattle.packed_part.specs.PackedParts.{is_packable, part_items_of}
+use Rattle.packed_part.specs.Inner.PartReading.{part_in, item_places}
 use Rattle.packed_part.specs.Inner.PartViews.{behind}
+use Rattle.packed_pattern.specs.declared.placed.PlacedPart as placed
+
+-- ---- a placed part, as contracts see it
+
+-- the part that an item holds, with its places
+abbrev pub placed_view : placed.PlacedPart → PlacedPart
+placed_view p = record { part = part_in p.item.now; places = item_places p.item.now }
 
 -- what stands ahead at a depth in parts of which the first is at an index
 abbrev pub ahead_of : ℕ → ℕ → List Part → Ahead
@@ -95,7 +102,7 @@ has_places _ = false
 -- stand before the first; at each depth up to that of the first part this is what stands ahead.
 pub record AreWalked (next : Part) (levels : List Ahead) (index : ℕ) (items : List (List ℕ)) : Type 0 where
   pub packable : list_all is_packable (map part_in items) ≡ true
-  pub packed : items_of (map part_in items) ≡ items
+  pub packed : part_items_of (map part_in items) ≡ items
   pub nested : (place : ℕ) (before : Part) → may_follow before next ≡ true → first_misplaced place before (map part_in items) ≡ None
   pub ahead : (depth : ℕ) → depth ≤ next.depth → slice_index_or levels depth (ended_at 0) ≡ ahead_of index depth (map part_in items)
   pub deep : next.depth ≤ 32

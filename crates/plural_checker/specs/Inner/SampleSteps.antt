@@ -16,9 +16,9 @@ is_marked At = is_at
 is_marked Gap = is_gap
 is_marked Range = is_tilde
 
-abbrev pub left_view : Option (Bor (List ℕ)) → Option (List ℕ)
-left_view None = None
-left_view (Some left) = Some left.now
+abbrev pub left_text_view : Option (Bor (List ℕ)) → Option (List ℕ)
+left_text_view None = None
+left_text_view (Some left) = Some left.now
 
 -- what is left, cut at gaps
 abbrev pub parts_left : Option (List ℕ) → List (List ℕ)

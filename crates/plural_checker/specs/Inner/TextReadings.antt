@@ -23,10 +23,10 @@ use Rattle.plural_checker.specs.declared.read_text.Reading.{Reading}
 use Rattle.plural_checker.specs.declared.read_text.Reading.TheVariants.{Long, Refused, Rule}
 
 -- the text is long; or it is read as no rule, or as one that can be packed
-abbrev pub IsReading : List ℕ → Reading → Type 0
-IsReading text Long = IsTrue (is_long text)
-IsReading text (Refused fault) = IsFalse (is_long text) × TextGives text (Err (Parse fault.kind)) × TextFaultyAt text fault.kind fault.byte
-IsReading text (Rule rule) =
+abbrev pub IsRuleReading : List ℕ → Reading → Type 0
+IsRuleReading text Long = IsTrue (is_long text)
+IsRuleReading text (Refused fault) = IsFalse (is_long text) × TextGives text (Err (Parse fault.kind)) × TextFaultyAt text fault.kind fault.byte
+IsRuleReading text (Rule rule) =
     IsFalse (is_long text) × TextReads ReadsRule text rule × (packing rule.condition ≡ Ok (packed rule.condition))
 
 -- ---- Packed rules

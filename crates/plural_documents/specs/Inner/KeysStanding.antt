@@ -8,13 +8,13 @@ use Rattle.plural_documents.specs.RepeatedKeys.{AreRepeated, Path, RepeatedAt, r
 use Rattle.plural_documents.specs.declared.repeated_key.RepeatedKey.{RepeatedKey}
 use Rattle.plural_documents.specs.declared.repeated_key.StandingKeys.{StandingKeys}
 
-abbrev pub names_of : BTreeSet (Bor (List ℕ)) → List (List ℕ)
-names_of set = map (λ key. key.now) set.keys
+abbrev pub names_in_set : BTreeSet (Bor (List ℕ)) → List (List ℕ)
+names_in_set set = map (λ key. key.now) set.keys
 
 -- of these keys
 pub record AreStanding (keys : List (List ℕ)) (standing : StandingKeys) : Type 0 where
-  pub once : (key : List ℕ) → list_any (bytes_eq key) (names_of standing.once) ≡ nat_lt 0 (count_by (bytes_eq key) keys)
-  pub again : (key : List ℕ) → list_any (bytes_eq key) (names_of standing.again) ≡ nat_lt 1 (count_by (bytes_eq key) keys)
+  pub once : (key : List ℕ) → list_any (bytes_eq key) (names_in_set standing.once) ≡ nat_lt 0 (count_by (bytes_eq key) keys)
+  pub again : (key : List ℕ) → list_any (bytes_eq key) (names_in_set standing.again) ≡ nat_lt 1 (count_by (bytes_eq key) keys)
 
 -- the path of an object alone
 abbrev pub object_path : Held → Option Path → Option Path

@@ -1,15 +1,19 @@
 -- Not a definition of the subject: what is made of the tokens that are held.
-use Rattle.std.specs.Prelude.{◌≡◌, ℕ, List, ◌∷◌, ◌++◌, Option, Some, None, MatchOption, [], Bool, true, false}
+use Rattle.std.specs.Prelude.{◌≡◌, ℕ, List, ◌∷◌, ◌++◌, Option, Some, None, MatchOption, [], Bool, true, false, map, Result, Ok, Err, Vec, ⊤}
 use Rattle.document_tokens.specs.declared.held_token.HeldToken.{HeldToken}
 use Rattle.json.specs.Json as json
 use Rattle.document_tokens.specs.HeldTokens.{Held, held_items, held_members, held_token, held_tokens}
-use Rattle.plural_documents.specs.Outlines.{outline, outline_members}
+use Rattle.plural_documents.specs.Outlines.{outline, outline_members, HeldText, IsHeld}
 use Rattle.plural_documents.specs.declared.outline.Portion.{Portion}
 use Rattle.plural_documents.specs.declared.outline.Portion.TheVariants as kept
 use Rattle.serde_json.specs.Data.{Data, Items, Members, no_members, put}
 use Rattle.serde_json.specs.declared.Value.{Value}
 use Rattle.serde_json.specs.View.{view}
 use Rattle.serde_json.specs.Read.{of_items, of_json, of_members}
+use Rattle.std.specs.declared.alloc.Global.{Global}
+use Rattle.document_tokens.specs.declared.error.JsonTextError.{JsonTextError}
+use Rattle.document_tokens.specs.declared.error.JsonTextError.TheVariants as fault
+use Rattle.plural_documents.specs.Inputs.{json_of, json_tree}
 
 -- ---- With or without a sieve
 
@@ -79,3 +83,16 @@ abbrev pub KeepsPart : {S : Type 0} → (S → List ℕ → Portion S) → Porti
 KeepsPart keeps portion key old before after new =
     (value : json.Json) (rest : List Held) (whole : Data) → old ≡ held_tokens value ++ rest → of_json value ≡ Some whole
     → (new ≡ rest) × (after ≡ put_portion key (outline keeps portion whole) before)
+
+-- ---- what is held of a text
+
+-- the tokens of the value that the bytes write; or they write none, or memory ran out
+abbrev pub GivesTokens : List ℕ → Result (Vec HeldToken Global) JsonTextError → Type 0
+GivesTokens bytes (Ok tokens) = (value : json.Json) × (json_tree bytes ≡ Some value) × (map held_token tokens.items ≡ held_tokens value)
+GivesTokens bytes (Err fault.Json) = json_of bytes ≡ None
+GivesTokens bytes (Err fault.Memory) = ⊤
+
+-- what is held of the value of a text has these tokens
+abbrev pub Holds : HeldText → List Held → Type 0
+Holds text tokens =
+    (held : Data) × IsHeld text held × ((value : json.Json) × (tokens ≡ held_tokens value) × (of_json value ≡ Some held))

@@ -45,17 +45,17 @@ is_rule_name key =
     || bytes_eq key (codes "many"))))
 
 -- the place of the member with a key, if it is read
-abbrev pub below : RulesPlace → List ℕ → Option RulesPlace
-below Document key =
+abbrev pub place_below : RulesPlace → List ℕ → Option RulesPlace
+place_below Document key =
     if is_rules_map key then Some LocalesRules else (if bytes_eq key (codes "ranges") then Some LocalesRanges else None)
-below LocalesRules key = Some Rules
-below Rules key = if is_rule_name key then Some Rule else None
-below Rule key = None
-below LocalesRanges key = Some Ranges
-below Ranges key = if bytes_eq key (codes "ranges") then Some Categories else None
-below Categories key = if is_some (range_named key) then Some Category else Some Nowhere
-below Category key = None
-below Nowhere key = None
+place_below LocalesRules key = Some Rules
+place_below Rules key = if is_rule_name key then Some Rule else None
+place_below Rule key = None
+place_below LocalesRanges key = Some Ranges
+place_below Ranges key = if bytes_eq key (codes "ranges") then Some Categories else None
+place_below Categories key = if is_some (range_named key) then Some Category else Some Nowhere
+place_below Category key = None
+place_below Nowhere key = None
 
 abbrev pub allows_null : RulesPlace → Bool
 allows_null Document = false
@@ -83,14 +83,14 @@ allows_object Nowhere is_any_read = false
 -- ---- What is right there
 
 -- the text gives a rule
-abbrev pub GivesRule : List ℕ → Type 0
-GivesRule text = (rule : List PackedRelation) × (rule_of_text text ≡ Ok rule)
+abbrev pub TextGivesRule : List ℕ → Type 0
+TextGivesRule text = (rule : List PackedRelation) × (rule_of_text text ≡ Ok rule)
 
 abbrev pub IsRightText : RulesPlace → List ℕ → Type 0
 IsRightText Document text = ⊥
 IsRightText LocalesRules text = ⊥
 IsRightText Rules text = ⊥
-IsRightText Rule text = GivesRule text
+IsRightText Rule text = TextGivesRule text
 IsRightText LocalesRanges text = ⊥
 IsRightText Ranges text = ⊥
 IsRightText Categories text = ⊥
@@ -99,7 +99,7 @@ IsRightText Nowhere text = ⊥
 
 abbrev pub is_any_read : RulesPlace → Members → Bool
 is_any_read place no_members = false
-is_any_read place (member key value members) = is_some (below place key) || is_any_read place members
+is_any_read place (member key value members) = is_some (place_below place key) || is_any_read place members
 
 abbrev mutual
   pub IsRight : RulesPlace → Data → Type 0
@@ -113,7 +113,7 @@ abbrev mutual
   pub AreRight : RulesPlace → Members → Type 0
   AreRight place no_members = ⊤
   AreRight place (member key value members) =
-      ((inner : RulesPlace) → below place key ≡ Some inner → IsRight inner value) × AreRight place members
+      ((inner : RulesPlace) → place_below place key ≡ Some inner → IsRight inner value) × AreRight place members
 
 -- of a value that is read
 abbrev pub IsRightBelow : Option RulesPlace → Data → Type 0

@@ -7,14 +7,14 @@ use Rattle.message_pattern.specs.PatternParts.{Part}
 use Rattle.plural_documents.specs.Steps.{Then}
 use Rattle.plural_exports.specs.declared.arguments.GivenArgument.{GivenArgument}
 use Rattle.plural_exports.specs.declared.fault.Fault.{Fault}
-use Rattle.plural_exports.specs.FormattedPatterns.{IsSaid, rules_of_both}
+use Rattle.plural_exports.specs.FormattedPatterns.{IsPatternSaid, rules_of_both}
 use Rattle.plural_exports.specs.GivenArguments.{AreArguments}
 use Rattle.plural_exports.specs.GivenBytes.{ReadsElements, ReadsNumberBytes, ReadsRules}
 use Rattle.plural_exports.specs.NumberAnswers.{HasExactness, HasMessage, HasNumberCategory, HasNumberElement, HasSureCategory}
 
 -- what the pattern says that is read so, under both rules
 abbrev pub IsSaidUnder : (Result (List Part) Fault → Type 0) → TwoRules → List GivenArgument → Result (List ℕ) Fault → Type 0
-IsSaidUnder Reads rules arguments = Then Reads (λ parts. Then (AreArguments arguments) (IsSaid rules parts))
+IsSaidUnder Reads rules arguments = Then Reads (λ parts. Then (AreArguments arguments) (IsPatternSaid rules parts))
 
 -- the same, where the rules for ordinal numbers are still to be read
 abbrev pub IsSaidWith : (Result (List Part) Fault → Type 0) → FiveRules → List ℕ → List GivenArgument → Result (List ℕ) Fault → Type 0

@@ -49,10 +49,10 @@ IsFurther (Left after) line = length after.now < length line
 IsFurther (Done fault) line = Unit {0}
 
 -- a text is read, and what stands behind it is left
-abbrev pub TakesText : PoDraft → List ℕ → PoDraft → Progress → Type 0
-TakesText old line new (Left after) = TextGoesOn line old new (Ok after)
-TakesText old line new (Done None) = ⊥
-TakesText old line new (Done (Some cause)) = TextGoesOn line old new (Err (Fault cause))
+abbrev pub TakesFieldText : PoDraft → List ℕ → PoDraft → Progress → Type 0
+TakesFieldText old line new (Left after) = TextGoesOn line old new (Ok after)
+TakesFieldText old line new (Done None) = ⊥
+TakesFieldText old line new (Done (Some cause)) = TextGoesOn line old new (Err (Fault cause))
 
 -- what is read behind the front of a line is read behind the line
 abbrev pub TakesFront : ℕ → Bool → PoDraft → List ℕ → PoDraft → Progress → Type 0

@@ -8,11 +8,11 @@ use Rattle.po_catalog.specs.declared.front.Front.TheVariants.{End, Keyword, Quot
 use Rattle.po_catalog.specs.declared.front.Keyword.TheVariants.{Domain, Context, PluralId}
 use Rattle.po_catalog.specs.Fronts.{PoFront, Nothing, Word, Mark, Unknown}
 
-abbrev pub front_view : Front → PoFront
-front_view End = Nothing
-front_view (Keyword keyword rest) = Word keyword rest.now
-front_view (Quote rest) = Mark rest.now
-front_view (Bad cause) = Unknown cause
+abbrev pub line_front_view : Front → PoFront
+line_front_view End = Nothing
+line_front_view (Keyword keyword rest) = Word keyword rest.now
+line_front_view (Quote rest) = Mark rest.now
+line_front_view (Bad cause) = Unknown cause
 
 abbrev pub index_view : Option (ℕ × Bor (List ℕ)) → Option (ℕ × List ℕ)
 index_view None = None
@@ -34,12 +34,12 @@ IsBelow (Quote rest) n = length rest.now < n
 IsBelow (Bad cause) n = Unit {0}
 
 -- less than the line
-abbrev pub IsBehind : Front → List ℕ → Type 0
-IsBehind front line = IsBelow front (length line)
+abbrev pub IsBehindLineFront : Front → List ℕ → Type 0
+IsBehindLineFront front line = IsBelow front (length line)
 
 -- no more than the text
-abbrev pub IsNotLonger : Front → List ℕ → Type 0
-IsNotLonger End text = Unit {0}
-IsNotLonger (Keyword keyword rest) text = length rest.now ≤ length text
-IsNotLonger (Quote rest) text = length rest.now ≤ length text
-IsNotLonger (Bad cause) text = Unit {0}
+abbrev pub IsNotLongerThanText : Front → List ℕ → Type 0
+IsNotLongerThanText End text = Unit {0}
+IsNotLongerThanText (Keyword keyword rest) text = length rest.now ≤ length text
+IsNotLongerThanText (Quote rest) text = length rest.now ≤ length text
+IsNotLongerThanText (Bad cause) text = Unit {0}

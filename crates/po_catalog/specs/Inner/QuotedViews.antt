@@ -12,16 +12,16 @@ abbrev pub code_view : Option (ℕ × Bor (List ℕ)) → Option (ℕ × List �
 code_view None = None
 code_view (Some code) = Some (code.0, code.1.now)
 
-abbrev pub front_view : private.Said → Result Said Cause
-front_view (variants.End rest) = Ok (End rest.now)
-front_view (variants.Byte byte rest) = Ok (Byte byte rest.now)
-front_view (variants.Bad cause) = Err cause
+abbrev pub said_view : private.Said → Result Said Cause
+said_view (variants.End rest) = Ok (End rest.now)
+said_view (variants.Byte byte rest) = Ok (Byte byte rest.now)
+said_view (variants.Bad cause) = Err cause
 
 -- what follows is shorter
-abbrev pub IsShorter : private.Said → List ℕ → Type 0
-IsShorter (variants.End rest) s = length rest.now < length s
-IsShorter (variants.Byte byte rest) s = length rest.now < length s
-IsShorter (variants.Bad cause) s = Unit {0}
+abbrev pub IsShorterBehindSaid : private.Said → List ℕ → Type 0
+IsShorterBehindSaid (variants.End rest) s = length rest.now < length s
+IsShorterBehindSaid (variants.Byte byte rest) s = length rest.now < length s
+IsShorterBehindSaid (variants.Bad cause) s = Unit {0}
 
 -- the text goes on by what is said
 abbrev pub GoesOn : List ℕ → List ℕ → List ℕ → Result (Bor (List ℕ)) ReadError → Type 0

@@ -1,5 +1,5 @@
 -- Not a definition of the subject: causes as lists that tests make, for private contracts.
-use Rattle.std.specs.Prelude.{ℕ, Bool, true, false, ◌&&◌, ◌||◌, List, [], ◌∷◌, ◌++◌, flat_map, nat_le, nat_lt, Option, Some, None, if◌then◌else◌}
+use Rattle.std.specs.Prelude.{ℕ, Bool, true, false, ◌&&◌, ◌||◌, List, [], ◌∷◌, ◌++◌, flat_map, nat_le, nat_lt, Option, Some, None, if◌then◌else◌, ◌≡◌}
 use Rattle.std.specs.List.{list_all}
 use Rattle.plural_reference.specs.Serializer.{relation_text}
 use Rattle.plural_reference.specs.declared.ast.AndCondition.{AndCondition}
@@ -47,3 +47,9 @@ group_causes group = flat_map relation_causes group.0
 
 abbrev pub condition_causes : Condition → List Cause
 condition_causes condition = flat_map group_causes condition.0
+
+-- ---- lists that grow by what is noted
+
+-- the list has grown by what is noted
+abbrev pub Adds : {A : Type 0} → (List A → Type 0) → List A → List A → Type 0
+Adds {A} Noted old new = (list : List A) × Noted list × (new ≡ old ++ list)

@@ -32,7 +32,7 @@ abbrev pub HasOwnDecimal : List CategoryRule → CategoryRule → ℕ → Type 0
 HasOwnDecimal earlier rule places = (number : Operands) × IsDecimal places number × IsTrue (is_own earlier rule number)
 
 -- of the places the last ones without zeros, and what their digits write
-pub record IsLeft (places written left kept : ℕ) : Type 0 where
+pub record AreDigitsLeft (places written left kept : ℕ) : Type 0 where
   pub divides : 10 ^ (places - left) ∣ written
   pub least : (k : ℕ) → 10 ^ (places - k) ∣ written → left ≤ k
   pub number : kept ≡ written / 10 ^ (places - left)

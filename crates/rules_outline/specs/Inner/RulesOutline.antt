@@ -1,4 +1,4 @@
--- Not a definition of the subject: what a sieve keeps of a document of rules, and when a chain stays
+-- Not a definition of the subject: what a sieve keeps_rules of a document of rules, and when a chain stays
 -- inside of it.
 use Rattle.std.specs.Prelude.{◌≡◌, ℕ, ◌<◌, List, [], ◌∷◌, codes, Bool, true, ◌||◌, bytes_eq, length, map, take, Some, Result, Ok, Err, if◌then◌else◌}
 use Rattle.std.specs.Borrow.{Bor}
@@ -39,10 +39,10 @@ is_inside All locale = true
 abbrev pub is_part : Part → List ℕ → Bool
 is_part part key = bytes_eq key (part_name part) || bytes_eq key (codes "parents")
 
-abbrev pub keeps : RulesSieve → List ℕ → Portion RulesSieve
-keeps (Document part locales) key = if is_part part key then kept.Members (Keys locales) else kept.Nothing
-keeps (Keys locales) key = if is_inside locales key then kept.Whole else kept.Nothing
-keeps Parents key = if bytes_eq key (codes "parents") then kept.Whole else kept.Nothing
+abbrev pub keeps_rules : RulesSieve → List ℕ → Portion RulesSieve
+keeps_rules (Document part locales) key = if is_part part key then kept.Members (Keys locales) else kept.Nothing
+keeps_rules (Keys locales) key = if is_inside locales key then kept.Whole else kept.Nothing
+keeps_rules Parents key = if bytes_eq key (codes "parents") then kept.Whole else kept.Nothing
 
 -- the part and the parents are held of a text
 abbrev pub HoldsPart : Part → HeldText → Type 0
@@ -61,10 +61,10 @@ abbrev pub StaysInside : KeptLocales → Data → Part → List ℕ → Type 0
 StaysInside locales document part locale = (n : ℕ) → n < most_locales → IsInsideAt locales document part locale n
 
 -- the first key, or why there is none
-abbrev pub IsFirst : Data → Part → List ℕ → Result (List ℕ) FallbackError → Type 0
-IsFirst document part locale (Ok key) = IsKeyOf document part locale key
-IsFirst document part locale (Err reason) = HasNoKey document part locale reason
+abbrev pub GivesFirstKey : Data → Part → List ℕ → Result (List ℕ) FallbackError → Type 0
+GivesFirstKey document part locale (Ok key) = IsKeyOf document part locale key
+GivesFirstKey document part locale (Err reason) = HasNoKey document part locale reason
 
 -- it is found before the chain leaves the kept locales
 abbrev pub IsFirstInside : KeptLocales → Data → Part → List ℕ → Result (List ℕ) FallbackError → Type 0
-IsFirstInside locales document part locale first = StaysInside locales document part locale × IsFirst document part locale first
+IsFirstInside locales document part locale first = StaysInside locales document part locale × GivesFirstKey document part locale first

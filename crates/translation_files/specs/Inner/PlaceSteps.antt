@@ -4,7 +4,7 @@
 use Rattle.std.specs.Prelude.{◌≡◌, ℕ, ◌&&◌, if◌then◌else◌, bytes_eq, List, String, Option, Some, None}
 use Rattle.std.specs.BTreeMap.{BTreeMap, get_by_text}
 use Rattle.std.specs.declared.alloc.Global.{Global}
-use Rattle.translation_files.specs.FilePlaces.{Target, is_kind, places_of, target}
+use Rattle.translation_files.specs.FilePlaces.{Target, is_kind, places_of_kind, target}
 use Rattle.translation_files.specs.declared.file_messages.Target as targets
 use Rattle.translation_files.specs.declared.lines.MessageKind.{MessageKind}
 use Rattle.translation_files.specs.declared.lines.MessageLines.{MessageLines}
@@ -22,7 +22,7 @@ KeepsTexts old new = (key : List ℕ) → get_by_text new key ≡ get_by_text ol
 
 -- where a message of the locale stands
 abbrev pub lines_at : LocalePlaces → MessageKind → List ℕ → Option MessageLines
-lines_at places kind key = get_by_text (places_of kind places) key
+lines_at places kind key = get_by_text (places_of_kind kind places) key
 
 abbrev pub HasNoLines : LocalePlaces → Type 0
 HasNoLines places = (kind : MessageKind) (key : List ℕ) → lines_at places kind key ≡ None

@@ -5,9 +5,9 @@ ghost use Rattle.std.specs.Char.{is_ascii_alphabetic};
 ghost use Rattle.std.specs.List.{before_first, list_all};
 ghost use Rattle.serde_json.specs.View.{members_view, view};
 ghost use Rattle.translation_files.specs.MessageDocuments.{are_locales, are_messages, are_parts, has_forms, has_part, has_parts, has_text, have_forms};
-ghost use Rattle.translation_files.specs.MessageDocuments.{is_between_subtags, is_category_name, is_document, is_empty, is_form, is_language, is_language_length};
-ghost use Rattle.translation_files.specs.MessageDocuments.{is_name_of_part, is_name_of_type, is_named, is_named_as_locale, is_object_of};
-ghost use Rattle.translation_files.specs.MessageDocuments.{is_other, is_part, says_file, some_member};
+ghost use Rattle.translation_files.specs.MessageDocuments.{is_between_subtags, is_category_name, is_document, has_no_member, is_form, is_language, is_language_length};
+ghost use Rattle.translation_files.specs.MessageDocuments.{is_name_of_part, is_name_of_type, is_named_key, is_named_as_locale, is_object_of};
+ghost use Rattle.translation_files.specs.MessageDocuments.{is_other_member, is_message_part, says_file, some_member};
 
 use icu_plurals::PluralCategory;
 use serde_json::{Map, Value};
@@ -66,7 +66,7 @@ fn have_parts(locales: &Map<String, Value>) -> bool
 
 // Whether a key is that of a locale, or of a part whose locale is forgotten.
 fn is_named(key: &str) -> bool
-    ensures { result ≡ is_named key.now }
+    ensures { result ≡ is_named_key key.now }
 {
     is_named_as_locale(key) || is_name_of_part(key)
 }
@@ -135,7 +135,7 @@ fn has_part(key: &str, locale: &Value) -> bool
 
 // The same of the members of a locale.
 fn some_part(named: bool, parts: &Map<String, Value>) -> bool
-    ensures { result ≡ some_member (is_part named) (members_view parts.now.entries) }
+    ensures { result ≡ some_member (is_message_part named) (members_view parts.now.entries) }
 {
     for (key, part) in parts.iter() {
         if is_part(named, key.as_str(), part) {
@@ -147,7 +147,7 @@ fn some_part(named: bool, parts: &Map<String, Value>) -> bool
 
 // Whether a member of a locale has messages of a type.
 fn is_part(named: bool, key: &str, part: &Value) -> bool
-    ensures { result ≡ is_part named key.now (view part.now) }
+    ensures { result ≡ is_message_part named key.now (view part.now) }
 {
     is_name_of_type(key) && has_messages(named, part)
 }
@@ -193,7 +193,7 @@ fn has_parts_alone(locale: &Value) -> bool
 
 // Whether one of a locale's members is no part of a document.
 fn have_other(parts: &Map<String, Value>) -> bool
-    ensures { result ≡ some_member is_other (members_view parts.now.entries) }
+    ensures { result ≡ some_member is_other_member (members_view parts.now.entries) }
 {
     for (key, part) in parts.iter() {
         if is_other(key.as_str(), part) {
@@ -205,7 +205,7 @@ fn have_other(parts: &Map<String, Value>) -> bool
 
 // Whether a member of a locale is no part of a document.
 fn is_other(key: &str, part: &Value) -> bool
-    ensures { result ≡ is_other key.now (view part.now) }
+    ensures { result ≡ is_other_member key.now (view part.now) }
 {
     part.is_string() || !is_name_of_part(key) && !are_messages(part)
 }
@@ -277,7 +277,7 @@ fn is_category_name(name: &str) -> bool
 
 // Whether there are no members.
 fn is_empty(members: &Map<String, Value>) -> bool
-    ensures { result ≡ is_empty (members_view members.now.entries) }
+    ensures { result ≡ has_no_member (members_view members.now.entries) }
 {
     members.is_empty()
 }

@@ -1,5 +1,5 @@
 use Rattle.std.specs.List.{All}
-use Rattle.document_members.specs.Inner.ChainStops.{IsStop}
+use Rattle.document_members.specs.Inner.Rows.{IsStop}
 use Rattle.document_members.specs.ParentRows.{named_parent}
 use Rattle.document_members.specs.ChainSteps.{short_next}
 use Rattle.std.proofs.lemmas.List.Elements.{All-same}

@@ -1,7 +1,7 @@
 use Rattle.std.proofs.Common.{◌+◌, ◌≡◌, List, ℕ, None, [], ◌∷◌, ◌++◌, ap, sym, ◌∙◌, arith, Some, rules, is_some}
 use Rattle.std.proofs.lemmas.List.Elements.{All-nil, All-push, All-same}
 use Rattle.std.specs.Prelude.{option_map}
-use Rattle.document_members.specs.Inner.ChainStops.{IsStop}
+use Rattle.document_members.specs.Inner.Rows.{IsStop}
 use Rattle.document_members.specs.ParentRows.{named_parent}
 use Rattle.document_members.specs.ChainSteps.{short_next}
 use Rattle.plural_fallback.specs.FirstKeys.{locale_at}

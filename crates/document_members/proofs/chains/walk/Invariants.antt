@@ -1,7 +1,7 @@
 use Rattle.std.proofs.Common.{◌≡◌, ◌-◌, ◌≤◌, Some}
 use Rattle.std.specs.List.{All}
 use Rattle.plural_fallback.specs.FirstKeys.{locale_at}
-use Rattle.document_members.specs.Inner.ChainStops.{IsStop}
+use Rattle.document_members.specs.Inner.Rows.{IsStop}
 use Rattle.document_members.specs.ParentRows.{named_parent}
 use Rattle.document_members.specs.ChainSteps.{short_next}
 use Rattle.document_members.proofs.chains.walk.Given as goal

@@ -5,7 +5,7 @@ use Rattle.plural_checker.specs.declared.Fault.{Fault}
 use Rattle.document_report.specs.CheckedDocument.{members_or_none}
 use Rattle.document_report.specs.DocumentPlaces.{locale_place_view}
 use Rattle.document_report.specs.DocumentReport.{found_by_check, found_of_key, found_of_other, found_under_all, text_order, IsFoundInKey}
-use Rattle.document_report.specs.FoundInDocuments.{cases_alone, together, IsFoundInMembers}
+use Rattle.document_report.specs.FoundInDocuments.{cases_alone, together, IsFoundInDocumentMembers}
 use Rattle.document_report.proofs.FoundParts.{five_more, on_ok}
 use Rattle.document_report.proofs.languages.add_checked.Goals as goal
 
@@ -24,7 +24,7 @@ returns c =
         checked,
         added.0,
         c.requires,
-        subst (λ (m : Members). IsFoundInMembers (IsFoundInKey place) m added.0) (ap members_or_none c.as_object.ensures) added.1,
+        subst (λ (m : Members). IsFoundInDocumentMembers (IsFoundInKey place) m added.0) (ap members_or_none c.as_object.ensures) added.1,
         refl,
       ),
       five_more c.args.found.now (found_of_key place) (found_of_other place value)

@@ -3,7 +3,7 @@ use Rattle.serde_json.specs.View.{view, members_view}
 use Rattle.document_members.specs.ChainSteps.{short_next}
 use Rattle.document_members.specs.ParentRows.{named_parent}
 use Rattle.document_report.specs.ParentFaults.{IsFoundInParent}
-use Rattle.document_report.specs.FoundInDocuments.{HasGrownBy, nothing_found, together}
+use Rattle.document_report.specs.FoundInDocuments.{HasGrownInDocument, nothing_found, together}
 use Rattle.document_report.proofs.FoundTogether.{together-nothing, together_assoc}
 use Rattle.plural_documents.proofs.MemberSteps.{Completes, begins, ends, goes_on}
 use Rattle.document_report.proofs.parents.add_all.Goals as goal
@@ -27,7 +27,7 @@ loop-key-preserved c =
           c.add_member.new.found
           (subst (λ es. Completes nothing_found together Is (members_view es) all c.loop-key.found c.args.found.now)
           c.in-Some.ensures.steps c.loop-key.invariant.1)
-          (subst (λ key. HasGrownBy (Is key value) c.loop-key.found c.add_member.new.found) c.as_str.ensures.value
+          (subst (λ key. HasGrownInDocument (Is key value) c.loop-key.found c.add_member.new.found) c.as_str.ensures.value
           c.in_ok-add_member.ensures.found),
     )
 

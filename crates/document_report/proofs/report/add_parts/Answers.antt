@@ -2,7 +2,7 @@ use Rattle.std.proofs.Common.{ap, subst, ◌∙◌}
 use Rattle.serde_json.specs.Data.{Members}
 use Rattle.document_report.specs.CheckedDocument.{members_or_none}
 use Rattle.document_report.specs.DocumentReport.{IsFoundInPartKey}
-use Rattle.document_report.specs.FoundInDocuments.{Found, together, IsFoundInMembers}
+use Rattle.document_report.specs.FoundInDocuments.{Found, together, IsFoundInDocumentMembers}
 use Rattle.document_report.proofs.FoundParts.{five_added, on_ok}
 use Rattle.document_report.proofs.report.add_parts.Goals as goal
 
@@ -19,7 +19,7 @@ returns c =
       ordinal.0,
       ranges.0,
       parents.0,
-      subst (λ (members : Members). IsFoundInMembers IsFoundInPartKey members keys.0) (ap members_or_none c.as_object.ensures) keys.1,
+      subst (λ (members : Members). IsFoundInDocumentMembers IsFoundInPartKey members keys.0) (ap members_or_none c.as_object.ensures) keys.1,
       cardinal.1,
       ordinal.1,
       ranges.1,

@@ -3,12 +3,12 @@ use Rattle.std.specs.Prelude.{OnOk}
 use Rattle.serde_json.specs.Data.{Members}
 use Rattle.document_report.specs.CheckedDocument.{members_or_none}
 use Rattle.document_report.specs.DocumentReport.{IsFoundInRules}
-use Rattle.document_report.specs.FoundInDocuments.{IsFoundInMembers}
-use Rattle.document_report.specs.FoundInDocuments.{HasGrownBy}
+use Rattle.document_report.specs.FoundInDocuments.{IsFoundInDocumentMembers}
+use Rattle.document_report.specs.FoundInDocuments.{HasGrownInDocument}
 use Rattle.document_report.proofs.report.add_rules.Goals as goal
 
 pub returns : goal.returns
 returns c =
     subst (λ (members : Members). OnOk c.add_members_of.result
-    (HasGrownBy (IsFoundInMembers (IsFoundInRules c.args.part) members) c.args.found.now c.add_members_of.new.found))
+    (HasGrownInDocument (IsFoundInDocumentMembers (IsFoundInRules c.args.part) members) c.args.found.now c.add_members_of.new.found))
     (ap members_or_none c.members_of-members.ensures) c.add_members_of.ensures

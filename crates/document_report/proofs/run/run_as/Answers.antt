@@ -1,7 +1,7 @@
 use Rattle.std.proofs.Common.{Ok, Err, refl, rules}
 use Rattle.std.proofs.lemmas.Result.{err_from_is_err_and}
 use Rattle.document_report.specs.CheckAnswer.{AnswersDocument, AnswersInputAs, check_origin}
-use Rattle.document_report.specs.CheckedDocument.{value_in}
+use Rattle.document_report.specs.CheckedDocument.{document_of_input}
 use Rattle.document_report.specs.Inner.CheckCalls.{answer_view}
 use Rattle.document_report.proofs.CheckFaults.{handed_on}
 use Rattle.document_report.proofs.CheckReadings.{kept, not_written, with_words, without_words}
@@ -28,7 +28,7 @@ returns-in_err-answer-clause-answers g c =
       not_written (AnswersInputAs (g.P.ReportPrinter.text_of c.args.printer.now) c.args.has_words a.0)
           (g.W.Write.contents c.args.writer.now) e c.from_residual.result
           (handed_on _ _ (err_from_is_err_and c.from_residual.result c.from_residual.ensures.1))
-          (implied check_origin answer_view (AnswersDocument (g.P.ReportPrinter.text_of c.args.printer.now) (value_in a.0))
+          (implied check_origin answer_view (AnswersDocument (g.P.ReportPrinter.text_of c.args.printer.now) (document_of_input a.0))
           (AnswersInputAs (g.P.ReportPrinter.text_of c.args.printer.now) c.args.has_words a.0)
           (λ answer h. without_words (g.P.ReportPrinter.text_of c.args.printer.now) c.args.has_words a.0 answer c.if-has_words.false h)
           (Err e) a.2),

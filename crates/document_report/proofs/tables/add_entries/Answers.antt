@@ -4,15 +4,15 @@ use Rattle.serde_json.specs.Data.{Members}
 use Rattle.plural_checker.specs.LanguageTexts.{SixTexts}
 use Rattle.document_report.specs.DocumentPlaces.{LocalePlace, locale_place_view}
 use Rattle.document_report.specs.DocumentReport.{IsFoundInEntry}
-use Rattle.document_report.specs.FoundInDocuments.{Found, HasGrownBy, IsFoundInMembers}
+use Rattle.document_report.specs.FoundInDocuments.{Found, HasGrownInDocument, IsFoundInDocumentMembers}
 use Rattle.document_report.proofs.tables.add_entries.Goals as goal
 
 -- what was added under the same texts
 under_texts : {A E : Type 0} (r : Result A E) (place : LocalePlace) (members : Members) (old new : Found) (texts same : SixTexts)
-    → texts ≡ same → OnOk r (HasGrownBy (IsFoundInMembers (IsFoundInEntry texts place) members) old new)
-    → OnOk r (HasGrownBy (IsFoundInMembers (IsFoundInEntry same place) members) old new)
+    → texts ≡ same → OnOk r (HasGrownInDocument (IsFoundInDocumentMembers (IsFoundInEntry texts place) members) old new)
+    → OnOk r (HasGrownInDocument (IsFoundInDocumentMembers (IsFoundInEntry same place) members) old new)
 under_texts r place members old new texts same is h =
-    subst (λ (t : SixTexts). OnOk r (HasGrownBy (IsFoundInMembers (IsFoundInEntry t place) members) old new)) is h
+    subst (λ (t : SixTexts). OnOk r (HasGrownInDocument (IsFoundInDocumentMembers (IsFoundInEntry t place) members) old new)) is h
 
 pub returns : goal.returns
 returns c =

@@ -7,7 +7,7 @@ use Rattle.serde_json.specs.declared.Value.{Value}
 use Rattle.document_report.specs.CheckedDocument.{members_or_none}
 use Rattle.document_report.specs.DocumentPlaces.{locale_place_view}
 use Rattle.document_report.specs.DocumentReport.{found_of_key, found_of_rules, texts_at, IsFoundInEntry}
-use Rattle.document_report.specs.FoundInDocuments.{together, IsFoundInMembers}
+use Rattle.document_report.specs.FoundInDocuments.{together, IsFoundInDocumentMembers}
 use Rattle.document_report.proofs.FoundParts.{on_ok, three_more}
 use Rattle.document_report.proofs.tables.add_table.Goals as goal
 
@@ -20,7 +20,7 @@ returns c =
       together (found_of_key place) (together (found_of_rules place rules) added.0),
       (
         added.0,
-        subst (λ (m : Members). IsFoundInMembers (IsFoundInEntry (texts_at rules) place) m added.0) (ap members_or_none c.table_in.ensures)
+        subst (λ (m : Members). IsFoundInDocumentMembers (IsFoundInEntry (texts_at rules) place) m added.0) (ap members_or_none c.table_in.ensures)
             added.1,
         refl,
       ),

@@ -1,5 +1,5 @@
 use Rattle.std.proofs.Common.{◌++◌, ap, map, string_bytes, ◌∙◌}
-use Rattle.message_report.specs.MessageFindings.{finding_view}
+use Rattle.message_report.specs.MessageFindings.{message_finding_view}
 use Rattle.message_report.specs.MessagesReportText.{counts_found}
 use Rattle.finding_formats.specs.FindingObjects.{counts_data, finding_data}
 use Rattle.finding_formats.specs.JsonLines.{json_line}
@@ -10,6 +10,6 @@ pub returns : goal.returns
 returns c =
     let before = string_bytes c.push_lines.new.text in
     rw c.findings.ensures at
-    (objects_and_last finding_data (map finding_view c.findings.result.now) (counts_data (counts_found c.args.found.now))
+    (objects_and_last finding_data (map message_finding_view c.findings.result.now) (counts_data (counts_found c.args.found.now))
     (string_bytes c.new-text.result) before (string_bytes c.push_value.new.text) c.new-text.ensures.bytes c.in_ok-push_lines.ensures
     (c.in_ok-push_value.ensures.ok ∙ ap (λ d. before ++ json_line d) (c.in_ok-counts.ensures ∙ ap counts_data c.counts.ensures)))

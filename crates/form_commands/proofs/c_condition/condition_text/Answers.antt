@@ -4,7 +4,7 @@ use Rattle.icu_plurals.specs.PackedRelations.{PackedRelation, groups}
 use Rattle.icu_plurals.specs.RuleViews.{lent_relation}
 use Rattle.icu_plurals.specs.declared.provider.rules.runtime.ast.AndOr.{AndOr}
 use Rattle.form_commands.specs.CExpressions.{or_text}
-use Rattle.form_commands.specs.Inner.ConditionSteps.{AreCut, begun_before, ended_before, group_texts}
+use Rattle.form_commands.specs.Inner.ConditionSteps.{AreCut, begun_before, groups_ended_before, group_texts}
 use Rattle.form_commands.proofs.JoinLemmas.{IsTaken, all_taken, none_taken, one_more_taken}
 use Rattle.form_commands.proofs.c_condition.condition_text.Goals as goal
 
@@ -23,7 +23,7 @@ loop-item-preserved c =
     c.cut_before.new.current c.add.new.self left c.loop-item.invariant
     (subst (λ (mark : AndOr). (done : List (List PackedRelation)) (group : List PackedRelation)
     → AreCut done group c.loop-item.ended c.loop-item.current
-    → AreCut (ended_before mark done group) (begun_before mark group) c.cut_before.new.ended c.cut_before.new.current) c.and_or.ensures
+    → AreCut (groups_ended_before mark done group) (begun_before mark group) c.cut_before.new.ended c.cut_before.new.current) c.and_or.ensures
     c.in_ok-cut_before.ensures)
     c.in_ok-add.ensures
 

@@ -1,6 +1,6 @@
 use Rattle.std.proofs.Common.{string_bytes, ap, ◌++◌, ◌∙◌, List, ℕ, refl, subst}
 use Rattle.form_commands.specs.FormLines.{IsSamplesOf, wholes_text}
-use Rattle.form_commands.specs.Inner.PrintedSteps.{Grows}
+use Rattle.form_commands.specs.Inner.ConditionSteps.{Grows}
 use Rattle.form_commands.proofs.FormLemmas.{form_grown}
 use Rattle.std.specs.Prelude.{Option}
 use Rattle.form_commands.proofs.list.push_form.Goals as goal

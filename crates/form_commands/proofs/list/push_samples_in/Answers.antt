@@ -6,7 +6,7 @@ use Rattle.icu_plurals.specs.Serializer.{prefixed, samples_text}
 use Rattle.icu_plurals.specs.declared.provider.rules.reference.ast.Samples.{Samples}
 use Rattle.std.specs.Prelude.{Option}
 use Rattle.form_commands.specs.FormLines.{IsSamplesText}
-use Rattle.form_commands.specs.Inner.PrintedSteps.{Grows}
+use Rattle.form_commands.specs.Inner.ConditionSteps.{Grows}
 use Rattle.form_commands.proofs.FormLemmas.{on_ok}
 use Rattle.form_commands.proofs.list.push_samples_in.Goals as goal
 

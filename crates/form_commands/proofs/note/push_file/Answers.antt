@@ -3,8 +3,8 @@ use Rattle.std.specs.Prelude.{Option}
 use Rattle.std.proofs.lemmas.List.{append-nil}
 use Rattle.serde_json.specs.Data.{Members}
 use Rattle.serde_json.specs.View.{members_view, view}
-use Rattle.form_commands.specs.Inner.PrintedSteps.{Grows}
-use Rattle.form_commands.specs.KeyNotes.{AreMemberNotes, AreNotesOf, IsFileNote}
+use Rattle.form_commands.specs.Inner.ConditionSteps.{Grows}
+use Rattle.form_commands.specs.KeyNotes.{AreMemberNotes, AreMessageNotes, IsFileNote}
 use Rattle.form_commands.proofs.FormLemmas.{on_ok}
 use Rattle.form_commands.proofs.note.push_file.Goals as goal
 
@@ -20,7 +20,7 @@ returns-in_ok-place-in-Some c =
     c.push_members.result
     (λ grown. (
       grown.0,
-      subst (λ (ms : Option Members). AreNotesOf document (file.name.now ++ codes ": ") ms grown.0) c.in-Some.ensures
+      subst (λ (ms : Option Members). AreMessageNotes document (file.name.now ++ codes ": ") ms grown.0) c.in-Some.ensures
           (subst (λ (p : List ℕ). AreMemberNotes document p locales grown.0) place grown.1),
       grown.2,
     ))
@@ -29,7 +29,7 @@ returns-in_ok-place-in-Some c =
 pub returns-in-None : goal.returns-in-None
 returns-in-None c = (
   [],
-  subst (λ (ms : Option Members). AreNotesOf (view c.args.document.now) (c.args.file.now.name.now ++ codes ": ") ms []) c.in-None.ensures
+  subst (λ (ms : Option Members). AreMessageNotes (view c.args.document.now) (c.args.file.now.name.now ++ codes ": ") ms []) c.in-None.ensures
       refl,
   sym (append-nil (string_bytes c.args.notes.now)),
 )

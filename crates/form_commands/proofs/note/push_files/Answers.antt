@@ -2,7 +2,7 @@ use Rattle.std.proofs.Common.{drop, string_bytes, subst}
 use Rattle.std.proofs.lemmas.List.{drop_all}
 use Rattle.message_report.specs.declared.file.MessageFile.{MessageFile}
 use Rattle.serde_json.specs.View.{view}
-use Rattle.form_commands.specs.Inner.PrintedSteps.{Grows}
+use Rattle.form_commands.specs.Inner.ConditionSteps.{Grows}
 use Rattle.form_commands.specs.KeyNotes.{IsFileNote}
 use Rattle.form_commands.proofs.NoteLemmas.{files_begin, files_end, files_go_on}
 use Rattle.form_commands.proofs.note.push_files.Goals as goal

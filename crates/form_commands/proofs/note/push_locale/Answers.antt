@@ -1,7 +1,7 @@
 use Rattle.std.proofs.Common.{Bool, string_bytes, subst}
 use Rattle.plural_fallback.specs.declared.locales.Part.TheVariants.{Cardinal, Ordinal}
 use Rattle.serde_json.specs.View.{view}
-use Rattle.form_commands.specs.Inner.PrintedSteps.{Grows}
+use Rattle.form_commands.specs.Inner.ConditionSteps.{Grows}
 use Rattle.form_commands.specs.KeyNotes.{AreLocaleNotes, IsNote, IsNoteIf}
 use Rattle.form_commands.proofs.NoteLemmas.{two_notes}
 use Rattle.form_commands.proofs.FormLemmas.{on_ok}

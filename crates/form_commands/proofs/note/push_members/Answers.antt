@@ -1,6 +1,6 @@
 use Rattle.std.proofs.Common.{ℕ, List, string_bytes, ap, subst, ◌∙◌}
 use Rattle.serde_json.specs.View.{members_view, view}
-use Rattle.form_commands.specs.Inner.PrintedSteps.{Grows}
+use Rattle.form_commands.specs.Inner.ConditionSteps.{Grows}
 use Rattle.form_commands.specs.KeyNotes.{AreLocaleNotes}
 use Rattle.form_commands.proofs.NoteLemmas.{MembersLeft, members_begin, members_end, members_go_on}
 use Rattle.form_commands.proofs.note.push_members.Goals as goal

@@ -1,6 +1,6 @@
 use Rattle.std.proofs.Common.{◌≡◌, ◌∷◌, ◌++◌, [], ℕ, List, ap, sym, ◌∙◌}
 use Rattle.std.proofs.lemmas.Result.{IfOk-weaker}
-use Rattle.form_commands.specs.Inner.SimilarSteps.{is_like, names_of, told_in}
+use Rattle.form_commands.specs.Inner.SimilarSteps.{is_like, similar_key_list, told_in}
 use Rattle.form_commands.specs.SimilarKeys.{first_three}
 use Rattle.form_commands.specs.declared.similar_keys.SimilarKeys.{SimilarKeys}
 use Rattle.form_commands.proofs.SimilarLemmas.{like_told, other_told}
@@ -11,7 +11,7 @@ returns-then-is_like c =
     let key = c.args.key.now in
     let language = c.args.language.now in
     let like = ap (is_like c.args.likeness language) (sym c.as_bytes.ensures.value) ∙ sym c.is_like.ensures ∙ c.if-is_like.true in
-    IfOk-weaker c.with_key.result (λ (similar : SimilarKeys). similar ≡ first_three (names_of c.args.before ++ key ∷ []))
+    IfOk-weaker c.with_key.result (λ (similar : SimilarKeys). similar ≡ first_three (similar_key_list c.args.before ++ key ∷ []))
     (λ (similar : SimilarKeys). (more : List (List ℕ))
     → told_in c.args.likeness language c.args.before (key ∷ more) ≡ told_in c.args.likeness language similar more)
     (λ similar added more. like_told c.args.likeness language c.args.before similar key more like added) c.with_key.ensures

@@ -1,6 +1,6 @@
 use Rattle.std.proofs.Common.{◌≡◌, ◌+◌, ◌-◌, ◌*◌, ◌∙◌, min, drop, get_or, ℕ, ap, arith, sym}
 use Rattle.format_arguments.specs.declared.directive.TheConstants.{PLACE_LIMIT}
-use Rattle.format_arguments.specs.DirectiveBytes.{number_from, place_of}
+use Rattle.format_arguments.specs.DirectiveBytes.{number_from, place_of_digits}
 use Rattle.format_arguments.proofs.Numerals.{digit_more, no_digit_left}
 use Rattle.format_arguments.proofs.directive.place_of.Goals as goal
 
@@ -18,7 +18,7 @@ loop-digit-preserved c =
     }
 
 pub returns : goal.returns
-unfolding place_of
+unfolding place_of_digits
 returns c =
     sym (no_digit_left PLACE_LIMIT c.args.digits.now c.loop-digit.digit-index c.loop-digit.place c.loop-digit-test.false
     c.loop-digit.invariant.within)

@@ -1,5 +1,5 @@
 use Rattle.std.proofs.Common.{◌≡◌, List, ap, subst, sym, ◌∙◌}
-use Rattle.packed_catalog.specs.CatalogBytes.{Entry, lent}
+use Rattle.packed_catalog.specs.CatalogBytes.{Entry, lent_entries}
 use Rattle.packed_catalog.specs.declared.error.PackCatalogError.{PackCatalogError}
 use Rattle.message_catalog.specs.MessagePacking.{ArePacked, HasEntriesFault, TellsFault, texts_view}
 use Rattle.message_catalog.specs.declared.error.PackMessagesError.{PackMessagesError}
@@ -12,9 +12,9 @@ use Rattle.message_catalog.proofs.packing.pack.Goals as goal
 pub returns-clause-exact : goal.returns-clause-exact
 returns-clause-exact c =
     let texts = texts_view c.args.messages.now in
-    let entries : List Entry = lent c.deref-2.result.now in
+    let entries : List Entry = lent_entries c.deref-2.result.now in
     let same : entries ≡ packed_view c.in-Ok.packed.items =
-    ap lent c.deref-2.ensures.value ∙ c.in_ok-entries.ensures ∙ ap packed_view c.deref.ensures.value in
+    ap lent_entries c.deref-2.ensures.value ∙ c.in_ok-entries.ensures ∙ ap packed_view c.deref.ensures.value in
     let packed : ArePacked texts entries = subst (λ (es : List Entry). ArePacked texts es) (sym same) c.in-Ok.ensures.packed in
     let told : TellsEntries c.pack.result c.deref-2.result.now = record {
       too_many = c.pack.ensures.too_many;
@@ -33,9 +33,9 @@ returns-clause-exact c =
 pub returns-clause-refused : goal.returns-clause-refused
 returns-clause-refused c =
     let texts = texts_view c.args.messages.now in
-    let entries : List Entry = lent c.deref-2.result.now in
+    let entries : List Entry = lent_entries c.deref-2.result.now in
     let same : entries ≡ packed_view c.in-Ok.packed.items =
-    ap lent c.deref-2.ensures.value ∙ c.in_ok-entries.ensures ∙ ap packed_view c.deref.ensures.value in
+    ap lent_entries c.deref-2.ensures.value ∙ c.in_ok-entries.ensures ∙ ap packed_view c.deref.ensures.value in
     let packed : ArePacked texts entries = subst (λ (es : List Entry). ArePacked texts es) (sym same) c.in-Ok.ensures.packed in
     let told : TellsEntries c.pack.result c.deref-2.result.now = record {
       too_many = c.pack.ensures.too_many;
@@ -49,9 +49,9 @@ returns-clause-refused c =
 pub returns-in-Ok-pack-clause-exact : goal.returns-in-Ok-pack-clause-exact
 returns-in-Ok-pack-clause-exact c =
     let texts = texts_view c.args.messages.now in
-    let entries : List Entry = lent c.deref-2.result.now in
+    let entries : List Entry = lent_entries c.deref-2.result.now in
     let same : entries ≡ packed_view c.in-Ok.packed.items =
-    ap lent c.deref-2.ensures.value ∙ c.in_ok-entries.ensures ∙ ap packed_view c.deref.ensures.value in
+    ap lent_entries c.deref-2.ensures.value ∙ c.in_ok-entries.ensures ∙ ap packed_view c.deref.ensures.value in
     let packed : ArePacked texts entries = subst (λ (es : List Entry). ArePacked texts es) (sym same) c.in-Ok.ensures.packed in
     let told : TellsEntries c.pack.result c.deref-2.result.now = record {
       too_many = c.pack.ensures.too_many;

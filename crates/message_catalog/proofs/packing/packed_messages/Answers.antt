@@ -1,7 +1,7 @@
 use Rattle.std.proofs.Common.{arith, refl}
 use Rattle.std.proofs.lemmas.List.{length-map}
 use Rattle.std.proofs.lemmas.Option.{slice_get_within}
-use Rattle.message_catalog.specs.MessagePacking.{text_view, texts_view}
+use Rattle.message_catalog.specs.MessagePacking.{keyed_text_view, texts_view}
 use Rattle.message_catalog.specs.Inner.PackedViews.{packed_view}
 use Rattle.message_catalog.proofs.PackingFaults.{good_more, message_exact, message_refused, pushed, text_there}
 use Rattle.message_catalog.proofs.TextsPacked.{behind_all}
@@ -27,12 +27,12 @@ loop-index-preserved c = record {
 
 pub returns-clause-packed : goal.returns-clause-packed
 returns-clause-packed c =
-    let many = length-map c.args.messages.now text_view in
+    let many = length-map c.args.messages.now keyed_text_view in
     behind_all (texts_view c.args.messages.now) c.loop-index.index (packed_view c.loop-index.packed.items)
     (omega (arith, many, c.loop-index-test.false)) c.loop-index.invariant.behind
 
 pub returns-clause-good : goal.returns-clause-good
 returns-clause-good c = λ k keyed within there.
-    let many = length-map c.args.messages.now text_view in
+    let many = length-map c.args.messages.now keyed_text_view in
     let l = slice_get_within (texts_view c.args.messages.now) k keyed there in
     c.loop-index.invariant.good k keyed (omega (arith, many, l, c.loop-index-test.false)) there

@@ -1,5 +1,5 @@
 use Rattle.std.proofs.Common.{◌≤◌, ℕ, List, length}
-use Rattle.message_format.specs.FormatMeaning.{PatternOutcome, Says}
+use Rattle.message_format.specs.FormatMeaning.{PatternOutcome, MessageSays}
 use Rattle.message_format.specs.FormatSteps.{both}
 use Rattle.message_format.proofs.saying.+say.Given as goal
 
@@ -12,9 +12,9 @@ invariant-parts g l = record {
   says : (before : List ℕ) → g.W.Sink.IsSaid l.initial.said before
       → (now : List ℕ) × g.W.Sink.IsSaid l.said now
       × ((outcome : PatternOutcome)
-      → Says (g.A.Arguments.arguments l.arguments) (both (g.R.TextRules.rules l.cardinal) (g.R.TextRules.rules l.ordinal)) l.hash
+      → MessageSays (g.A.Arguments.arguments l.arguments) (both (g.R.TextRules.rules l.cardinal) (g.R.TextRules.rules l.ordinal)) l.hash
       now (g.S.MessageSteps.parts l.left) outcome
-      → Says (g.A.Arguments.arguments l.arguments) (both (g.R.TextRules.rules l.cardinal) (g.R.TextRules.rules l.ordinal)) l.hash before
+      → MessageSays (g.A.Arguments.arguments l.arguments) (both (g.R.TextRules.rules l.cardinal) (g.R.TextRules.rules l.ordinal)) l.hash before
       (g.S.MessageSteps.parts l.fn.parts) outcome);
   shorter : length (g.S.MessageSteps.parts l.left) ≤ length (g.S.MessageSteps.parts l.fn.parts);
 }

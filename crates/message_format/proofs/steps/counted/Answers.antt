@@ -1,6 +1,6 @@
 use Rattle.std.proofs.Common.{◌≡◌, ℕ, List, None, Some, refl, inl, subst}
 use Rattle.fixed_decimal.specs.Written.{CompactNumber, WritesCompact, OneCompact}
-use Rattle.message_format.specs.FormatParts.{branches_at, IsFirst}
+use Rattle.message_format.specs.FormatParts.{branches_at, IsFirstChosen}
 use Rattle.message_format.specs.FormatBranches.{Equals}
 use Rattle.message_format.proofs.Equal.{counted_by}
 use Rattle.message_format.proofs.Passes.{of_value}
@@ -28,7 +28,7 @@ counted_by_category-requires g c = λ k. (
         let written =
         rewritten c.as_bytes-written.result.now c.args.text.now c.in-Some.plain.0 c.as_bytes-written.ensures.value
         c.in-Some.ensures.0 in
-        of_each c.texts_write_one_number.ensures.compact (λ (y : CompactNumber). IsFirst (λ s. Equals y s) bs None) c.args.text.now
+        of_each c.texts_write_one_number.ensures.compact (λ (y : CompactNumber). IsFirstChosen (λ s. Equals y s) bs None) c.args.text.now
         c.in-Some.plain.0 x written none w),
     c.in-Ok.ensures.left,
   ),

@@ -1,7 +1,7 @@
 use Rattle.std.proofs.Common.{◌≡◌, ◌≤◌, length}
 use Rattle.message_pattern.specs.PatternParts.{parts_view}
 use Rattle.message_format.specs.FormatBranches.{behind_end}
-use Rattle.message_format.specs.Inner.FormatWalks.{ArePassed}
+use Rattle.message_format.specs.Inner.FormatViews.{ArePassed}
 use Rattle.message_format.proofs.walks.first_chosen.Given as goal
 
 -- no branch that was passed is chosen

@@ -1,8 +1,8 @@
 use Rattle.std.proofs.Common.{refl}
 use Rattle.serde_json.specs.View.{view}
-use Rattle.message_report.specs.FoundInMessages.{together}
+use Rattle.message_report.specs.FoundInMessages.{messages_together}
 use Rattle.message_report.specs.Inner.ArgumentViews.{languages_view}
-use Rattle.message_report.specs.MessagePlaces.{locale_place_view}
+use Rattle.message_report.specs.MessagePlaces.{file_locale_place_view}
 use Rattle.message_report.proofs.EachFound.{on_ok}
 use Rattle.message_report.proofs.MessagesFound.{two_added}
 use Rattle.message_report.proofs.PartLemmas.{by_both, by_needed}
@@ -11,13 +11,13 @@ use Rattle.message_report.proofs.document.add_all.Goals as goal
 pub returns : goal.returns
 returns g c =
     let source = g.S.RulesOfLocales.source c.args.source.now in
-    let locale = locale_place_view c.args.locale in
+    let locale = file_locale_place_view c.args.locale in
     let value = view c.args.value.now in
     let two = languages_view c.needed-languages.result in
     let both = c.in_ok-add_parts.ensures in
     on_ok c.add_patterns.result
     (λ added. (
-      together both.0 added.0,
+      messages_together both.0 added.0,
       (
         both.0,
         added.0,

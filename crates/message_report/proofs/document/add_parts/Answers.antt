@@ -3,10 +3,10 @@ use Rattle.std.specs.Prelude.{Option}
 use Rattle.serde_json.specs.Find.{get}
 use Rattle.serde_json.specs.View.{view}
 use Rattle.icu_plurals.specs.declared.PluralRuleType.TheVariants.{Cardinal, Ordinal}
-use Rattle.message_report.specs.FoundInMessages.{together}
+use Rattle.message_report.specs.FoundInMessages.{messages_together}
 use Rattle.message_report.specs.FormFaults.{Language}
 use Rattle.message_report.specs.Inner.NeededRules.{IsFoundInPartBy}
-use Rattle.message_report.specs.MessagePlaces.{locale_place_view, type_name}
+use Rattle.message_report.specs.MessagePlaces.{file_locale_place_view, type_name}
 use Rattle.message_report.specs.SourceArguments.{source_name}
 use Rattle.message_report.proofs.EachFound.{on_ok}
 use Rattle.message_report.proofs.MessagesFound.{two_added}
@@ -15,11 +15,11 @@ use Rattle.message_report.proofs.document.add_parts.Goals as goal
 pub returns : goal.returns
 returns c =
     let value = view c.args.value.now in
-    let locale = locale_place_view c.args.locale in
+    let locale = file_locale_place_view c.args.locale in
     let cardinal = c.in_ok-add_part.ensures in
     on_ok c.add_part-2.result
     (λ added. (
-      together cardinal.0 added.0,
+      messages_together cardinal.0 added.0,
       (
         cardinal.0,
         added.0,

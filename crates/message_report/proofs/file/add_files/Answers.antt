@@ -1,6 +1,6 @@
 use Rattle.std.proofs.Common.{drop, subst}
 use Rattle.std.proofs.lemmas.List.{drop_all}
-use Rattle.message_report.specs.FoundInMessages.{HasGrownBy}
+use Rattle.message_report.specs.FoundInMessages.{HasGrownInMessages}
 use Rattle.message_report.specs.MessagesReport.{IsFoundInFile}
 use Rattle.message_report.specs.declared.file.MessageFile.{MessageFile}
 use Rattle.message_report.proofs.EachFound.{each_begins, each_ends, each_goes_on}
@@ -14,7 +14,7 @@ loop-file-preserved g c =
     let Is = IsFoundInFile (g.S.RulesOfLocales.source c.args.source.now) in
     each_goes_on Is c.args.files.now c.args.found.now c.loop-file.file-index c.file-item.result c.loop-file.found c.add_document.new.found
     c.loop-file-test.true c.loop-file.invariant
-    (subst (λ (file : MessageFile). HasGrownBy (Is file) c.loop-file.found c.add_document.new.found) c.file-item.is
+    (subst (λ (file : MessageFile). HasGrownInMessages (Is file) c.loop-file.found c.add_document.new.found) c.file-item.is
     c.in_ok-add_document.ensures)
 
 pub returns : goal.returns

@@ -1,7 +1,7 @@
 use Rattle.std.proofs.Common.{refl, ap, sym, ◌∙◌}
 use Rattle.serde_json.specs.Data.{object}
 use Rattle.serde_json.specs.View.{members_view}
-use Rattle.message_report.specs.FoundInMessages.{Found, together}
+use Rattle.message_report.specs.FoundInMessages.{MessageFound, messages_together}
 use Rattle.message_report.specs.Inner.FormSteps.{language_lent}
 use Rattle.message_report.specs.Inner.FormValues.{IsFoundByValues}
 use Rattle.message_report.specs.MessageForms.{form_order}
@@ -21,7 +21,7 @@ returns-then-values c =
     let keys = found_of_keys place (other_keys members) in
     on_ok c.add_keys.result
     (λ added. (
-      together forms.0 keys,
+      messages_together forms.0 keys,
       (
         forms.0,
         each_in (IsFoundInForm language c.args.needs.number place (object members))
@@ -42,7 +42,7 @@ returns c =
     let forms = c.in_ok-add_each_form.ensures in
     let keys = found_of_keys place (other_keys members) in
     let none = ap (found_of_keys place) (c.of-values.ensures.keys c.if-values.false) in (
-      together forms.0 keys,
+      messages_together forms.0 keys,
       (
         forms.0,
         each_in (IsFoundInForm language c.args.needs.number place (object members))
@@ -53,5 +53,5 @@ returns c =
       ),
       two_added c.args.found.now forms.0 keys c.add_each_form.new.found c.add_each_form.new.found forms.2
           (none_added c.add_each_form.new.found
-          ∙ ap (λ (found : Found). together c.add_each_form.new.found found) (sym none)),
+          ∙ ap (λ (found : MessageFound). messages_together c.add_each_form.new.found found) (sym none)),
     )

@@ -3,7 +3,7 @@ use Rattle.std.specs.Prelude.{Option}
 use Rattle.serde_json.specs.Data.{Data, Members}
 use Rattle.serde_json.specs.Find.{as_object}
 use Rattle.serde_json.specs.View.{members_view, view}
-use Rattle.message_report.specs.FoundInMessages.{fault_at, HasGrownBy}
+use Rattle.message_report.specs.FoundInMessages.{message_fault_at, HasGrownInMessages}
 use Rattle.message_report.specs.Inner.FormSteps.{language_lent}
 use Rattle.message_report.specs.MessagePlaces.{at_message, message_place_view}
 use Rattle.message_report.specs.MessagesReport.{IsFoundInForms}
@@ -18,7 +18,7 @@ returns-in-Some c =
     on_ok c.add_all.result
     (λ added.
     subst
-    (λ (message : Data). HasGrownBy
+    (λ (message : Data). HasGrownInMessages
     (IsFoundInForms (language_lent c.args.needs.language) c.args.needs.number (message_place_view c.args.place) message (as_object message))
     c.args.found.now c.add_all.new.found)
     (sym is) added)
@@ -28,7 +28,7 @@ pub returns-in-None : goal.returns-in-None
 returns-in-None c =
     let language = language_lent c.args.needs.language in
     let place = message_place_view c.args.place in
-    let found = fault_at (at_message place) NoObject in
+    let found = message_fault_at (at_message place) NoObject in
     on_ok c.add_fault.result
     (λ added. (
       found,

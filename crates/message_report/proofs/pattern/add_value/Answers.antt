@@ -1,6 +1,6 @@
 use Rattle.std.proofs.Common.{ℕ, List, refl, subst}
 use Rattle.std.specs.Prelude.{Option}
-use Rattle.message_report.specs.FoundInMessages.{fault_at}
+use Rattle.message_report.specs.FoundInMessages.{message_fault_at}
 use Rattle.message_report.specs.Inner.ArgumentViews.{languages_view}
 use Rattle.message_report.specs.MessagePlaces.{at_pattern, pattern_place_view}
 use Rattle.message_report.specs.MessagesReport.{IsFoundInTextIf}
@@ -12,7 +12,7 @@ pub returns-in-None : goal.returns-in-None
 returns-in-None c =
     let two = languages_view c.args.languages.now in
     let place = pattern_place_view c.args.place in
-    let found = fault_at (at_pattern place) NoText in
+    let found = message_fault_at (at_pattern place) NoText in
     on_ok c.add_fault.result
     (λ added. (
       found,

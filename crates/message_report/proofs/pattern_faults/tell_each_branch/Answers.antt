@@ -2,7 +2,7 @@ use Rattle.std.proofs.Common.{◌-◌, [], List, length, map, take, drop, get_or
 use Rattle.message_pattern.specs.PatternParts.{parts_view, selector_view, branches_of}
 use Rattle.message_pattern.specs.declared.part.Part as parts
 use Rattle.message_pattern.specs.declared.part.Selector as selectors
-use Rattle.message_report.specs.Inner.ArgumentViews.{argument_view, branching}
+use Rattle.message_report.specs.Inner.ArgumentViews.{plural_argument_view, branching}
 use Rattle.message_report.specs.Inner.LanguageViews.{language_view}
 use Rattle.message_report.specs.MessagePlaces.{argument_place_view}
 use Rattle.message_report.specs.MessagesReport.{branch_findings}
@@ -16,14 +16,14 @@ loop-left-init c = (
   [],
   ap (λ (l : List selectors.Selector). map selector_view l) c.new-seen.ensures.items,
   starts c.args.before c.args.found.now
-      (branch_findings (language_view c.args.language.now) (argument_place_view c.args.place) (argument_view c.args.argument) []
-      (argument_view c.args.argument).branches),
+      (branch_findings (language_view c.args.language.now) (argument_place_view c.args.place) (plural_argument_view c.args.argument) []
+      (plural_argument_view c.args.argument).branches),
 )
 
 pub loop-left-preserved-then-part-argument : goal.loop-left-preserved-then-part-argument
 loop-left-preserved-then-part-argument c =
     let ps = c.loop-left.left.now in
-    let a = argument_view c.args.argument in
+    let a = plural_argument_view c.args.argument in
     let place = argument_place_view c.args.place in
     let language = language_view c.args.language.now in
     passes language place a c.args.before c.args.found.now c.loop-left.count c.loop-left.found (map selector_view c.loop-left.seen.items) ps
@@ -34,7 +34,7 @@ pub loop-left-preserved : goal.loop-left-preserved
 loop-left-preserved c =
     let ps = c.loop-left.left.now in
     let rest = take (length ps - 1) (drop 1 ps) in
-    let a = argument_view c.args.argument in
+    let a = plural_argument_view c.args.argument in
     let place = argument_place_view c.args.place in
     let language = language_view c.args.language.now in
     tells_branch language place a c.args.before c.args.found.now c.loop-left.count c.loop-left.found
@@ -50,7 +50,7 @@ loop-left-preserved c =
 pub returns : goal.returns
 returns c =
     let ps = c.loop-left.left.now in
-    let a = argument_view c.args.argument in
+    let a = plural_argument_view c.args.argument in
     let place = argument_place_view c.args.place in
     let language = language_view c.args.language.now in
     ends_branches language place a c.args.before c.args.found.now c.loop-left.count c.loop-left.found
@@ -60,7 +60,7 @@ returns c =
 pub returns-in_default-piece : goal.returns-in_default-piece
 returns-in_default-piece c =
     let ps = c.loop-left.left.now in
-    let a = argument_view c.args.argument in
+    let a = plural_argument_view c.args.argument in
     let place = argument_place_view c.args.place in
     let language = language_view c.args.language.now in
     ends_branches language place a c.args.before c.args.found.now c.loop-left.count c.loop-left.found

@@ -1,7 +1,7 @@
 use Rattle.std.proofs.Common.{Bool, IfOk, refl, sym, subst, ◌∙◌}
 use Rattle.message_pattern.specs.PatternParts.{Begin, offset_view, parts_view, piece_view}
 use Rattle.message_pattern.specs.declared.part.Piece as pieces
-use Rattle.message_report.specs.Inner.ArgumentViews.{argument_view, languages_view}
+use Rattle.message_report.specs.Inner.ArgumentViews.{plural_argument_view, languages_view}
 use Rattle.message_report.specs.Inner.ToldFindings.{TellsThose}
 use Rattle.message_report.specs.MessagesReport.{HasPieceFindings, argument_findings}
 use Rattle.message_report.specs.PatternFaults.{IsArgumentAt, type_of_kind}
@@ -15,7 +15,7 @@ returns c =
     let place = pattern_place_view c.args.place in
     let depth = c.args.part.now.depth in
     let ps = parts_view c.args.parts.now in
-    let a = argument_view c.in_ok-argument.argument in
+    let a = plural_argument_view c.in_ok-argument.argument in
     let findings = argument_findings two place (type_of_kind c.in-Begin.kind) a in
     subst
     (λ (x : pieces.Piece).

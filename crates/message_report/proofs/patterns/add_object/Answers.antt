@@ -1,10 +1,10 @@
 use Rattle.std.proofs.Common.{refl, subst}
 use Rattle.std.specs.Prelude.{Option}
 use Rattle.serde_json.specs.Data.{Members}
-use Rattle.message_report.specs.FoundInMessages.{fault_at}
+use Rattle.message_report.specs.FoundInMessages.{message_fault_at}
 use Rattle.message_report.specs.Inner.ArgumentViews.{languages_view}
 use Rattle.message_report.specs.Inner.NeededRules.{IsFoundInPatternsObjectBy}
-use Rattle.message_report.specs.MessagePlaces.{at_patterns, locale_place_view}
+use Rattle.message_report.specs.MessagePlaces.{at_patterns, file_locale_place_view}
 use Rattle.message_report.specs.declared.cause.Cause.TheVariants.{NoObject}
 use Rattle.message_report.proofs.EachFound.{on_ok}
 use Rattle.message_report.proofs.patterns.add_object.Goals as goal
@@ -12,8 +12,8 @@ use Rattle.message_report.proofs.patterns.add_object.Goals as goal
 pub returns-in-None : goal.returns-in-None
 returns-in-None c =
     let two = languages_view c.args.languages.now in
-    let locale = locale_place_view c.args.locale in
-    let found = fault_at (at_patterns locale) NoObject in
+    let locale = file_locale_place_view c.args.locale in
+    let found = message_fault_at (at_patterns locale) NoObject in
     on_ok c.add_fault.result
     (λ added. (
       found,

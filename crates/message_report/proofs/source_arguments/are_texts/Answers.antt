@@ -3,7 +3,7 @@ use Rattle.std.proofs.lemmas.List.{drop_all}
 use Rattle.std.specs.Prelude.{is_some}
 use Rattle.serde_json.specs.View.{items_view}
 use Rattle.serde_json.specs.declared.Value.{Value}
-use Rattle.message_report.specs.Inner.ListedTexts.{all_pass}
+use Rattle.message_report.specs.Inner.NeededRules.{all_pass}
 use Rattle.message_report.proofs.TextLists.{one_failed, one_passed}
 use Rattle.message_report.proofs.source_arguments.are_texts.Goals as goal
 

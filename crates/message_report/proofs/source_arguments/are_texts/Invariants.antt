@@ -1,7 +1,7 @@
 use Rattle.std.proofs.Common.{◌≡◌, drop}
 use Rattle.std.specs.Prelude.{is_some}
 use Rattle.serde_json.specs.View.{items_view}
-use Rattle.message_report.specs.Inner.ListedTexts.{all_pass}
+use Rattle.message_report.specs.Inner.NeededRules.{all_pass}
 use Rattle.message_report.proofs.source_arguments.are_texts.Given as goal
 
 -- all pass if the remaining values do

@@ -2,7 +2,7 @@ use Rattle.std.proofs.Common.{List, ap, ◌∙◌}
 use Rattle.std.specs.Prelude.{is_some}
 use Rattle.serde_json.specs.View.{items_view, view}
 use Rattle.serde_json.specs.declared.Value.{Value}
-use Rattle.message_report.specs.Inner.ListedTexts.{all_pass}
+use Rattle.message_report.specs.Inner.NeededRules.{all_pass}
 use Rattle.message_report.proofs.TextLists.{no_list, text_list_if}
 use Rattle.message_report.proofs.source_arguments.is_text_list.Goals as goal
 

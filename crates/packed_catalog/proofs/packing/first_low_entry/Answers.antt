@@ -4,7 +4,7 @@ use Rattle.std.specs.Cmp.Lexicographic.{slice_cmp}
 use Rattle.std.specs.declared.cmp.Ordering.TheVariants.{Less}
 use Rattle.std.specs.Ordering.{nat_cmp}
 use mathlib.Core.Bool.{true≢false}
-use Rattle.packed_catalog.specs.CatalogBytes.{keys_of, lent}
+use Rattle.packed_catalog.specs.CatalogBytes.{entry_keys_of, lent_entries}
 use Rattle.packed_catalog.specs.CatalogFaults.{IsFirst, IsLowKey}
 use Rattle.packed_catalog.proofs.EntriesOrder.{keys_compared, length-lent, sorted_from_rising}
 use Rattle.packed_catalog.proofs.FirstFaults.{first_low}
@@ -13,7 +13,7 @@ use Rattle.packed_catalog.proofs.packing.first_low_entry.Goals as goal
 pub returns-then-not-is_below-clause-some : goal.returns-then-not-is_below-clause-some
 returns-then-not-is_below-clause-some c =
     let entries = c.args.entries.now in
-    let key : ℕ → List ℕ = λ k. get_or (keys_of (lent entries)) k [] in
+    let key : ℕ → List ℕ = λ k. get_or (entry_keys_of (lent_entries entries)) k [] in
     let i : ℕ = c.loop-index.index in
     let e : i ≡ suc (i - 1) = omega (arith, c.loop-index.auto.index) in
     let same = keys_compared entries i _ c.loop-index.auto.index c.loop-index-test.true in
@@ -30,7 +30,7 @@ returns-then-not-is_below-clause-some c =
 pub loop-index-preserved : goal.loop-index-preserved
 loop-index-preserved c = λ k l.
     let entries = c.args.entries.now in
-    let key : ℕ → List ℕ = λ k. get_or (keys_of (lent entries)) k [] in
+    let key : ℕ → List ℕ = λ k. get_or (entry_keys_of (lent_entries entries)) k [] in
     let i : ℕ = c.loop-index.index in
     elim (cases_lt (suc k) i) [
       | inl before ↦ c.loop-index.invariant k before
@@ -45,4 +45,4 @@ loop-index-preserved c = λ k l.
 pub returns-clause-none : goal.returns-clause-none
 returns-clause-none c =
     let entries = c.args.entries.now in
-    sorted_from_rising (lent entries) (λ k l. c.loop-index.invariant k (omega (arith, l, length-lent entries, c.loop-index-test.false)))
+    sorted_from_rising (lent_entries entries) (λ k l. c.loop-index.invariant k (omega (arith, l, length-lent entries, c.loop-index-test.false)))

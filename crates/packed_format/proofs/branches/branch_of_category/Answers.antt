@@ -1,6 +1,6 @@
 use Rattle.std.proofs.Common.{◌≡◌, ◌∙◌, sym, true}
 use Rattle.plural_base.specs.Categories.{name_of}
-use Rattle.packed_pattern.specs.Inner.PlaceViews.{placed_view}
+use Rattle.packed_pattern.specs.Inner.PlacesAhead.{placed_view}
 use Rattle.packed_pattern.specs.Inner.PartReading.{is_plural}
 use Rattle.packed_format.proofs.PlacesRead.{word_there}
 use Rattle.packed_format.proofs.branches.branch_of_category.Goals as goal

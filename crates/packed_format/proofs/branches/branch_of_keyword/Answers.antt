@@ -1,7 +1,7 @@
 use Rattle.std.proofs.Common.{◌≡◌, ◌∙◌, ◌+◌, ◌∷◌, drop, refl, sym, ap, arith, true, false, bytes_eq, Some}
 use Rattle.message_pattern.specs.PatternParts.{branches_of, selector_view}
 use Rattle.message_format.specs.FormatBranches.{branch_of_keyword, is_keyword}
-use Rattle.packed_pattern.specs.Inner.PlaceViews.{placed_view}
+use Rattle.packed_pattern.specs.Inner.PlacesAhead.{placed_view}
 use Rattle.packed_format.proofs.BehindParts.{no_place}
 use Rattle.packed_format.proofs.PlacesRead.{within}
 use Rattle.packed_format.proofs.Walked.{deeper_there, selector_there, none_there, no_keyword}

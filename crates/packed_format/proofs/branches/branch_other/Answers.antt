@@ -2,7 +2,7 @@ use Rattle.std.proofs.Common.{◌≡◌, ◌∙◌, ap, sym}
 use Rattle.message_pattern.specs.declared.part.ArgumentKind.{ArgumentKind}
 use Rattle.message_pattern.specs.declared.part.ArgumentKind.TheVariants.{Select}
 use Rattle.message_pattern.specs.PatternParts.{Part, Begin, offset_view, piece_view}
-use Rattle.packed_pattern.specs.Inner.PlaceViews.{placed_view}
+use Rattle.packed_pattern.specs.Inner.PlacesAhead.{placed_view}
 use Rattle.packed_format.proofs.PlacesRead.{other_there}
 use Rattle.packed_format.proofs.branches.branch_other.Goals as goal
 

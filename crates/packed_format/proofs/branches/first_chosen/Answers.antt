@@ -1,7 +1,7 @@
 use Rattle.std.proofs.Common.{◌≡◌, ◌+◌, ◌<◌, ℕ, List, drop, length, refl, sym, subst, inl, inr, arith, true, false, Option, Some, None}
 use Rattle.message_pattern.specs.PatternParts.{Part, Branching, branches_of, selector_view}
-use Rattle.message_format.specs.FormatParts.{IsFirst}
-use Rattle.packed_pattern.specs.Inner.PlaceViews.{placed_view}
+use Rattle.message_format.specs.FormatParts.{IsFirstChosen}
+use Rattle.packed_pattern.specs.Inner.PlacesAhead.{placed_view}
 use Rattle.packed_format.proofs.BehindParts.{no_place}
 use Rattle.packed_format.proofs.FirstNumbers.{left_from, first_behind, next_behind, further, fewer_left}
 use Rattle.packed_format.proofs.PlacesRead.{within}
@@ -24,8 +24,8 @@ returns-in_default-placed-clause-first g c =
     let ps = c.args.pattern.now in
     let depth = c.depth-depth.result in
     let none = no_place ps c.in-Some.at c.in_default-placed.ensures in
-    let here = subst (λ (l : List Part). IsFirst P (branches_of depth l) None) (sym none) refl in
-    subst (λ (d : ℕ). IsFirst P (branches_of d (drop (c.args.index + 1) ps)) None) c.depth-depth.ensures
+    let here = subst (λ (l : List Part). IsFirstChosen P (branches_of depth l) None) (sym none) refl in
+    subst (λ (d : ℕ). IsFirstChosen P (branches_of d (drop (c.args.index + 1) ps)) None) c.depth-depth.ensures
     (c.loop-next.invariant.passed None (rw c.in-Some.is here))
 
 pub returns-in_default-selector-clause-first : goal.returns-in_default-selector-clause-first
@@ -35,8 +35,8 @@ returns-in_default-selector-clause-first g c =
     let depth = c.depth-depth.result in
     let none = none_there (placed_view c.in-Some-placed.placed) ps c.in-Some.at c.in-Some-placed.ensures c.depth.result c.depth.ensures
     depth c.if-depth.true c.in_default-selector.ensures in
-    let here = subst (λ (bs : List Branching). IsFirst P bs None) (sym none) refl in
-    subst (λ (d : ℕ). IsFirst P (branches_of d (drop (c.args.index + 1) ps)) None) c.depth-depth.ensures
+    let here = subst (λ (bs : List Branching). IsFirstChosen P bs None) (sym none) refl in
+    subst (λ (d : ℕ). IsFirstChosen P (branches_of d (drop (c.args.index + 1) ps)) None) c.depth-depth.ensures
     (c.loop-next.invariant.passed None (rw c.in-Some.is here))
 
 pub overflow_add-result : goal.overflow_add-result
@@ -52,8 +52,8 @@ returns-then-chosen-clause-first g c =
     let found = drop (c.in-Some.at + 1) ps in
     let there = selector_there (placed_view c.in-Some-placed.placed) ps c.in-Some.at c.in-Some-placed.ensures c.depth.result
     c.depth.ensures depth (selector_view c.in-Some-selector.selector) c.if-depth.true c.in-Some-selector.ensures in
-    let here = subst (λ (bs : List Branching). IsFirst P bs (Some found)) (sym there) (inl (c.in-Ok.ensures.0 c.if-chosen.true, refl)) in
-    subst (λ (d : ℕ). IsFirst P (branches_of d (drop (c.args.index + 1) ps)) (Some found)) c.depth-depth.ensures
+    let here = subst (λ (bs : List Branching). IsFirstChosen P bs (Some found)) (sym there) (inl (c.in-Ok.ensures.0 c.if-chosen.true, refl)) in
+    subst (λ (d : ℕ). IsFirstChosen P (branches_of d (drop (c.args.index + 1) ps)) (Some found)) c.depth-depth.ensures
     (c.loop-next.invariant.passed (Some found) (rw c.in-Some.is here))
 
 pub next_number-next-requires-in-Some : goal.next_number-next-requires-in-Some
@@ -87,15 +87,15 @@ loop-next-preserved-else-chosen g c =
     let at = c.in-Some.at in
     let placed = (placed_view c.in-Some-placed.placed) in
     let next = c.next_number-next-in-Some.ensures ps c.in-Some-placed.ensures in
-    let passed : (found : Option (List Part)) → IsFirst P (branches_of depth (drop (at + 1) ps)) found
-    → IsFirst P (branches_of depth (drop at ps)) found = λ found k.
+    let passed : (found : Option (List Part)) → IsFirstChosen P (branches_of depth (drop (at + 1) ps)) found
+    → IsFirstChosen P (branches_of depth (drop at ps)) found = λ found k.
     let there = selector_there placed ps at c.in-Some-placed.ensures c.depth.result c.depth.ensures depth
     (selector_view c.in-Some-selector.selector) c.if-depth.true c.in-Some-selector.ensures in
     let other : P (selector_view c.in-Some-selector.selector) → ⊥ = λ e.
     let yes : c.in-Ok.chosen ≡ true = c.in-Ok.ensures.1 e in
     let not : c.in-Ok.chosen ≡ false = c.if-chosen.false in
     cc in
-    subst (λ (bs : List Branching). IsFirst P bs found) (sym there) (inr (other, k))
+    subst (λ (bs : List Branching). IsFirstChosen P bs found) (sym there) (inr (other, k))
     in
     let behind : c.args.index < at = rw c.in-Some.is at c.loop-next.invariant.behind in
     record {
@@ -113,9 +113,9 @@ loop-next-preserved g c =
     let at = c.in-Some.at in
     let placed = (placed_view c.in-Some-placed.placed) in
     let next = c.next_number-next-in-Some.ensures ps c.in-Some-placed.ensures in
-    let passed : (found : Option (List Part)) → IsFirst P (branches_of depth (drop (at + 1) ps)) found
-    → IsFirst P (branches_of depth (drop at ps)) found = λ found k.
-    subst (λ (bs : List Branching). IsFirst P bs found)
+    let passed : (found : Option (List Part)) → IsFirstChosen P (branches_of depth (drop (at + 1) ps)) found
+    → IsFirstChosen P (branches_of depth (drop at ps)) found = λ found k.
+    subst (λ (bs : List Branching). IsFirstChosen P bs found)
     (sym (deeper_there placed ps at c.in-Some-placed.ensures c.depth.result c.depth.ensures depth c.if-depth.false)) k
     in
     let behind : c.args.index < at = rw c.in-Some.is at c.loop-next.invariant.behind in

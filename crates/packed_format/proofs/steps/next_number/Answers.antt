@@ -1,5 +1,5 @@
 use Rattle.std.proofs.Common.{◌≡◌, ◌∙◌, ◌<◌, sym, arith, true}
-use Rattle.packed_pattern.specs.Inner.PlaceViews.{placed_view}
+use Rattle.packed_pattern.specs.Inner.PlacesAhead.{placed_view}
 use Rattle.packed_format.specs.Inner.PackedSteps.{has_next_number}
 use Rattle.packed_format.proofs.PlacesRead.{no_number, same_numbers}
 use Rattle.packed_format.proofs.steps.next_number.Goals as goal

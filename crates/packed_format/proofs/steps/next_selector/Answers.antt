@@ -1,6 +1,6 @@
 use Rattle.std.proofs.Common.{sym, ◌∙◌}
 use Rattle.message_pattern.specs.PatternParts.{selector_view}
-use Rattle.packed_pattern.specs.Inner.PlaceViews.{placed_view}
+use Rattle.packed_pattern.specs.Inner.PlacesAhead.{placed_view}
 use Rattle.packed_format.proofs.PlacesRead.{selector_end}
 use Rattle.packed_format.proofs.steps.next_selector.Goals as goal
 

@@ -2,7 +2,7 @@ use Rattle.std.proofs.Common.{ℕ, List, ap, inl, inr, length, refl, subst}
 use Rattle.std.proofs.lemmas.Result.{on_ok_weaker}
 use Rattle.std.specs.Option.{option_copied}
 use Rattle.plural_checker.specs.Findings.{fault_alone}
-use Rattle.plural_checker.specs.Inner.TextReadings.{IsFoundInRead, IsReading}
+use Rattle.plural_checker.specs.Inner.TextReadings.{IsFoundInRead, IsRuleReading}
 use Rattle.plural_checker.specs.declared.fault.Fault.{Fault}
 use Rattle.plural_checker.specs.declared.fault.TextFault.TheVariants.{TooLong, Unread}
 use Rattle.plural_checker.specs.declared.read_text.Reading.TheVariants.{Long, Refused, Rule}
@@ -12,7 +12,7 @@ use Rattle.plural_checker.proofs.text_check.check_text.Goals as goal
 
 pub returns-in-Long : goal.returns-in-Long
 returns-in-Long c =
-    let long : IsReading c.args.text.now Long = subst (IsReading c.args.text.now) c.in-Long.is c.reading.ensures in
+    let long : IsRuleReading c.args.text.now Long = subst (IsRuleReading c.args.text.now) c.in-Long.is c.reading.ensures in
     let fault : Fault = record { category = c.args.category; kind = TooLong (length c.as_str.result.now) } in
     on_ok_weaker c.add.result
     (λ is. (
@@ -28,7 +28,7 @@ returns-in-Long c =
 
 pub returns-in-Refused : goal.returns-in-Refused
 returns-in-Refused c =
-    let refused : IsReading c.args.text.now (Refused c.in-Refused.fault) = subst (IsReading c.args.text.now) c.in-Refused.is c.reading.ensures in
+    let refused : IsRuleReading c.args.text.now (Refused c.in-Refused.fault) = subst (IsRuleReading c.args.text.now) c.in-Refused.is c.reading.ensures in
     let kind = c.in-Refused.fault.kind in
     let byte = c.in-Refused.fault.byte in
     let fault : Fault = record { category = c.args.category; kind = Unread kind byte } in
@@ -44,7 +44,7 @@ pub returns-in-Rule : goal.returns-in-Rule
 returns-in-Rule c =
     let rule = c.in-Rule.rule in
     let text = c.args.text.now in
-    let reading : IsReading text (Rule rule) = subst (IsReading text) c.in-Rule.is c.reading.ensures in
+    let reading : IsRuleReading text (Rule rule) = subst (IsRuleReading text) c.in-Rule.is c.reading.ensures in
     on_ok_weaker c.check_rule.result
     (λ adds. (
       adds.0,

@@ -3,9 +3,8 @@ use Rattle.std.proofs.lemmas.Result.{err_from_is_err_and}
 use Rattle.std.specs.Cow.{cow_str_bytes}
 use Rattle.std.specs.Prelude.{⊤}
 use Rattle.plural_commands.specs.Answer.{AnswersQuery, AnswersWords}
-use Rattle.plural_queries.specs.RunFaults.{run_origin}
+use Rattle.plural_queries.specs.CallAnswers.{run_origin, Text}
 use Rattle.plural_queries.specs.Commands.{command_of}
-use Rattle.plural_queries.specs.CallAnswers.{Text}
 use Rattle.plural_queries.specs.QueryViews.{query_view}
 use Rattle.plural_queries.specs.Queries.{Asks}
 use Rattle.plural_queries.specs.declared.error.RunError.{RunError}

@@ -1,5 +1,5 @@
 use Rattle.std.proofs.Common.{ℕ, List, subst}
-use Rattle.plural_documents.specs.Inner.HeldTexts.{GivesTokens}
+use Rattle.plural_documents.specs.Inner.OutlineSteps.{GivesTokens}
 use Rattle.plural_documents.proofs.JsonTextLemmas.{value_refused}
 use Rattle.plural_documents.proofs.TextValues.{tokens_given}
 use Rattle.plural_documents.proofs.json_tokens.tokens_of.Goals as goal

@@ -1,6 +1,6 @@
 use Rattle.std.proofs.Common.{string_bytes, ap, subst, ◌∙◌}
 use Rattle.serde_json.specs.View.{view, members_view}
-use Rattle.plural_documents.specs.FoundMembers.{HasGrownBy}
+use Rattle.plural_documents.specs.Steps.{HasGrownBy}
 use Rattle.plural_documents.proofs.MemberSteps.{Completes, begins, ends, goes_on}
 use Rattle.plural_documents.proofs.members.add_members.Goals as goal
 

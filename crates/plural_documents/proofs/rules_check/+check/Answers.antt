@@ -2,7 +2,7 @@ use Rattle.std.proofs.Common.{◌≡◌, ℕ, suc, ◌≤◌, ◌∷◌, List, l
 use Rattle.std.specs.Prelude.{◌||◌}
 use Rattle.std.proofs.lemmas.Bool.{OnTrue_at, OnTrue_from, or_left}
 use Rattle.document_tokens.specs.HeldTokens.{Held, held_token}
-use Rattle.plural_documents.specs.Inner.RulesPlaces.{AreRightParts, allows_object, below}
+use Rattle.plural_documents.specs.Inner.RulesPlaces.{AreRightParts, allows_object, place_below}
 use Rattle.plural_documents.specs.declared.rules_place.RulesPlace.{RulesPlace}
 use Rattle.plural_documents.proofs.RightTokens.{RightGoOn, null_right, object_right, on_right, right_added, right_ended}
 use Rattle.plural_documents.proofs.RightTokens.{right_not_cut, text_right}
@@ -20,7 +20,7 @@ are_right-loop-first-preserved-then-is_any_read t c = (
       (subst (λ (ts : List Held). RightGoOn c.args.place ts rest whole c.loop-first.is_any_read)
       (c.in-Some.ensures ∙ ap (λ u. held_token u ∷ c.next.new.self) c.in-Key.is) (c.loop-first.invariant.0 members rest whole is read))
       (rw (← c.below-below.ensures) (OnTrue_at c.if-not-branch.false c.in_ok-is_right_below.ensures.right))
-      (or_left c.loop-first.is_any_read (is_some {T = RulesPlace} (below c.args.place c.in-Key.key.now)) c.if-is_any_read.true
+      (or_left c.loop-first.is_any_read (is_some {T = RulesPlace} (place_below c.args.place c.in-Key.key.now)) c.if-is_any_read.true
       ∙ sym c.if-is_any_read.true)),
   one_shorter (length c.is_right_below.new.left) (length c.next.new.self) (length c.loop-first.left) (length c.args.left.now)
       c.in_ok-is_right_below.ensures.shorter (ap length c.in-Some.ensures) c.loop-first.invariant.1,
@@ -33,7 +33,7 @@ are_right-loop-first-preserved t c = (
       (subst (λ (ts : List Held). RightGoOn c.args.place ts rest whole c.loop-first.is_any_read)
       (c.in-Some.ensures ∙ ap (λ u. held_token u ∷ c.next.new.self) c.in-Key.is) (c.loop-first.invariant.0 members rest whole is read))
       (rw (← c.below-below.ensures) (OnTrue_at c.if-not-branch.false c.in_ok-is_right_below.ensures.right))
-      (ap (λ b. b || is_some {T = RulesPlace} (below c.args.place c.in-Key.key.now)) c.if-is_any_read.false
+      (ap (λ b. b || is_some {T = RulesPlace} (place_below c.args.place c.in-Key.key.now)) c.if-is_any_read.false
       ∙ ap (is_some {T = RulesPlace}) (sym c.below-below.ensures) ∙ sym c.is_some-is_any_read.ensures)),
   one_shorter (length c.is_right_below.new.left) (length c.next.new.self) (length c.loop-first.left) (length c.args.left.now)
       c.in_ok-is_right_below.ensures.shorter (ap length c.in-Some.ensures) c.loop-first.invariant.1,

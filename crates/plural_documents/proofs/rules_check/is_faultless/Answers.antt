@@ -1,6 +1,6 @@
 use Rattle.std.proofs.Common.{List, map, sym, ap, subst, ◌∙◌}
 use Rattle.std.specs.List.{list_any}
-use Rattle.plural_documents.specs.Inner.HeldTexts.{Holds}
+use Rattle.plural_documents.specs.Inner.OutlineSteps.{Holds}
 use Rattle.document_tokens.specs.HeldTokens.{Held, held_token}
 use Rattle.plural_documents.specs.Inner.RulesPlaces.{is_float}
 use Rattle.plural_documents.specs.Outlines.{HeldText}

@@ -1,6 +1,6 @@
 use Rattle.std.proofs.lemmas.Result.{err_from_is_err_and}
 use Rattle.plural_exports.specs.FormattedPatterns.{IsPackedFormatted}
-use Rattle.plural_exports.specs.GivenCatalogs.{FindsBlock}
+use Rattle.plural_exports.specs.GivenPatterns.{FindsBlock}
 use Rattle.plural_exports.proofs.Steps.{of_second, passed_on, refused_first}
 use Rattle.plural_exports.proofs.catalogs.said.Goals as goal
 

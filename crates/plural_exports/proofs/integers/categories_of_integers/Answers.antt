@@ -3,7 +3,7 @@ use Rattle.std.specs.Prelude.{map}
 use Rattle.std.proofs.lemmas.List.{length-map}
 use Rattle.icu_plurals.specs.CategoryTables.{integer_entry}
 use Rattle.icu_plurals.specs.FiveRules.{FiveRules}
-use Rattle.plural_exports.specs.Results.{filled}
+use Rattle.plural_exports.specs.Results.{filled_buffer}
 use Rattle.plural_exports.proofs.integers.categories_of_integers.Goals as goal
 
 pub returns-in-Ok : goal.returns-in-Ok
@@ -14,7 +14,7 @@ returns-in-Ok c =
       (Ok c.in-Ok.rules, c.in-Ok.ensures, refl),
       (
         rw (length-map numbers entry) (search rules),
-        subst (λ (five : FiveRules). c.put_categories.new.out ≡ filled (map (integer_entry five) numbers) c.args.out.now)
+        subst (λ (five : FiveRules). c.put_categories.new.out ≡ filled_buffer (map (integer_entry five) numbers) c.args.out.now)
             c.of.ensures c.put_categories.ensures.written,
       ),
     )

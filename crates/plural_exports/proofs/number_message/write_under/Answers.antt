@@ -8,12 +8,12 @@ use Rattle.icu_plurals.specs.Inner.ElementsViews.{lent_elements}
 use Rattle.icu_plurals.specs.PackedElements.{PackedValue}
 use Rattle.plural_message.specs.Messages.{IsMessageWith, IsWrittenTo}
 use Rattle.plural_exports.specs.Inner.UnderRules.{IsMessageUnder}
-use Rattle.plural_exports.specs.Results.{filled}
+use Rattle.plural_exports.specs.Results.{filled_buffer}
 use Rattle.plural_exports.proofs.Steps.{faulty, passed_on}
 use Rattle.plural_exports.proofs.number_message.write_under.Goals as goal
 
 -- what was written of a message is what an export writes
-filled_is : (old new message : List ℕ) (told : ℕ) → IsWrittenTo old new told message → new ≡ filled message old
+filled_is : (old new message : List ℕ) (told : ℕ) → IsWrittenTo old new told message → new ≡ filled_buffer message old
 filled_is old new message told is =
     ⊎_elim
     (λ short. is.too_long short

@@ -1,6 +1,6 @@
 use Rattle.std.proofs.Common.{Ok, Err, refl}
 use Rattle.std.proofs.lemmas.Result.{err_from_is_err_and}
-use Rattle.message_format.specs.FormatArguments.{arguments_view}
+use Rattle.message_format.specs.FormatArguments.{named_values_view}
 use Rattle.message_format.specs.FormatMeaning.{Said}
 use Rattle.plural_exports.specs.Inner.Conversions.{format_fault}
 use Rattle.plural_exports.proofs.SaidPatterns.{said_refused}
@@ -24,7 +24,7 @@ pub returns-in_err-format_packed : goal.returns-in_err-format_packed
 returns-in_err-format_packed c =
     let e = c.in_err-format_packed.field-0.0 in
     let residual = c.from_residual-in_err-format_packed in
-    let arguments = arguments_view c.in_ok-arguments.arguments.items in
+    let arguments = named_values_view c.in_ok-arguments.arguments.items in
     rw (handed_on format_fault residual.result e (err_from_is_err_and residual.result residual.ensures.1)) (
       Ok c.in_ok-pattern.pattern,
       c.in_ok-pattern.ensures,
@@ -41,7 +41,7 @@ returns c = (
   Ok c.in_ok-pattern.pattern,
   c.in_ok-pattern.ensures,
   (
-    Ok (arguments_view c.in_ok-arguments.arguments.items),
+    Ok (named_values_view c.in_ok-arguments.arguments.items),
     c.in_ok-arguments.ensures,
     (rw c.as_slice.ensures.value at c.in_ok-format_packed.ensures).only (Said c.in_ok-format_packed.field-0.items) refl,
   ),

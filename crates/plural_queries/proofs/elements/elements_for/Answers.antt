@@ -2,8 +2,7 @@ use Rattle.std.proofs.Common.{codes, Ok, Err, ap, refl, sym, ◌∙◌}
 use Rattle.std.proofs.lemmas.Result.{err_from_is_err_and}
 use Rattle.serde_json.specs.Find.{get}
 use Rattle.plural_queries.specs.Input.{elements_at_key, or_bad, rules_for, ruled_with}
-use Rattle.plural_queries.specs.QueryViews.{document_view}
-use Rattle.plural_queries.specs.Inner.PrivateViews.{elements_view}
+use Rattle.plural_queries.specs.QueryViews.{document_view, elements_view}
 use Rattle.plural_queries.proofs.Faults.{after, handed_on, of_second, refused_first}
 use Rattle.plural_queries.proofs.elements.elements_for.Goals as goal
 

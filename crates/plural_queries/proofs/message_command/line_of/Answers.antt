@@ -3,7 +3,7 @@ use Rattle.std.specs.Prelude.{string_bytes}
 use Rattle.icu_plurals.specs.Elements.{IsExactElement, IsKeptElement, Elements}
 use Rattle.icu_plurals.specs.PackedElements.{PackedValue, elements_of as values_of}
 use Rattle.plural_message.specs.Messages.{IsMessageWith}
-use Rattle.plural_queries.specs.Inner.PrivateViews.{elements_view}
+use Rattle.plural_queries.specs.QueryViews.{elements_view}
 use Rattle.plural_queries.specs.Lines.{IsMessageLine, line}
 use Rattle.plural_queries.proofs.Faults.{line_given}
 use Rattle.plural_queries.proofs.message_command.line_of.Goals as goal

@@ -2,7 +2,7 @@ use Rattle.std.proofs.Common.{Result, subst, sym}
 use Rattle.std.proofs.lemmas.Result.{err_from_is_err_and}
 use Rattle.plural_queries.specs.LookupAnswers.{AnswersFrom}
 use Rattle.plural_queries.specs.Input.{RuledElements, elements_for}
-use Rattle.plural_queries.specs.CallAnswers.{GivesText}
+use Rattle.plural_queries.specs.CallAnswers.{GivesAnswerText}
 use Rattle.plural_queries.specs.QueryViews.{document_view}
 use Rattle.plural_queries.specs.Lines.{IsMessageLine}
 use Rattle.plural_queries.specs.declared.error.RunError.{RunError}
@@ -18,6 +18,6 @@ returns-in_err-given c =
 
 pub returns : goal.returns
 returns c =
-    subst (λ (given : Result RuledElements RunError). GivesText (AnswersFrom (IsMessageLine c.args.number.now c.args.word.now) given)
+    subst (λ (given : Result RuledElements RunError). GivesAnswerText (AnswersFrom (IsMessageLine c.args.number.now c.args.word.now) given)
     c.line_of-line.result)
     (sym c.in_ok-given.ensures) c.line_of-line.ensures

@@ -2,7 +2,7 @@ use Rattle.std.proofs.Common.{Result, subst, sym}
 use Rattle.std.proofs.lemmas.Result.{err_from_is_err_and}
 use Rattle.icu_plurals.specs.FiveRules.{FiveRules}
 use Rattle.plural_queries.specs.LookupAnswers.{AnswersFrom}
-use Rattle.plural_queries.specs.CallAnswers.{GivesText}
+use Rattle.plural_queries.specs.CallAnswers.{GivesAnswerText}
 use Rattle.plural_queries.specs.declared.error.RunError.{RunError}
 use Rattle.plural_queries.specs.Input.{rules_for}
 use Rattle.plural_queries.specs.QueryViews.{document_view}
@@ -18,5 +18,5 @@ returns-in_err-rules c =
 
 pub returns : goal.returns
 returns c =
-    subst (λ (rules : Result FiveRules RunError). GivesText (AnswersFrom AreRuleLines rules) c.answer_of-lines.result)
+    subst (λ (rules : Result FiveRules RunError). GivesAnswerText (AnswersFrom AreRuleLines rules) c.answer_of-lines.result)
     (sym c.in_ok-rules.ensures) c.answer_of-lines.ensures

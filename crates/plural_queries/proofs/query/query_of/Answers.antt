@@ -1,4 +1,4 @@
-use Rattle.plural_queries.specs.Inner.PrivateViews.{command_view}
+use Rattle.plural_queries.specs.QueryViews.{command_view}
 use Rattle.plural_queries.proofs.Questions.{command_not_usage}
 use Rattle.plural_queries.proofs.query.query_of.Goals as goal
 

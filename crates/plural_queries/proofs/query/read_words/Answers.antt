@@ -1,6 +1,6 @@
 use Rattle.std.proofs.Common.{Some, refl, subst, sym}
 use Rattle.plural_queries.specs.CallAnswers.{GivesQuery}
-use Rattle.plural_queries.specs.Inner.PrivateViews.{command_view}
+use Rattle.plural_queries.specs.QueryViews.{command_view}
 use Rattle.plural_queries.specs.Queries.{ReadingTakesMemory, of_document, printed_rules}
 use Rattle.plural_queries.specs.declared.command.Command.{Command as CodeCommand}
 use Rattle.plural_queries.proofs.Questions.{asked_has_no_fault}

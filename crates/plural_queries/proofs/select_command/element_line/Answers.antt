@@ -3,8 +3,7 @@ use Rattle.std.proofs.lemmas.Result.{err_from_is_err_and}
 use Rattle.icu_plurals.specs.Elements.{IsKeptElement, element_at}
 use Rattle.icu_plurals.specs.PackedElements.{PackedValue, elements_of as values_of}
 use Rattle.plural_queries.specs.Input.{elements_for}
-use Rattle.plural_queries.specs.QueryViews.{document_view}
-use Rattle.plural_queries.specs.Inner.PrivateViews.{elements_view}
+use Rattle.plural_queries.specs.QueryViews.{document_view, elements_view}
 use Rattle.plural_queries.specs.Lines.{IsElementLine, line}
 use Rattle.plural_queries.proofs.Faults.{handed_on, line_given, nothing_given}
 use Rattle.plural_queries.proofs.select_command.element_line.Goals as goal

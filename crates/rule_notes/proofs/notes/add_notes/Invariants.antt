@@ -1,5 +1,5 @@
 use Rattle.std.proofs.Common.{[], take}
-use Rattle.rule_notes.specs.Inner.NoteSteps.{Adds}
+use Rattle.rule_notes.specs.Inner.CauseLists.{Adds}
 use Rattle.rule_notes.specs.RuleNotes.{AreRuleNotes}
 use Rattle.rule_notes.proofs.notes.add_notes.Given as goal
 

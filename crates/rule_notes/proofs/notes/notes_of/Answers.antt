@@ -1,6 +1,6 @@
 use Rattle.std.proofs.Common.{[], List, subst, sym}
 use Rattle.rule_notes.proofs.NoteGrowth.{adds_to_nothing}
-use Rattle.rule_notes.specs.Inner.NoteSteps.{Adds}
+use Rattle.rule_notes.specs.Inner.CauseLists.{Adds}
 use Rattle.rule_notes.specs.RuleNotes.{AreRuleNotes}
 use Rattle.rule_notes.specs.declared.category_rule.CategoryRule.{CategoryRule}
 use Rattle.rule_notes.specs.declared.note.Note.{Note}

@@ -1,7 +1,7 @@
 use Rattle.rule_notes.proofs.ListedCauses.{condition_noted}
 use Rattle.rule_notes.proofs.NoteGrowth.{adds_both, adds_to_nothing}
 use Rattle.rule_notes.specs.ConditionCauses.{AreConditionCauses, IsNotedIf, NotesBoth}
-use Rattle.rule_notes.specs.EarlierRules.{AreAlikeCauses, IsTaken}
+use Rattle.rule_notes.specs.EarlierRules.{AreAlikeCauses, IsTakenByEarlier}
 use Rattle.rule_notes.specs.Inner.CauseLists.{condition_causes}
 use Rattle.rule_notes.specs.RuleNotes.{AreRuleCauses}
 use Rattle.rule_notes.specs.declared.cause.Cause.TheVariants.{Taken}
@@ -13,7 +13,7 @@ returns c =
     let rule = c.args.rule.now in
     let by_itself = AreConditionCauses rule.condition in
     let alike = AreAlikeCauses earlier rule in
-    let taken = IsNotedIf (IsTaken earlier rule) Taken in
+    let taken = IsNotedIf (IsTakenByEarlier earlier rule) Taken in
     let none = c.new-causes.result.items in
     let first = c.add_condition.new.causes.items in
     let second = c.add_alike.new.causes.items in

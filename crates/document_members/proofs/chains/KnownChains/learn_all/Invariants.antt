@@ -1,7 +1,7 @@
 use Rattle.std.proofs.Common.{ℕ, List, Option}
 use Rattle.std.specs.List.{All}
 use Rattle.document_members.specs.ChainSteps.{AreKnown, HasSteps}
-use Rattle.document_members.specs.Inner.ChainStops.{IsStop}
+use Rattle.document_members.specs.Inner.Rows.{IsStop}
 use Rattle.document_members.proofs.chains.KnownChains.learn_all.Given as goal
 
 -- what was known and what is learned holds

@@ -1,6 +1,6 @@
 use Rattle.std.proofs.Common.{refl, sym, inl, inr}
 use Rattle.document_report.specs.DocumentPlaces.{at_key, locale_place_view}
-use Rattle.document_report.specs.FoundInDocuments.{fault_at, nothing_found}
+use Rattle.document_report.specs.FoundInDocuments.{document_fault_at, nothing_found}
 use Rattle.document_report.specs.declared.cause.Cause.TheVariants.{NotACategory}
 use Rattle.document_report.proofs.Entries.{no_category}
 use Rattle.document_report.proofs.FoundParts.{on_ok}
@@ -11,7 +11,7 @@ pub returns-in-None : goal.returns-in-None
 returns-in-None c =
     on_ok c.add_fault.result
     (λ added. (
-      fault_at (at_key (locale_place_view c.args.self.now.place) c.args.key.now) NotACategory,
+      document_fault_at (at_key (locale_place_view c.args.self.now.place) c.args.key.now) NotACategory,
       inr (λ named. no_category c.args.key.now c.in-None.ensures named.0 named.1, refl),
       added,
     ))

@@ -1,6 +1,6 @@
 use Rattle.std.proofs.Common.{◌≡◌, ◌<◌, ◌≤◌, ◌∷◌, List, length, Bool, true, false, sym, ap, ◌∙◌}
 use Rattle.std.specs.Bool.{MatchBool}
-use Rattle.document_tokens.specs.Inner.OpenBrackets.{IsRefused, Passes, beginning, most_open}
+use Rattle.document_tokens.specs.Inner.OpenBrackets.{IsRefusedToken, PassesToken, beginning, most_open}
 use Rattle.document_tokens.proofs.PlaceLemmas.{begins, no_beginning, one_more, too_deep}
 use Rattle.document_tokens.proofs.token_place.TokenPlace.begin.Goals as goal
 
@@ -10,8 +10,8 @@ returns c = by c.open.result c.open.new.self c.open.ensures
     by : (opens : Bool) (new : List Bool)
         → MatchBool opens ((length c.args.self.now.«open» < most_open) × (new ≡ c.args.is_object ∷ c.args.self.now.«open»))
         (most_open ≤ length c.args.self.now.«open»)
-        → MatchBool opens (Passes c.args.self.now (beginning c.args.is_object) record { «open» = new; is_due = false })
-        (IsRefused c.args.self.now (beginning c.args.is_object))
+        → MatchBool opens (PassesToken c.args.self.now (beginning c.args.is_object) record { «open» = new; is_due = false })
+        (IsRefusedToken c.args.self.now (beginning c.args.is_object))
     by true new is = (
       λ tokens.
           rw (is.1)

@@ -1,7 +1,7 @@
 use Rattle.std.proofs.Common.{◌≡◌, ◌≤◌, arith, sym}
 use Rattle.format_arguments.specs.declared.format.Format.{Format}
 use Rattle.format_arguments.specs.declared.format.Format.TheVariants.{C, ObjectiveC, Python, JavaScript, Boost, Qt, QtPlural, Kde, PythonBrace, PerlBrace, Java}
-use Rattle.format_arguments.specs.FormatFlags.{flag_of}
+use Rattle.format_arguments.specs.DirectiveTables.{flag_of}
 use Rattle.format_arguments.proofs.format.Format.from_flag.Goals as goal
 
 pub returns-clause-unnamed : goal.returns-clause-unnamed

@@ -1,7 +1,7 @@
 use Rattle.std.proofs.Common.{◌≡◌, ◌<◌, ℕ, get_or}
 use Rattle.format_arguments.specs.declared.format.Format.TheVariants.{C}
 use Rattle.format_arguments.specs.declared.format.TheConstants.{FORMATS}
-use Rattle.format_arguments.specs.FormatFlags.{flag_of}
+use Rattle.format_arguments.specs.DirectiveTables.{flag_of}
 use Rattle.format_arguments.proofs.format.Format.from_flag.Given as goal
 
 -- the flag is that of none so far

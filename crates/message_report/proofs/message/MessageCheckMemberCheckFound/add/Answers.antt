@@ -1,5 +1,5 @@
 use Rattle.std.proofs.Common.{refl}
-use Rattle.message_report.specs.FoundInMessages.{one_message, together}
+use Rattle.message_report.specs.FoundInMessages.{one_message, messages_together}
 use Rattle.message_report.proofs.EachFound.{on_ok}
 use Rattle.message_report.proofs.MessagesFound.{two_added}
 use Rattle.message_report.proofs.message.MessageCheckMemberCheckFound.add.Goals as goal
@@ -8,7 +8,7 @@ pub returns : goal.returns
 returns c =
     on_ok c.add_forms.result
     (λ added. (
-      together one_message added.0,
+      messages_together one_message added.0,
       (c.needs_number.result, added.0, c.needs_number.ensures, added.1, refl),
       two_added c.args.found.now one_message added.0 c.count_message.new.self c.add_forms.new.found c.in_ok-count_message.ensures added.2,
     ))

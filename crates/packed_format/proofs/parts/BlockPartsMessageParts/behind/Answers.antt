@@ -1,7 +1,7 @@
 use Rattle.std.proofs.Common.{◌≤◌, ◌+◌, List, drop, length, subst, arith, length-drop}
 use Rattle.message_pattern.specs.PatternParts.{Part}
-use Rattle.message_format.specs.FormatParts.{IsBegun}
-use Rattle.packed_pattern.specs.Inner.PlaceViews.{placed_view}
+use Rattle.message_format.specs.FormatParts.{BeginWithChoice}
+use Rattle.packed_pattern.specs.Inner.PlacesAhead.{placed_view}
 use Rattle.packed_format.proofs.ArgumentEnds.{behind_argument}
 use Rattle.packed_format.proofs.BehindParts.{no_place}
 use Rattle.packed_format.proofs.PlacesRead.{within}
@@ -9,7 +9,7 @@ use Rattle.packed_format.proofs.parts.BlockPartsMessageParts.behind.Goals as goa
 
 pub returns-in_default : goal.returns-in_default
 returns-in_default c =
-    absurd (subst (λ (l : List Part). IsBegun l) (no_place c.args.self.pattern.now c.args.self.next c.in_default.ensures) c.requires.begun)
+    absurd (subst (λ (l : List Part). BeginWithChoice l) (no_place c.args.self.pattern.now c.args.self.next c.in_default.ensures) c.requires.begun)
 
 pub returns-clause-end : goal.returns-clause-end
 returns-clause-end c =

@@ -1,7 +1,7 @@
 use Rattle.std.proofs.Common.{◌∙◌, ap, drop}
 use Rattle.plural_base.specs.Categories.{name_of}
 use Rattle.message_format.specs.FormatBranches.{branch_or_other}
-use Rattle.packed_pattern.specs.Inner.PlaceViews.{placed_view}
+use Rattle.packed_pattern.specs.Inner.PlacesAhead.{placed_view}
 use Rattle.packed_format.proofs.BehindParts.{no_place}
 use Rattle.packed_format.proofs.Begun.{ended_word, ended_shorter, branches_begun, shorter_begun}
 use Rattle.packed_format.proofs.PlacesRead.{within}

@@ -1,6 +1,6 @@
 use Rattle.std.proofs.Common.{◌∙◌, ap, arith, drop}
 use Rattle.message_format.specs.FormatBranches.{branch_or_other}
-use Rattle.packed_pattern.specs.Inner.PlaceViews.{placed_view}
+use Rattle.packed_pattern.specs.Inner.PlacesAhead.{placed_view}
 use Rattle.packed_format.proofs.BehindParts.{no_place}
 use Rattle.packed_format.proofs.Begun.{ended_word, ended_shorter, ended_left, branches_begun, shorter_begun, left_begun}
 use Rattle.packed_format.proofs.PlacesRead.{within}

@@ -1,5 +1,5 @@
 use Rattle.std.proofs.Common.{arith}
-use Rattle.packed_pattern.specs.Inner.PlaceViews.{placed_view}
+use Rattle.packed_pattern.specs.Inner.PlacesAhead.{placed_view}
 use Rattle.packed_format.proofs.BehindParts.{from_place, no_place}
 use Rattle.packed_format.proofs.PlacesRead.{within}
 use Rattle.packed_format.proofs.parts.BlockPartsMessageParts.first.Goals as goal

@@ -1,7 +1,7 @@
 use Rattle.std.proofs.Common.{arith, drop, subst, List, Some, None}
 use Rattle.message_pattern.specs.PatternParts.{Branching}
-use Rattle.message_format.specs.FormatParts.{IsFirst}
-use Rattle.packed_pattern.specs.Inner.PlaceViews.{placed_view}
+use Rattle.message_format.specs.FormatParts.{IsFirstChosen}
+use Rattle.packed_pattern.specs.Inner.PlacesAhead.{placed_view}
 use Rattle.packed_format.proofs.BehindParts.{no_place}
 use Rattle.packed_format.proofs.Begun.{ended_first, ended_left, branches_begun, shorter_begun, left_begun}
 use Rattle.packed_format.proofs.PlacesRead.{within}
@@ -27,7 +27,7 @@ first_chosen-requires-clause-within g c = within (placed_view c.in-Some.begin) c
 pub returns-in-Ok-Some-clause-first : goal.returns-in-Ok-Some-clause-first
 returns-in-Ok-Some-clause-first g c =
     rw (c.at-branch.ensures.next, c.at-branch.ensures.pattern)
-    (subst (λ (bs : List Branching). IsFirst (g.C.Chooser.IsChosen c.args.chooser.now) bs
+    (subst (λ (bs : List Branching). IsFirstChosen (g.C.Chooser.IsChosen c.args.chooser.now) bs
     (Some (drop c.in-Ok-Some.at c.args.self.pattern.now)))
     (branches_begun (placed_view c.in-Some.begin) c.args.self.pattern.now c.args.self.next c.in-Some.ensures)
     (rw c.in-Ok-Some.field-0-is at c.in-Ok-Some.ensures.first))
@@ -45,7 +45,7 @@ returns-in-Ok-Some-clause-left g c =
 
 pub returns-in-Ok-None-clause-first : goal.returns-in-Ok-None-clause-first
 returns-in-Ok-None-clause-first g c =
-    subst (λ (bs : List Branching). IsFirst (g.C.Chooser.IsChosen c.args.chooser.now) bs None)
+    subst (λ (bs : List Branching). IsFirstChosen (g.C.Chooser.IsChosen c.args.chooser.now) bs None)
     (branches_begun (placed_view c.in-Some.begin) c.args.self.pattern.now c.args.self.next c.in-Some.ensures)
     (rw c.in-Ok-None.field-0-is at c.in-Ok-None.ensures.first)
 

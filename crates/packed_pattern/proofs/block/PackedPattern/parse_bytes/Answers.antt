@@ -1,6 +1,6 @@
 use Rattle.std.proofs.Common.{◌≡◌, ◌∙◌, sym, ap, map, None}
 use Rattle.std.specs.Prelude.{Ok, Err}
-use Rattle.packed_part.specs.PackedParts.{items_of}
+use Rattle.packed_part.specs.PackedParts.{part_items_of}
 use Rattle.packed_pattern.specs.PatternBlocks.{items_fault}
 use Rattle.packed_part.specs.Inner.PartReading.{part_in}
 use Rattle.packed_pattern.specs.declared.error.BlockError.TheVariants as errors
@@ -23,8 +23,8 @@ returns-in-Err-clause-refused c = λ fault.
 
 pub returns-in-Some-clause-accepted : goal.returns-in-Some-clause-accepted
 returns-in-Some-clause-accepted c = λ parts h.
-    let list = c.in-Ok.ensures.accepted (items_of parts) h.packed in
-    let same : c.in-Ok.list ≡ items_of parts = cc in
+    let list = c.in-Ok.ensures.accepted (part_items_of parts) h.packed in
+    let same : c.in-Ok.list ≡ part_items_of parts = cc in
     let none : items_fault c.in-Ok.list ≡ None = ap items_fault same ∙ no_items_fault parts h.packable h.nested in
     cc
 
@@ -45,8 +45,8 @@ returns-clause-ok c =
 
 pub returns-clause-accepted : goal.returns-clause-accepted
 returns-clause-accepted c = λ parts h.
-    let list = c.in-Ok.ensures.accepted (items_of parts) h.packed in
-    let same : c.in-Ok.list ≡ items_of parts = cc in
+    let list = c.in-Ok.ensures.accepted (part_items_of parts) h.packed in
+    let same : c.in-Ok.list ≡ part_items_of parts = cc in
     ap Ok (ap (map part_in) same ∙ parts_again parts h.packable)
 
 pub returns-clause-refused : goal.returns-clause-refused

@@ -1,5 +1,5 @@
 use Rattle.std.proofs.Common.{List, [], map, sym, ap, subst, ◌∙◌}
-use Rattle.plural_documents.specs.Inner.HeldTexts.{Holds}
+use Rattle.plural_documents.specs.Inner.OutlineSteps.{Holds}
 use Rattle.document_tokens.specs.HeldTokens.{Held, held_token, held_tokens}
 use Rattle.plural_documents.specs.Outlines.{HeldText}
 use Rattle.plural_documents.proofs.HeldLemmas.{no_value}

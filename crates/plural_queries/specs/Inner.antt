@@ -1,2 +1,0 @@
--- No definitions of the subject: views of private types.
-pub mod PrivateViews
