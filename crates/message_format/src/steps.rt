@@ -12,7 +12,7 @@ use crate::arguments::Value;
 use crate::branches::branch_of_number;
 use crate::error::{ArgumentFault, FormatError};
 use crate::offsets::counted_less;
-use crate::plain::plain_of;
+use crate::plain::Plain;
 use crate::shown::Shown;
 use crate::source::{Found, MessageParts};
 use crate::text_rules::TextRules;
@@ -31,9 +31,9 @@ pub struct Rules<'r, 'data> {
     pub ordinal: &'r PluralRules<'data>,
 }
 
-// The text that `{name}` prints.
+/// Returns the text that `{name}` prints. The error is that the argument is missing.
 #[inline(always)]
-pub(crate) fn shown_value<'s, 'p>(
+pub fn shown_value<'s, 'p>(
     name: &'p [u8],
     value: Option<Value<'s>>,
 ) -> Result<&'s [u8], FormatError<'p>>
@@ -127,7 +127,7 @@ fn counted<'s, 'p, R: TextRules, P: MessageParts<'p>>(
     // A text writes one number at most.
     texts_write_one_number();
     let written = text.as_bytes();
-    let Some(plain) = plain_of(written) else {
+    let Some(plain) = Plain::of(written) else {
         return counted_by_digits(alloc, rules, name, argument, text);
     };
     match argument.first_chosen(&plain) {

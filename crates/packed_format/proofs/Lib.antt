@@ -6,3 +6,4 @@ pub mod Walked
 pub mod Begun
 pub mod Names
 pub mod Said
+pub mod Sayings

@@ -15,6 +15,7 @@ use packed_pattern::{PackedPattern, PlacedPart};
 use plural_base::PluralCategory;
 
 // Where the first branch of a keyword is, of an argument at this depth that begins at a place.
+#[inline(always)]
 fn branch_of_keyword(
     pattern: &PackedPattern<'_>,
     word: &[u8],
@@ -46,6 +47,7 @@ fn branch_of_keyword(
 
 // Where the branch `other` is, of an argument that begins at a place. Behind all parts, if there is
 // none.
+#[inline(always)]
 fn branch_other(pattern: &PackedPattern<'_>, index: usize, begin: &PlacedPart<'_>) -> usize
     requires few { length pattern.now ≤ 65535 }
     requires placed { IsPlaced (placed_view begin.now) pattern.now index }
@@ -66,6 +68,7 @@ fn branch_other(pattern: &PackedPattern<'_>, index: usize, begin: &PlacedPart<'_
 
 // Where the branch of a keyword is, or that of `other` if there is none. Behind all parts, if there
 // is neither.
+#[inline(always)]
 pub(crate) fn branch_of_word(
     pattern: &PackedPattern<'_>,
     word: &[u8],

@@ -8,10 +8,10 @@ ghost use Rattle.message_format.specs.Inner.FormatViews.{GivesOutcome, outcome_o
 ghost use Rattle.packed_format.specs.Inner.FoundNames.{placed_arguments};
 
 use crate::by_place::PlacedValues;
-use crate::parts::BlockParts;
+use crate::saying::say_from;
 use arrayvec::ArrayVec;
 use message_format::laws::one_outcome;
-use message_format::{Argument, Arguments, FormatError, Rules, Sink, TextLength, TextRules, say};
+use message_format::{Argument, Arguments, FormatError, Rules, Sink, TextLength, TextRules};
 use packed_pattern::PackedPattern;
 use plural_base::PreparedRules;
 use std::alloc::Global;
@@ -130,15 +130,9 @@ fn say_by<'a, R: TextRules, A: Arguments, W: Sink>(
         → GivesOutcome (λ f. f) (A.arguments arguments.now) (both (R.rules cardinal.now) (R.rules ordinal.now)) [] pattern.now before
         (W.IsSaid said.new) result }
 {
-    say(
-        alloc,
-        arguments,
-        cardinal,
-        ordinal,
-        b"",
-        BlockParts::of(pattern),
-        said,
-    )
+    // A block has at most 65535 parts, in their order.
+    let _ = pattern.as_bytes();
+    say_from(alloc, arguments, cardinal, ordinal, b"", pattern, 0, said)
 }
 
 // What a packed pattern says under rules of either form.

@@ -5,6 +5,8 @@ mod branches;
 mod by_place;
 mod formatting;
 mod parts;
+mod saying;
+mod sight;
 mod steps;
 
 pub use by_place::{PlacedValues, argument_names};

@@ -40,7 +40,7 @@ impl<'l, 'a> BlockParts<'l, 'a> {
 
     // The parts from a place on.
     #[inline(always)]
-    fn at(pattern: &'l PackedPattern<'a>, next: usize) -> Self
+    pub(crate) fn at(pattern: &'l PackedPattern<'a>, next: usize) -> Self
         requires few { length pattern.now ≤ 65535 }
         requires ordered { first_misplaced 0 before_all pattern.now ≡ None }
         ensures pattern { result.pattern.now ≡ pattern.now }
