@@ -7,10 +7,12 @@ ghost use Rattle.plural_base.specs.DocumentJson.{found};
 ghost use Rattle.plural_base.specs.Inner.JsonSteps.{Ascend};
 
 use std::alloc::{AllocError, Global};
+use std::cmp::Ordering;
+use std::fmt::{self, Debug, Formatter, Write};
 use std::marker::Model;
 
 // What locales have, in the order of the locales' bytes. Contracts see the rows.
-#[derive(Debug, Drop)]
+#[derive(Drop)]
 pub(crate) struct SortedRows<T> {
     entries: Vec<(String, T)>,
 }
@@ -26,6 +28,17 @@ impl<T> Model for SortedRows<T> {
     ghost view = { λ rows. map row_of_entry rows.entries.items };
 
     ghost invariant = { λ rows. Ascend (keys_of (map row_of_entry rows.entries.items)) };
+}
+
+// Printed as a map is.
+impl<T: Debug> Debug for SortedRows<T> {
+    fn fmt<W: Write>(&self, f: &mut Formatter<W>) -> fmt::Result {
+        let mut rows = f.debug_map();
+        for (locale, row) in self.entries.as_slice() {
+            rows.entry(locale, row);
+        }
+        rows.finish()
+    }
 }
 
 impl<T: Drop> SortedRows<T> {
@@ -61,9 +74,16 @@ impl<T: Drop> SortedRows<T> {
         ensures { option_copied result ≡ found locale.now self.now }
     {
         let entries = self.entries.as_slice();
-        match entries.binary_search_by(|entry| entry.0.as_str().cmp(locale)) {
-            Ok(place) => Some(&entries[place].1),
-            Err(_) => None,
+        let (mut low, mut high) = (0, entries.len());
+        while low < high {
+            let middle = low + (high - low) / 2;
+            let entry = &entries[middle];
+            match locale.cmp(entry.0.as_str()) {
+                Ordering::Less => high = middle,
+                Ordering::Equal => return Some(&entry.1),
+                Ordering::Greater => low = middle + 1,
+            }
         }
+        None
     }
 }

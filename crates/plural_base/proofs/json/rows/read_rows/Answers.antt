@@ -1,6 +1,6 @@
 use Rattle.std.proofs.Common.{◌≡◌, ◌∷◌, [], ◌++◌, string_bytes, ap, subst, ◌∙◌}
 use Rattle.std.specs.Map.{keys_of}
-use Rattle.plural_base.specs.DocumentJson.{Rows, rows_meant}
+use Rattle.plural_base.specs.DocumentJson.{rows_meant}
 use Rattle.plural_base.specs.Inner.JsonSteps.{Ascend, rows_by}
 use Rattle.serde_json.specs.View.{view, members_view}
 use Rattle.plural_base.proofs.reading.Rows.{key_bytes, ascend_bytes, ascend_so_far}
@@ -15,8 +15,8 @@ all_left g c = c.into_iter-locale-iterator.ensures.into_iter_gives ∙ c.iter-lo
 pub loop-locale-init : goal.loop-locale-init
 loop-locale-init g c =
     let left = all_left g c in (
-      rw (c.in_ok-with_capacity-rows.ensures, left) (behind_none _),
-      rw (c.in_ok-with_capacity-rows.ensures, left) (ascend_bytes c.args.members.now.entries c.iter-locale-items.ensures.ordered),
+      rw (c.in_ok-rows.ensures, left) (behind_none _),
+      rw (c.in_ok-rows.ensures, left) (ascend_bytes c.args.members.now.entries c.iter-locale-items.ensures.ordered),
     )
 
 pub put_row-requires : goal.put_row-requires
