@@ -1,5 +1,4 @@
 use Rattle.std.proofs.lemmas.List.{map_push}
-use Rattle.plural_base.specs.Inner.JsonSteps.{rows_by}
 use Rattle.plural_base.proofs.reading.Rows.{keys_of-rows_by}
 use Rattle.plural_base.proofs.json.rows.put_row.Goals as goal
 
