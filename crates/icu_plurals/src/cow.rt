@@ -58,8 +58,10 @@ impl PluralElementsPackedCow<'static> {
         elements: &PluralElements<&str>,
     ) -> Result<PluralElementsPackedCow<'static>, ElementsPackError>
         ensures ok { IfOk result (λ packed. packed ≡ packed_of (each_by plain_value elements.now)) }
-        ensures default_limit { (result ≡ Err ElementsPackError.DefaultLimit) ↔ (pack_fault (packed_of (each_by plain_value elements.now)) ≡ Some ElementsPackError.DefaultLimit) }
-        ensures start_limit { (result ≡ Err ElementsPackError.StartLimit) ↔ (pack_fault (packed_of (each_by plain_value elements.now)) ≡ Some ElementsPackError.StartLimit) }
+        ensures default_limit { (result ≡ Err ElementsPackError.DefaultLimit)
+            ↔ (pack_fault (packed_of (each_by plain_value elements.now)) ≡ Some ElementsPackError.DefaultLimit) }
+        ensures start_limit { (result ≡ Err ElementsPackError.StartLimit)
+            ↔ (pack_fault (packed_of (each_by plain_value elements.now)) ≡ Some ElementsPackError.StartLimit) }
     {
         read_again();
         match PluralElementsPackedULE::encode(alloc, &plain(elements)) {

@@ -44,8 +44,10 @@ impl PluralElementsPackedULE<'_> {
         ensures ok { IfOk result (λ bytes. ElementsBytes (packed_of (each_by lent_value elements.now)) bytes.items) }
         // The bytes give every number the same value as the elements.
         ensures answers { IfOk result (λ bytes. AnswersAs (each_by lent_value elements.now) bytes.items) }
-        ensures default_limit { (result ≡ Err ElementsPackError.DefaultLimit) ↔ (pack_fault (packed_of (each_by lent_value elements.now)) ≡ Some ElementsPackError.DefaultLimit) }
-        ensures start_limit { (result ≡ Err ElementsPackError.StartLimit) ↔ (pack_fault (packed_of (each_by lent_value elements.now)) ≡ Some ElementsPackError.StartLimit) }
+        ensures default_limit { (result ≡ Err ElementsPackError.DefaultLimit)
+            ↔ (pack_fault (packed_of (each_by lent_value elements.now)) ≡ Some ElementsPackError.DefaultLimit) }
+        ensures start_limit { (result ≡ Err ElementsPackError.StartLimit)
+            ↔ (pack_fault (packed_of (each_by lent_value elements.now)) ≡ Some ElementsPackError.StartLimit) }
     {
         read_again();
         let default = elements.other();

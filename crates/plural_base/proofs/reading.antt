@@ -3,6 +3,7 @@ pub mod Answered
 pub mod Checked
 pub mod EveryReading
 pub mod Rows
+pub mod RowsFound
 pub mod RowsRead
 pub mod DocumentRefusals
 pub mod RulesRead

@@ -5,7 +5,7 @@
 --     category_or guess told number rules      the category that the rules choose for a number if
 --         each relation that isn't told is taken to be as guessed
 --     IsCategoryTold told number rules      they choose the same one by both guesses
---     ends_of rules      the ends of the ranges with which n or i is compared without a modulus
+--     ends_of_rules rules      the ends of the ranges with which n or i is compared without a modulus
 use Rattle.std.specs.Prelude.{◌≡◌, ◌≢◌, ◌↔◌, ℕ, ◌+◌, ◌%◌, ◌==◌, ◌&&◌, ◌||◌, ◌≤◌, Bool, true, false, not, nat_lt, max, if◌then◌else◌}
 use Rattle.std.specs.Prelude.{List, [], ◌∷◌, ◌++◌, map, flat_map, slice_index, Option, Some, None}
 use Rattle.std.specs.List.{list_all}
@@ -81,8 +81,8 @@ ends_of_rule None = []
 ends_of_rule (Some relations) = flat_map ends_of_relation relations
 
 -- those of all five rules
-abbrev pub ends_of : FiveRules → List ℕ
-ends_of rules =
+abbrev pub ends_of_rules : FiveRules → List ℕ
+ends_of_rules rules =
     ends_of_rule rules.zero ++ ends_of_rule rules.one ++ ends_of_rule rules.two ++ ends_of_rule rules.few ++ ends_of_rule rules.many
 
 -- one more than the greatest of some numbers, and 0 of none
@@ -95,6 +95,6 @@ first_above (n ∷ ns) = max (n + 1) (first_above ns)
 -- The table of rules begins with one more than the greatest of these ends. It has the category of a
 -- remainder, and not 6, if and only if that category is told.
 pub record TellsAll (rules : FiveRules) (bytes : List ℕ) : Type 0 where
-  pub bound : table_bound bytes ≡ first_above (ends_of rules)
+  pub bound : table_bound bytes ≡ first_above (ends_of_rules rules)
   pub told : (n : ℕ) → table_bound bytes ≤ n
       → (slice_index bytes (136 + n % 100) ≢ 6) ↔ IsCategoryTold (is_told (table_bound bytes) (n % 100)) (of_whole n) rules

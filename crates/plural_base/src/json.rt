@@ -10,3 +10,4 @@ mod ranges;
 mod rows;
 pub(crate) mod rule;
 mod rules;
+mod sorted_rows;

@@ -63,7 +63,8 @@ fn push_category<'a>(
 )
     requires room { array_vec_len items.old < 7 }
     requires key { key ≤ 6 }
-    ensures bytes { lent_bytes items.new.items ≡ lent_bytes items.old.items ++ map item_bytes (category_item key (lent_value other.now) (option_map lent_value value.now)) }
+    ensures bytes { lent_bytes items.new.items ≡ lent_bytes items.old.items
+        ++ map item_bytes (category_item key (lent_value other.now) (option_map lent_value value.now)) }
     ensures valid { AllByRecursion IsPackedItem (category_item key (lent_value other.now) (option_map lent_value value.now)) }
     ensures len { array_vec_len items.new ≤ array_vec_len items.old + 1 }
 {

@@ -3,11 +3,9 @@ use Rattle.std.proofs.Common.{◌≡◌, ℕ, List, [], ◌∷◌, ◌++◌, Ok,
 use Rattle.plural_base.specs.DocumentJson.{Rows, rows_meant}
 use Rattle.plural_base.specs.Json.{Stands, ◌>>=◌}
 use Rattle.std.proofs.lemmas.List.{append_assoc}
-use Rattle.std.specs.BTreeMap.{insert_entry}
-use Rattle.std.specs.Cmp.Lexicographic.{slice_cmp}
 use Rattle.std.specs.Map.{keys_of}
-use Rattle.std.specs.Ordering.{nat_cmp}
-use Rattle.plural_base.proofs.reading.Rows.{Ascend, put_last, ascend_push}
+use Rattle.plural_base.specs.Inner.JsonSteps.{Ascend}
+use Rattle.plural_base.proofs.reading.Rows.{ascend_push}
 use Rattle.serde_json.specs.Data.{Data, Members, member}
 
 -- rows that are read after others
@@ -34,18 +32,12 @@ module _ {A : Type 0} (meant : Data → Stands A) (rows : Rows A) (k : List ℕ)
 
 -- ---- A step
 
-module _ {A : Type 0} (rows new : Rows A) (k : List ℕ) (first : A) (keys : List (List ℕ)) where
-  -- a row whose key is above all keys is put last
-  put_behind : new ≡ insert_entry (slice_cmp nat_cmp) rows k first → Ascend (keys_of rows ++ k ∷ keys) → new ≡ rows ++ (k, first) ∷ []
-  put_behind put h = put ∙ put_last rows k first keys h
-
-  -- and the keys still ascend
-  pub order_kept : new ≡ insert_entry (slice_cmp nat_cmp) rows k first → Ascend (keys_of rows ++ k ∷ keys) → Ascend (keys_of new ++ keys)
-  order_kept put h = rw (put_behind put h) (ascend_push rows k first keys h)
+module _ {A : Type 0} (rows new : Rows A) (k : List ℕ) (first : A) (keys : List (List ℕ)) (put : new ≡ rows ++ (k, first) ∷ []) where
+  -- the keys still ascend
+  pub order_kept : Ascend (keys_of rows ++ k ∷ keys) → Ascend (keys_of new ++ keys)
+  order_kept h = rw put (ascend_push rows k first keys h)
 
   -- and the rows are the rows of the members so far
-  pub rows_kept : (meant : Data → Stands A) (d : Data) (ms : Members) → new ≡ insert_entry (slice_cmp nat_cmp) rows k first
-      → Ascend (keys_of rows ++ k ∷ keys)
-      → meant d ≡ Ok first → behind rows (rows_meant meant (member k d ms)) ≡ behind new (rows_meant meant ms)
-  rows_kept meant d ms put h read =
-      taken_row meant rows k d ms first read ∙ ap (λ r. behind r (rows_meant meant ms)) (sym (put_behind put h))
+  pub rows_kept : (meant : Data → Stands A) (d : Data) (ms : Members) → meant d ≡ Ok first
+      → behind rows (rows_meant meant (member k d ms)) ≡ behind new (rows_meant meant ms)
+  rows_kept meant d ms read = taken_row meant rows k d ms first read ∙ ap (λ r. behind r (rows_meant meant ms)) (sym put)

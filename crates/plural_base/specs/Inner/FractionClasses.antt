@@ -20,7 +20,7 @@ pub record IsOfFractions (fractions : Fractions) (o : Operands) : Type 0 where
   pub not_zero : fractions ≡ NotZero → 0 < o.w
 
 -- a fraction digit is shown, and in class 1 the fraction isn't 0
-pub record HasFraction (class : ℕ) (o : Operands) : Type 0 where
+pub record IsInFractionClass (class : ℕ) (o : Operands) : Type 0 where
   pub places : 0 < o.v
   pub above : class ≡ 1 → 0 < o.w
 

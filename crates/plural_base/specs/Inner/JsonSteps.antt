@@ -1,7 +1,7 @@
 -- Not a definition of the subject: the error that the code makes from a rule's.
-use Rattle.std.specs.Prelude.{◌≡◌, ⊤, ℕ, Option, fold, Some, None, Result, Ok, Err, List, [], ◌∷◌, map, String, string_bytes}
-use Rattle.std.specs.BTreeMap.{insert_entry}
+use Rattle.std.specs.Prelude.{◌≡◌, ⊤, ℕ, Option, fold, Some, None, Result, Ok, Err, List, [], ◌∷◌, ◌++◌, map, String, string_bytes}
 use Rattle.std.specs.Cmp.Lexicographic.{slice_cmp}
+use Rattle.std.specs.List.Sorted.{IsStrictlySortedBy}
 use Rattle.std.specs.Ordering.{nat_cmp}
 use Rattle.plural_runtime.specs.declared.error.RuleError.{RuleError}
 use Rattle.plural_runtime.specs.declared.error.RuleError.TheVariants as fault
@@ -51,8 +51,8 @@ range_members ranges = fold (put_row ranges) no_members all_raw_categories
 -- after the other.
 
 -- the rules under the five names
-abbrev pub members_meant : Data → Stands FiveRules
-members_meant value =
+abbrev pub rules_under_names : Data → Stands FiveRules
+rules_under_names value =
     all_five (member_meant Zero value) (member_meant One value) (member_meant Two value) (member_meant Few value)
     (member_meant Many value)
 
@@ -65,14 +65,22 @@ rule_members rules members =
 
 -- ---- Not a definition of the subject: the rows of a map of the provider from JSON.
 
--- each value as it is seen
-abbrev pub rows_by : {V A : Type 0} → (V → A) → List (String Global × V) → Rows A
-rows_by seen entries = map (λ entry. (string_bytes entry.0, seen entry.1)) entries
+-- a text and what it has, as a row
+abbrev pub row_of_entry : {V : Type 0} → String Global × V → List ℕ × V
+row_of_entry entry = (string_bytes entry.0, entry.1)
 
-abbrev pub rows_of : List (String Global × PluralRulesData) → Rows FiveRules
+-- keys of bytes in order
+abbrev pub Ascend : List (List ℕ) → Type 0
+Ascend keys = IsStrictlySortedBy (slice_cmp nat_cmp) keys
+
+-- each value as it is seen
+abbrev pub rows_by : {V A : Type 0} → (V → A) → Rows V → Rows A
+rows_by seen rows = map (λ row. (row.0, seen row.1)) rows
+
+abbrev pub rows_of : Rows PluralRulesData → Rows FiveRules
 rows_of = rows_by rules_of
 
-abbrev pub range_rows_of : List (String Global × PluralRanges) → Rows PluralRanges
+abbrev pub range_rows_of : Rows PluralRanges → Rows PluralRanges
 range_rows_of = rows_by (λ ranges. ranges)
 
 -- ---- Not a definition of the subject: what is read for its refusals alone.
@@ -82,11 +90,10 @@ abbrev pub Passes : {A : Type 0} → Result ⊤ JsonError → Stands A → Type 
 Passes {A} (Ok _) stands = (x : A) × (stands ≡ Ok x)
 Passes (Err error) stands = IsRefusal error stands
 
--- what the value means is put as the row of a locale; otherwise the call returns its refusal, or runs
--- out of memory
+-- what the value means is put as the row of a locale behind the others; otherwise the call returns
+-- its refusal, or runs out of memory
 abbrev pub PutsRow : {A : Type 0} → List ℕ → Stands A → Rows A → Rows A → Result ⊤ JsonError → Type 0
-PutsRow {A} locale stands before after (Ok _) =
-    (x : A) × (stands ≡ Ok x) × (after ≡ insert_entry (slice_cmp nat_cmp) before locale x)
+PutsRow {A} locale stands before after (Ok _) = (x : A) × (stands ≡ Ok x) × (after ≡ before ++ (locale, x) ∷ [])
 PutsRow locale stands before after (Err error) = IsRefusal error stands
 
 -- the text gives a rule

@@ -14,10 +14,10 @@ use crate::json::float::holds_float;
 use crate::json::known::KnownTexts;
 use crate::json::provider::JsonProvider;
 use crate::json::rows::{FromJson, put_row};
+use crate::json::sorted_rows::SortedRows;
 use plural_runtime::RuleError;
 use serde_json::{Map, Value};
 use std::alloc::Global;
-use std::collections::BTreeMap;
 
 impl JsonProvider {
     /// Returns the provider of one locale of a document: it has what [`JsonProvider::from_value`]
@@ -65,17 +65,17 @@ fn read_row<'v, T: FromJson>(
     value: Option<&'v Value>,
     locale: &str,
     known: &mut KnownTexts<'v>,
-) -> Result<BTreeMap<String, T>, JsonError>
-    ensures answers { GivesMeaning (λ rows. rows_by T.seen rows.entries) result
+) -> Result<SortedRows<T>, JsonError>
+    ensures answers { GivesMeaning (λ rows. rows_by T.seen rows) result
         (row_alone locale.now (map_meant T.meant (option_map (λ v. view v.now) value.entry))) }
     ensures float { result ≢ Err JsonError.Float }
     ensures memory { (category : Option PluralCategory) → result ≢ Err (JsonError.Rule category RuleError.Memory) }
 {
     let Some(value) = value else {
-        return Ok(BTreeMap::new(alloc));
+        return Ok(SortedRows::new(alloc));
     };
     if value.is_null() {
-        return Ok(BTreeMap::new(alloc));
+        return Ok(SortedRows::new(alloc));
     }
     match value.as_object() {
         Some(members) => read_alone(alloc, members, locale, known),
@@ -89,8 +89,8 @@ fn read_alone<'v, T: FromJson>(
     members: &'v Map<String, Value>,
     locale: &str,
     known: &mut KnownTexts<'v>,
-) -> Result<BTreeMap<String, T>, JsonError>
-    ensures answers { GivesMeaning (λ rows. rows_by T.seen rows.entries) result
+) -> Result<SortedRows<T>, JsonError>
+    ensures answers { GivesMeaning (λ rows. rows_by T.seen rows) result
         (row_alone locale.now (rows_meant T.meant (members_view members.now.entries))) }
     ensures float { result ≢ Err JsonError.Float }
     ensures memory { (category : Option PluralCategory) → result ≢ Err (JsonError.Rule category RuleError.Memory) }
@@ -120,15 +120,15 @@ fn keep_row<T: FromJson>(
     alloc: Global,
     members: &Map<String, Value>,
     locale: &str,
-) -> Result<BTreeMap<String, T>, JsonError>
-    ensures answers { GivesMeaning (λ rows. rows_by T.seen rows.entries) result
+) -> Result<SortedRows<T>, JsonError>
+    ensures answers { GivesMeaning (λ rows. rows_by T.seen rows) result
         (row_meant T.meant locale.now (get_member locale.now (members_view members.now.entries))) }
     ensures float { result ≢ Err JsonError.Float }
     ensures memory { (category : Option PluralCategory) → result ≢ Err (JsonError.Rule category RuleError.Memory) }
 {
     match members.get(locale) {
         Some(value) => row_with(alloc, locale, value),
-        None => Ok(BTreeMap::new(alloc)),
+        None => Ok(SortedRows::new(alloc)),
     }
 }
 
@@ -137,12 +137,12 @@ fn row_with<T: FromJson>(
     alloc: Global,
     locale: &str,
     value: &Value,
-) -> Result<BTreeMap<String, T>, JsonError>
-    ensures answers { GivesMeaning (λ rows. rows_by T.seen rows.entries) result (row_meant T.meant locale.now (Some (view value.now))) }
+) -> Result<SortedRows<T>, JsonError>
+    ensures answers { GivesMeaning (λ rows. rows_by T.seen rows) result (row_meant T.meant locale.now (Some (view value.now))) }
     ensures float { result ≢ Err JsonError.Float }
     ensures memory { (category : Option PluralCategory) → result ≢ Err (JsonError.Rule category RuleError.Memory) }
 {
-    let mut rows = BTreeMap::new(alloc);
+    let mut rows = SortedRows::with_capacity(alloc, 1)?;
     match put_row(alloc, locale, value, &mut rows) {
         Ok(()) => Ok(rows),
         Err(refusal) => {

@@ -13,6 +13,7 @@ ghost use Rattle.serde_json.specs.Written.{has_float};
 use crate::json::error::JsonError;
 use crate::json::float::holds_float;
 use crate::json::rows::read_map;
+use crate::json::sorted_rows::SortedRows;
 use crate::provider::{DataError, PluralsProvider};
 use crate::ranges::PluralRanges;
 use crate::rules::data::PluralRulesData;
@@ -20,15 +21,14 @@ use plural_runtime::RuleError;
 use plural_runtime::laws::texts_give_one_answer;
 use serde_json::Value;
 use std::alloc::Global;
-use std::collections::BTreeMap;
 use std::marker::Model;
 
 /// Rules and ranges by locale that were read from a JSON document. It owns them.
 #[derive(Debug)]
 pub struct JsonProvider {
-    pub(crate) cardinal: BTreeMap<String, PluralRulesData<'static>>,
-    pub(crate) ordinal: BTreeMap<String, PluralRulesData<'static>>,
-    pub(crate) ranges: BTreeMap<String, PluralRanges>,
+    pub(crate) cardinal: SortedRows<PluralRulesData<'static>>,
+    pub(crate) ordinal: SortedRows<PluralRulesData<'static>>,
+    pub(crate) ranges: SortedRows<PluralRanges>,
 }
 
 // Written out, so that each end of a value is one call.
@@ -49,9 +49,9 @@ impl Model for JsonProvider {
     ghost Value = { Document };
 
     ghost view = { λ p. record {
-      cardinal = rows_of p.cardinal.entries;
-      ordinal = rows_of p.ordinal.entries;
-      ranges = range_rows_of p.ranges.entries;
+      cardinal = rows_of p.cardinal;
+      ordinal = rows_of p.ordinal;
+      ranges = range_rows_of p.ranges;
     } };
 }
 
@@ -90,11 +90,14 @@ impl JsonProvider {
         ensures answers { GivesMeaning (λ provider. provider) result (document_of_json (view value.now)) }
         // A locale has rules if and only if its key is present, and they are those of the texts
         // under it.
-        ensures cardinal { IfOk result (λ provider. (locale : List ℕ) → AreRulesAt (value_of_locale (codes "cardinal") locale (view value.now)) (found locale provider.cardinal)) }
-        ensures ordinal { IfOk result (λ provider. (locale : List ℕ) → AreRulesAt (value_of_locale (codes "ordinal") locale (view value.now)) (found locale provider.ordinal)) }
+        ensures cardinal { IfOk result (λ provider. (locale : List ℕ)
+            → AreRulesAt (value_of_locale (codes "cardinal") locale (view value.now)) (found locale provider.cardinal)) }
+        ensures ordinal { IfOk result (λ provider. (locale : List ℕ)
+            → AreRulesAt (value_of_locale (codes "ordinal") locale (view value.now)) (found locale provider.ordinal)) }
         // A locale has ranges if and only if its key is present, and they are those that the value
         // under it means.
-        ensures ranges { IfOk result (λ provider. (locale : List ℕ) → AreRangesAt (value_of_locale (codes "ranges") locale (view value.now)) (found locale provider.ranges)) }
+        ensures ranges { IfOk result (λ provider. (locale : List ℕ)
+            → AreRangesAt (value_of_locale (codes "ranges") locale (view value.now)) (found locale provider.ranges)) }
         // Both are checked before anything is allocated.
         ensures float { (result ≡ Err JsonError.Float) ↔ IsTrue (has_float (view value.now)) }
         ensures shape { IsFalse (has_float (view value.now)) → as_object (view value.now) ≡ None → result ≡ Err JsonError.Shape }
@@ -132,10 +135,10 @@ impl PluralsProvider for JsonProvider {
 
 // The locale's rules of a map.
 fn load<'a>(
-    rows: &'a BTreeMap<String, PluralRulesData<'static>>,
+    rows: &'a SortedRows<PluralRulesData<'static>>,
     locale: &str,
 ) -> Result<PluralRulesData<'a>, DataError>
-    ensures { Loads (found locale.now (rows_of rows.now.entries)) result }
+    ensures { Loads (found locale.now (rows_of rows.now)) result }
 {
     match rows.get(locale) {
         Some(rules) => Ok(rules.as_borrowed()),
@@ -144,11 +147,8 @@ fn load<'a>(
 }
 
 // The locale's ranges of a map.
-fn load_copied(
-    tables: &BTreeMap<String, PluralRanges>,
-    locale: &str,
-) -> Result<PluralRanges, DataError>
-    ensures { LoadsRanges (found locale.now (range_rows_of tables.now.entries)) result }
+fn load_copied(tables: &SortedRows<PluralRanges>, locale: &str) -> Result<PluralRanges, DataError>
+    ensures { LoadsRanges (found locale.now (range_rows_of tables.now)) result }
 {
     match tables.get(locale) {
         Some(ranges) => Ok(*ranges),

@@ -6,7 +6,7 @@ ghost use Rattle.plural_base.specs.declared.category.PluralCategory.{PluralCateg
 ghost use Rattle.plural_base.specs.RuleTexts.{AreRulesOf, IsRuleOf};
 ghost use Rattle.plural_base.specs.Categories.{name_of};
 ghost use Rattle.plural_base.specs.FiveRules.{rules_of, five};
-ghost use Rattle.plural_base.specs.Inner.JsonSteps.{members_meant, rule_members};
+ghost use Rattle.plural_base.specs.Inner.JsonSteps.{rules_under_names, rule_members};
 ghost use Rattle.plural_base.specs.Json.{GivesMeaning};
 ghost use Rattle.plural_base.specs.RulesJson.{member_meant, optional_rule_json, optional_meant, rules_meant, text_under, texts_in};
 ghost use Rattle.serde_json.specs.Find.{as_str, as_object};
@@ -134,7 +134,7 @@ fn put_members(
     rules: &mut PluralRulesData<'static>,
 ) -> Result<(), JsonError>
     requires { rules_of rules.old ≡ five None None None None None }
-    ensures answers { GivesMeaning (λ _. rules_of rules.new) result (members_meant (view value.now)) }
+    ensures answers { GivesMeaning (λ _. rules_of rules.new) result (rules_under_names (view value.now)) }
     ensures read { OnOk result (AreRulesOf (texts_in (view value.now)) (rules_of rules.new)) }
     ensures float { result ≢ Err JsonError.Float }
     ensures memory { (category : Option Category) → result ≢ Err (JsonError.Rule category RuleError.Memory) }

@@ -7,7 +7,7 @@ ghost use Rattle.plural_reference.specs.Truth.{holds_value, is_in_ranges, remain
 ghost use Rattle.plural_operands.specs.Operands.{operand_value};
 ghost use Rattle.plural_operands.specs.declared.operand.Operand.TheVariants.{N};
 ghost use Rattle.plural_runtime.specs.Inner.RuleViews.{lent_relation};
-ghost use Rattle.plural_base.specs.Inner.FractionClasses.{FractionsAre, HasFraction, IsOfFractions, is_value_told};
+ghost use Rattle.plural_base.specs.Inner.FractionClasses.{FractionsAre, IsInFractionClass, IsOfFractions, is_value_told};
 ghost use Rattle.plural_base.specs.Inner.WholeNumbers.{IsToldIf};
 
 use crate::rules::known::{Known, told_list};
@@ -51,9 +51,9 @@ const NOT_ZERO: u128 = 1 << 1;
 pub(crate) const ALL_FRACTIONS: u128 = NOT_ZERO | 1;
 
 impl NumberClasses for FractionClasses {
-    ghost use Rattle.plural_base.specs.Inner.FractionClasses.{HasFraction, is_told_of_fraction};
+    ghost use Rattle.plural_base.specs.Inner.FractionClasses.{IsInFractionClass, is_told_of_fraction};
 
-    ghost has = { λ classes class o. HasFraction class o };
+    ghost has = { λ classes class o. IsInFractionClass class o };
 
     ghost is_told = { λ classes class relation. is_told_of_fraction class relation };
 
@@ -64,7 +64,7 @@ impl NumberClasses for FractionClasses {
 
 // Whether the list of a relation holds its operand's value, as far as it can be told.
 fn told_in(relation: &Relation<'_>) -> Told
-    ensures { (class : ℕ) (o : Operands) → class < 128 → HasFraction class o → let meaning = (lent_relation relation.now).meaning in
+    ensures { (class : ℕ) (o : Operands) → class < 128 → IsInFractionClass class o → let meaning = (lent_relation relation.now).meaning in
         IsToldIf class (is_value_told class meaning.operand meaning)
         (holds_value meaning.ranges (option_map (remainder meaning.modulus) (operand_value meaning.operand o))) result }
 {
@@ -90,7 +90,7 @@ fn told_places(relation: &Relation<'_>) -> Told
 
 // Whether a list holds n, if it can be told: a number whose fraction isn't 0 has no value there.
 fn told_whole() -> Told
-    ensures { (class : ℕ) (o : Operands) (ranges : List (ℕ × ℕ)) (modulus : ℕ) → HasFraction class o
+    ensures { (class : ℕ) (o : Operands) (ranges : List (ℕ × ℕ)) (modulus : ℕ) → IsInFractionClass class o
         → IsToldIf class (class == 1) (holds_value ranges (option_map (remainder modulus) (operand_value N o))) result }
 {
     told_false(NOT_ZERO)

@@ -58,14 +58,14 @@ impl<'data> Model for PreparedRules<'data> {
     ghost use Rattle.std.specs.Prelude.{◌≡◌};
     ghost use Rattle.plural_base.specs.Inner.FractionClasses.{AreAllFractionsTold, AreFractionCategories};
     ghost use Rattle.plural_base.specs.Inner.WholeNumbers.{AreAllTold, AreLowEntries, AreTold};
-    ghost use Rattle.plural_base.specs.ToldCategories.{ends_of, first_above};
+    ghost use Rattle.plural_base.specs.ToldCategories.{ends_of_rules, first_above};
 
     ghost view = { λ prepared. prepared.rules };
 
     ghost invariant = { λ prepared.
         AreLowEntries prepared.rules prepared.low × AreTold prepared.rules prepared.bound prepared.cycle
         × AreFractionCategories prepared.rules prepared.shown prepared.not_zero
-        × (prepared.bound ≡ first_above (ends_of prepared.rules)) × AreAllTold prepared.rules prepared.bound prepared.cycle
+        × (prepared.bound ≡ first_above (ends_of_rules prepared.rules)) × AreAllTold prepared.rules prepared.bound prepared.cycle
         × AreAllFractionsTold prepared.rules prepared.shown prepared.not_zero };
 }
 

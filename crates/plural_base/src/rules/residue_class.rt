@@ -8,7 +8,8 @@ ghost use Rattle.plural_runtime.specs.PackedRelations.{PackedRelation};
 ghost use Rattle.plural_runtime.specs.Inner.RuleViews.{lent_relation};
 ghost use Rattle.plural_base.specs.FiveRules.{rules_of};
 ghost use Rattle.plural_base.specs.Inner.WholeNumbers.{Fits, IsInClass, is_list_told, whole_value};
-ghost use Rattle.plural_base.specs.ToldCategories.{divides_100, ends_of, ends_of_relation, ends_of_rule, first_above, is_of_number as of_number, is_outside, is_told};
+ghost use Rattle.plural_base.specs.ToldCategories.{ends_of_relation, ends_of_rule, ends_of_rules, first_above};
+ghost use Rattle.plural_base.specs.ToldCategories.{divides_100, is_of_number as of_number, is_outside, is_told};
 
 use crate::for_five;
 use crate::rules::data::PluralRulesData;
@@ -89,7 +90,7 @@ fn known_remainder(modulus: u32, bound: u64) -> Known
 // One more than the greatest end of a range with which a relation compares `n` or `i` without a
 // modulus: from there on no such range holds a number.
 pub(crate) fn bound_of(rules: &PluralRulesData<'_>) -> u64
-    ensures { result ≡ first_above (ends_of (rules_of rules.now)) }
+    ensures { result ≡ first_above (ends_of_rules (rules_of rules.now)) }
 {
     let mut bound = 0;
     for_five!(rules, |rule| bound = bound.max(bound_of_rule(rule)));

@@ -10,5 +10,5 @@ returns-in-Some-clause-answers g c =
 
 pub returns-in-None-clause-answers : goal.returns-in-None-clause-answers
 returns-in-None-clause-answers g c =
-    rw (sym (view-lookup c.args.locale.now c.args.members.now.entries) ∙ ap (option_map view) (sym c.in-None.ensures.value), c.new.ensures.empty)
+    rw (sym (view-lookup c.args.locale.now c.args.members.now.entries) ∙ ap (option_map view) (sym c.in-None.ensures.value), c.new.ensures)
     refl

@@ -18,6 +18,6 @@ returns-in_err-check_rows-clause-answers g c =
 
 pub returns-clause-answers : goal.returns-clause-answers
 returns-clause-answers g c =
-    subst (λ (s : Stands (Rows g.T.FromJson.Seen)). GivesMeaning (λ rows. rows_by g.T.FromJson.seen rows.entries) c.keep_row.result s)
+    subst (λ (s : Stands (Rows g.T.FromJson.Seen)). GivesMeaning (λ rows. rows_by g.T.FromJson.seen rows) c.keep_row.result s)
     (row_found g.T.FromJson.meant c.args.locale.now (members_view c.args.members.now.entries) c.in_ok-check_rows.ensures.answers)
     c.keep_row.ensures.answers

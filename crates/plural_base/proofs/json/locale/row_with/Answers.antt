@@ -1,12 +1,16 @@
 use Rattle.std.proofs.Common.{Some, refl}
 use Rattle.serde_json.specs.View.{view}
 use Rattle.plural_base.specs.Inner.JsonSteps.{row_meant}
+use Rattle.plural_base.proofs.reading.Rows.{ascend_alone}
 use Rattle.plural_base.proofs.reading.DocumentRefusals.{refused_with}
 use Rattle.plural_base.proofs.json.locale.row_with.Goals as goal
 
+pub put_row-requires : goal.put_row-requires
+put_row-requires g c = rw c.in_ok-rows.ensures (ascend_alone c.args.locale.now)
+
 pub returns-in-Ok-clause-answers : goal.returns-in-Ok-clause-answers
 returns-in-Ok-clause-answers g c =
-    rw (c.in-Ok.ensures.answers.1, c.in-Ok.ensures.answers.2, c.new-rows.ensures.empty) refl
+    rw (c.in-Ok.ensures.answers.1, c.in-Ok.ensures.answers.2, c.in_ok-rows.ensures) refl
 
 pub returns-in-Err-clause-answers : goal.returns-in-Err-clause-answers
 returns-in-Err-clause-answers g c =

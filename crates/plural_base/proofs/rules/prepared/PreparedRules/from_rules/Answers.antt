@@ -3,7 +3,7 @@ use Rattle.std.specs.Prelude.{None, slice_index_or}
 use Rattle.plural_base.specs.FiveRules.{FiveRules}
 use Rattle.plural_base.specs.Inner.FractionClasses.{AreAllFractionsTold}
 use Rattle.plural_base.specs.Inner.WholeNumbers.{AreAllTold}
-use Rattle.plural_base.specs.ToldCategories.{ends_of, first_above}
+use Rattle.plural_base.specs.ToldCategories.{ends_of_rules, first_above}
 use Rattle.plural_base.proofs.integers.Guesses.{all_are_told, fractions_are_told}
 use Rattle.plural_base.proofs.rules.prepared.PreparedRules.from_rules.Goals as goal
 
@@ -20,7 +20,7 @@ invariant_of-result c =
       c.low_categories-low.ensures,
       all_are_told _ bound cycle told,
       fractions_are_told _ _ _ of_fractions,
-      c.bound_of-bound.ensures ∙ ap (λ rules. first_above (ends_of rules)) c.rules.view_is,
+      c.bound_of-bound.ensures ∙ ap (λ rules. first_above (ends_of_rules rules)) c.rules.view_is,
       told,
       of_fractions,
     )
