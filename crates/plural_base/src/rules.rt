@@ -74,7 +74,6 @@ pub struct PluralRules<'data> {
 
 // Written out, so that each end of a value is one call.
 impl Drop for PluralRules<'_> {
-    #[inline(always)]
     fn drop(self) {
         let PluralRules { data: _ } = self;
     }
