@@ -72,8 +72,9 @@ pub struct PluralRules<'data> {
     pub(crate) data: PluralRulesData<'data>,
 }
 
-// Written out, so that each end of a value is one call.
+// Written out, so that each end of a value is one call, and of borrowed rules none.
 impl Drop for PluralRules<'_> {
+    #[inline(always)]
     fn drop(self) {
         let PluralRules { data: _ } = self;
     }
