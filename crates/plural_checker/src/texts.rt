@@ -11,7 +11,7 @@ pub const MOST_TEXT_BYTES: usize = 1024;
 
 /// The texts of a language's rules of one type, as in CLDR (UTS 35 Part 3, Plural Rules Syntax and
 /// Samples): at most one for each category. The text of other has only samples.
-#[derive(Clone, Copy, Debug, Default)]
+#[derive(Clone, Copy, Debug, Default, PartialEq, Eq)]
 pub struct LanguageTexts<'a> {
     /// The text of `zero`.
     pub zero: Option<&'a str>,
