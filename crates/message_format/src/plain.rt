@@ -1,8 +1,9 @@
 //! Numbers that are written plainly, which choose the branch of their value at sight.
 
-ghost use Rattle.std.specs.Prelude.{◌≤◌, IfSome};
+ghost use Rattle.std.specs.Prelude.{◌≤◌, ◌<◌, length, IfSome, IfNone};
 ghost use Rattle.fixed_decimal.specs.Places.{IsWithinLimit};
-ghost use Rattle.fixed_decimal.specs.Written.{WritesCompact};
+ghost use Rattle.fixed_decimal.specs.PlainNumbers.{IsPlain};
+ghost use Rattle.fixed_decimal.specs.Written.{CompactNumber, WritesCompact};
 
 use crate::source::Chooser;
 use fixed_decimal::PlainNumber;
@@ -25,10 +26,11 @@ impl<'s> Model for Plain<'s> {
 
 impl<'s> Plain<'s> {
     /// Returns the plain number of a text that is so short that its operands are read in one walk,
-    /// without memory.
+    /// without memory: of at most 18 bytes.
     #[inline(always)]
     pub fn of(text: &'s [u8]) -> Option<Plain<'s>>
-        ensures { IfSome result (λ plain. WritesCompact text.now plain × IsWithinLimit plain.significand.absolute × (plain.exponent ≤ 255)) }
+        ensures number { IfSome result (λ plain. WritesCompact text.now plain × IsWithinLimit plain.significand.absolute × (plain.exponent ≤ 255)) }
+        ensures none { IfNone result ((x : CompactNumber) → IsPlain text.now x → 18 < length text.now) }
     {
         if text.len() > KEPT_PLACES {
             return None;

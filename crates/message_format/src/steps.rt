@@ -1,6 +1,6 @@
 //! What an argument chooses.
 
-ghost use Rattle.std.specs.Prelude.{◌≡◌, None};
+ghost use Rattle.std.specs.Prelude.{◌≡◌, ◌≢◌, Err, None};
 ghost use Rattle.fixed_decimal.specs.Written.{CompactNumber, WritesCompact};
 ghost use Rattle.message_pattern.specs.PatternParts.{offset_view};
 ghost use Rattle.message_format.specs.FormatBranches.{Equals};
@@ -37,7 +37,8 @@ pub fn shown_value<'s, 'p>(
     name: &'p [u8],
     value: Option<Value<'s>>,
 ) -> Result<&'s [u8], FormatError<'p>>
-    ensures { GivesText (λ step. step ≡ shown_value name.now (any_value value.entry)) result }
+    ensures text { GivesText (λ step. step ≡ shown_value name.now (any_value value.entry)) result }
+    ensures memory { result ≢ Err FormatError.Memory }
 {
     match value {
         Some(Value::Number(number)) => Ok(number.as_bytes()),

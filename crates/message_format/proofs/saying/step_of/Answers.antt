@@ -30,7 +30,7 @@ returns-in_err-text-in-Argument-clause-said g c before h =
     (at_fault A R c.args.hash.now before (g.P.MessageParts.parts c.args.parts) part rest f c.in-Some.ensures
     (fault_gives f (λ (s : Step). s ≡ shown_value name (any_value c.value.result)) (PartIs A R c.args.hash.now part rest)
     (λ s k. does A R c.args.hash.now part rest _ s c.in-Argument.is (k ∙ ap (λ (v : Option Value). shown_value name v) c.value.ensures))
-    c.in_err-text-in-Argument.ensures))
+    c.in_err-text-in-Argument.ensures.text))
 
 pub returns-in_err-shown-in-Begin-clause-said : goal.returns-in_err-shown-in-Begin-clause-said
 returns-in_err-shown-in-Begin-clause-said g c before h =
@@ -81,7 +81,7 @@ returns-in_ok-add-in-Argument-clause-said g c before h =
       c.in_ok-add-in-Argument.ensures before h,
       at_text A R c.args.hash.now before text (before ++ text) (g.P.MessageParts.parts c.args.parts) c.in-Some.found.0 _ c.in-Some.ensures
           (does A R c.args.hash.now c.in-Some.found.0 _ _ _ c.in-Argument.is
-          (c.in_ok-text-in-Argument.ensures ∙ ap (λ (v : Option Value). shown_value c.in-Argument.name.now v) c.value.ensures)) refl,
+          (c.in_ok-text-in-Argument.ensures.text ∙ ap (λ (v : Option Value). shown_value c.in-Argument.name.now v) c.value.ensures)) refl,
     )
 
 pub returns-in_ok-shown-in-Begin-clause-said : goal.returns-in_ok-shown-in-Begin-clause-said

@@ -27,7 +27,7 @@ counted_by_category-requires g c = λ k. (
         let none = rw c.in-None.is at c.in-Ok.ensures.first in
         let written =
         rewritten c.as_bytes-written.result.now c.args.text.now c.in-Some.plain c.as_bytes-written.ensures.value
-        c.in-Some.ensures.0 in
+        c.in-Some.ensures.number.0 in
         of_each c.texts_write_one_number.ensures.compact (λ (y : CompactNumber). IsFirstChosen (λ s. Equals y s) bs None) c.args.text.now
         c.in-Some.plain x written none w),
     c.in-Ok.ensures.left,
@@ -40,8 +40,8 @@ returns-in-Some-branch-clause-step g c =
     let parts = g.P.MessageParts.parts c.in-Some-branch.branch in
     let first = rw c.in-Some-branch.is at c.in-Ok.ensures.first in
     let written =
-    rewritten c.as_bytes-written.result.now c.args.text.now c.in-Some.plain c.as_bytes-written.ensures.value c.in-Some.ensures.0 in
+    rewritten c.as_bytes-written.result.now c.args.text.now c.in-Some.plain c.as_bytes-written.ensures.value c.in-Some.ensures.number.0 in
     counted_by (g.R.TextRules.rules c.args.rules.now) c.args.name.now bs c.args.text.now c.as_bytes-written.result.now c.in-Some.plain
     parts
-    written c.in-Some.ensures.1 c.in-Some.ensures.2 (inl (of_value c.in-Some.plain bs (Some parts) first))
+    written c.in-Some.ensures.number.1 c.in-Some.ensures.number.2 (inl (of_value c.in-Some.plain bs (Some parts) first))
     c.as_bytes-written.ensures.value

@@ -68,7 +68,7 @@ parts-preserved-in-Argument g t c =
           let step =
           at_text A R c.parts.hash.now i.0 text (i.0 ++ text) (drop at ps) c.part.result (drop (at + 1) ps) first
           (does A R c.parts.hash.now c.part.result _ _ _ c.in-Argument.is
-          (c.in_ok-text-in-Argument.ensures ∙ ap (λ (v : Option Value). shown_value c.in-Argument.name.now v) c.value.ensures)) refl in
+          (c.in_ok-text-in-Argument.ensures.text ∙ ap (λ (v : Option Value). shown_value c.in-Argument.name.now v) c.value.ensures)) refl in
           (i.0 ++ text, c.in_ok-add-in-Argument.ensures i.0 i.1, λ o k. i.2 o (step.comes o k));
       shorter = no_more_behind ps at there (at + 1) c.args.at (omega arith) c.parts.invariant.shorter;
     }
@@ -106,7 +106,7 @@ returns-in_err-text-in-Argument g t c before h =
     at_fault A R c.parts.hash.now i.0 (drop at ps) c.part.result (drop (at + 1) ps) f first
     (fault_gives f (λ (s : Step). s ≡ shown_value name (any_value c.value.result)) (PartIs A R c.parts.hash.now c.part.result (drop (at + 1) ps))
     (λ s k. does A R c.parts.hash.now c.part.result (drop (at + 1) ps) _ s c.in-Argument.is (k ∙ ap (λ (v : Option Value). shown_value name v) c.value.ensures))
-    c.in_err-text-in-Argument.ensures) in
+    c.in_err-text-in-Argument.ensures.text) in
     rw (p.1, p.2)
     (fault_of_all A R c.args.hash.now c.parts.hash.now i.0 before (drop c.args.at ps) (drop at ps) f here
     (λ fault n k. i.2 (Faulty fault n) k))

@@ -24,8 +24,8 @@ returns-in-Ok-Some-clause-branch g c name =
     let text = c.args.text.now in
     let bs = branches_of (placed_view c.args.begin.now).part.depth (drop (c.args.index + 1) c.args.pattern.now) in
     let parts = drop c.in-Ok-Some.at c.args.pattern.now in
-    let written = rewritten c.as_bytes.result.now text x c.as_bytes.ensures.value c.in_ok-plain.ensures.0 in
-    counted_by (g.R.TextRules.rules c.args.rules.now) name bs text text x parts written c.in_ok-plain.ensures.1 c.in_ok-plain.ensures.2
+    let written = rewritten c.as_bytes.result.now text x c.as_bytes.ensures.value c.in_ok-plain.ensures.number.0 in
+    counted_by (g.R.TextRules.rules c.args.rules.now) name bs text text x parts written c.in_ok-plain.ensures.number.1 c.in_ok-plain.ensures.number.2
     (inl (of_value x bs (Some parts) (rw c.in-Ok-Some.field-0-is at c.in-Ok-Some.ensures.first))) refl
 
 pub returns-in-Ok-clause-branch : goal.returns-in-Ok-clause-branch
@@ -34,7 +34,7 @@ returns-in-Ok-clause-branch g c name =
     let text = c.args.text.now in
     let bs = branches_of (placed_view c.args.begin.now).part.depth (drop (c.args.index + 1) c.args.pattern.now) in
     let parts = drop c.branch_of_category.result c.args.pattern.now in
-    let written = rewritten c.as_bytes.result.now text x c.as_bytes.ensures.value c.in_ok-plain.ensures.0 in
+    let written = rewritten c.as_bytes.result.now text x c.as_bytes.ensures.value c.in_ok-plain.ensures.number.0 in
     counted_by_text (g.R.TextRules.rules c.args.rules.now) name bs text text (name_of c.in-Ok.category) c.in-Ok.category parts
     c.in-Ok.ensures.chosen refl
     (λ y w. of_each c.texts_write_one_number.ensures.compact (λ (z : CompactNumber). IsFirstChosen (λ s. Equals z s) bs None) text x y written
