@@ -1,13 +1,15 @@
 //! What is wrong with a form of a message.
 
-ghost use Rattle.std.specs.Prelude.{◌≡◌, Some, None, option_map};
+ghost use Rattle.std.specs.Prelude.{◌≡◌, ◌↔◌, IsTrue, Some, None, option_map};
 ghost use Rattle.std.specs.Fmt.{DisplaysOnOk};
 ghost use Rattle.std.specs.Option.{option_and_then};
+ghost use Rattle.std.specs.Str.Iter.{HasSubslice};
 ghost use Rattle.message_report.specs.FormFaults.{form_fault_text, form_value_fault, missing_form, missing_numbers_text, missing_samples_text, no_number, told_of};
 ghost use Rattle.message_report.specs.FormFaults.{HasFaultUnder, HasPresentFault, HasFormTextFault};
 ghost use Rattle.message_report.specs.Inner.FormSteps.{HasFaultOf, language_lent, value_lent};
 ghost use Rattle.message_report.specs.Inner.LanguageViews.{language_view};
 ghost use Rattle.message_report.specs.declared.form.Form.TheVariants.{Category};
+ghost use Rattle.plural_message.specs.Messages.{placeholder};
 ghost use Rattle.serde_json.specs.View.{view};
 
 use crate::form::{Form, OwnForms};
@@ -232,11 +234,21 @@ fn text_fault(
 ) -> Option<FormFault>
     ensures { HasFormTextFault category ((language_view language.now).numbers category own.zero own.one) text.now result }
 {
-    if text.contains("{}") {
+    if has_placeholder(text) {
         None
     } else {
         no_number(category, language.numbers(category, own.zero, own.one))
     }
+}
+
+// Whether a text has the placeholder of its number. Where it stands first, it is seen at once.
+fn has_placeholder(text: &str) -> bool
+    ensures { IsTrue result ↔ HasSubslice text.now placeholder }
+{
+    if text.starts_with("{}") {
+        return true;
+    }
+    text.contains("{}")
 }
 
 // The fault of a text without the number, if two numbers choose it.
