@@ -8,21 +8,22 @@ ghost use Rattle.plural_checker.specs.TextChecks.{AreFindingsOf};
 ghost use Rattle.document_report.specs.DocumentPlaces.{locale_place_view};
 ghost use Rattle.document_report.specs.DocumentReport.{all_texts_in, faults_of, found_of_other, found_told};
 ghost use Rattle.document_report.specs.DocumentReport.{found_under, found_under_all, lacks_other, text_order, IsFoundInLanguage, IsFoundInRules};
-ghost use Rattle.document_report.specs.FoundInDocuments.{findings_alone, together, HasGrownInDocument};
+ghost use Rattle.document_report.specs.FoundInDocuments.{findings_alone, together, HasGrownInDocument, IsFoundInDocumentMembers};
 ghost use Rattle.document_report.specs.Inner.CheckCalls.{told_after};
-ghost use Rattle.serde_json.specs.View.{view};
+ghost use Rattle.serde_json.specs.View.{members_view, view};
 
 use crate::cause::Cause;
 use crate::fault_copy::fault_copy;
 use crate::finding_place::{FindingPlace, LocalePlace};
 use crate::found::Found;
 use crate::keys::{add_categories, add_key};
+use crate::known_texts::{FoundInTexts, KnownTexts};
 use document_members::{TextMember, text_member};
 use icu_plurals::PluralCategory;
 use plural_checker::{Fault, LanguageTexts, Report, check_texts};
-use plural_documents::{MOST_TOLD, MemberCheck, sum};
+use plural_documents::{MOST_TOLD, sum};
 use plural_fallback::Part;
-use serde_json::Value;
+use serde_json::{Map, Value};
 use std::alloc::{AllocError, Global};
 
 // The categories in the order of the rules.
@@ -35,28 +36,38 @@ const TEXT_ORDER: [PluralCategory; 6] = [
     PluralCategory::Other,
 ];
 
-// Checks the value of a locale in a part: the rules of a language.
+// That no fault is found in texts, and how many numbers their samples have.
 #[derive(Clone, Copy)]
-pub(crate) struct LanguageCheck {
-    pub(crate) part: Part,
+struct NoFault {
+    numbers: u64,
 }
 
-impl<'a> MemberCheck<'a, Found<'a>> for LanguageCheck {
-    ghost finds = { λ check. IsFoundInRules check.part };
+impl FoundInTexts for NoFault {
+    ghost use Rattle.std.specs.Prelude.{[]};
+    ghost use Rattle.plural_checker.specs.TextChecks.{AreFindingsOf};
 
-    fn add(
-        &self,
-        alloc: Global,
-        locale: &'a str,
-        value: &'a Value,
-        found: &mut Found<'a>,
-    ) -> Result<(), AllocError> {
+    ghost IsFoundIn = { λ it texts. AreFindingsOf texts (record { faults = []; numbers = it.numbers }) };
+}
+
+// Adds what is found in the rules of each locale of a part. Texts that are the same as others before
+// them, in which no fault was found, aren't checked again.
+pub(crate) fn add_languages<'a>(
+    alloc: Global,
+    part: Part,
+    members: &'a Map<String, Value>,
+    found: &mut Found<'a>,
+) -> Result<(), AllocError>
+    ensures { OnOk result (HasGrownInDocument (IsFoundInDocumentMembers (IsFoundInRules part) (members_view members.now.entries)) found.old found.new) }
+{
+    let mut known = KnownTexts::new(alloc);
+    for (key, value) in members.iter() {
         let place = LocalePlace {
-            part: self.part,
-            locale,
+            part,
+            locale: key.as_str(),
         };
-        add_language(alloc, place, value, found)
+        add_language(alloc, place, value, &mut known, found)?;
     }
+    Ok(())
 }
 
 // Adds what is found in the rules of a locale.
@@ -64,13 +75,33 @@ fn add_language<'a>(
     alloc: Global,
     place: LocalePlace<'a>,
     value: &'a Value,
+    known: &mut KnownTexts<'a, NoFault>,
     found: &mut Found<'a>,
 ) -> Result<(), AllocError>
     ensures { OnOk result (HasGrownInDocument (IsFoundInLanguage (locale_place_view place.entry) (view value.now)) found.old found.new) }
 {
-    match check_texts(alloc, &texts_of(value)) {
+    let texts = texts_of(value);
+    match known.found_in(&texts) {
+        Some(checked) => add_checked(alloc, place, value, &[], checked.numbers, found),
+        None => add_unknown(alloc, place, value, texts, known, found),
+    }
+}
+
+// Adds what is found in the rules of a locale whose texts aren't known.
+fn add_unknown<'a>(
+    alloc: Global,
+    place: LocalePlace<'a>,
+    value: &'a Value,
+    texts: LanguageTexts<'a>,
+    known: &mut KnownTexts<'a, NoFault>,
+    found: &mut Found<'a>,
+) -> Result<(), AllocError>
+    requires { six_texts texts ≡ all_texts_in (view value.now) }
+    ensures { OnOk result (HasGrownInDocument (IsFoundInLanguage (locale_place_view place.entry) (view value.now)) found.old found.new) }
+{
+    match check_texts(alloc, &texts) {
         Ok(checked) => {
-            let added = add_checked(alloc, place, value, &checked, found);
+            let added = add_report(alloc, place, value, texts, &checked, known, found);
             drop(checked);
             added
         }
@@ -78,21 +109,46 @@ fn add_language<'a>(
     }
 }
 
-// Adds what is found in the rules of a locale, given what a check of their texts found.
+// Adds what is found in the rules of a locale, given what a check of their texts found, and keeps
+// texts in which no fault was found.
+fn add_report<'a>(
+    alloc: Global,
+    place: LocalePlace<'a>,
+    value: &'a Value,
+    texts: LanguageTexts<'a>,
+    checked: &Report,
+    known: &mut KnownTexts<'a, NoFault>,
+    found: &mut Found<'a>,
+) -> Result<(), AllocError>
+    requires texts { six_texts texts ≡ all_texts_in (view value.now) }
+    requires checked { AreFindingsOf (all_texts_in (view value.now)) checked.now }
+    ensures { OnOk result (HasGrownInDocument (IsFoundInLanguage (locale_place_view place.entry) (view value.now)) found.old found.new) }
+{
+    let faults = checked.faults.as_slice();
+    if faults.is_empty() {
+        let numbers = checked.numbers;
+        known.keep(texts, NoFault { numbers })?;
+    }
+    add_checked(alloc, place, value, faults, checked.numbers, found)
+}
+
+// Adds what is found in the rules of a locale, given the faults of their texts and how many numbers
+// the samples have.
 fn add_checked<'a>(
     alloc: Global,
     place: LocalePlace<'a>,
     value: &'a Value,
-    checked: &Report,
+    faults: &[Fault],
+    numbers: u64,
     found: &mut Found<'a>,
 ) -> Result<(), AllocError>
-    requires { AreFindingsOf (all_texts_in (view value.now)) checked.now }
+    requires { AreFindingsOf (all_texts_in (view value.now)) (record { faults = faults.now; numbers = numbers }) }
     ensures { OnOk result (HasGrownInDocument (IsFoundInLanguage (locale_place_view place.entry) (view value.now)) found.old found.new) }
 {
     add_key(place, found)?;
     add_other(place, value, found)?;
-    add_texts(alloc, place, value, checked.faults.as_slice(), found)?;
-    found.add_cases(checked.numbers)?;
+    add_texts(alloc, place, value, faults, found)?;
+    found.add_cases(numbers)?;
     add_categories(alloc, place, value.as_object(), found)
 }
 

@@ -19,7 +19,7 @@ use crate::finding_lines::FindingLines;
 use crate::finding_place::FindingPlace;
 use crate::found::Found;
 use crate::keys::PartCheck;
-use crate::languages::LanguageCheck;
+use crate::languages::add_languages;
 use crate::locales::locale_count;
 use crate::parents::add_parents;
 use crate::tables::TableCheck;
@@ -118,8 +118,10 @@ fn add_rules<'a>(
 ) -> Result<(), AllocError>
     ensures { OnOk result (HasGrownInDocument (IsFoundInDocumentMembers (IsFoundInRules part) (members_at part (view document.now))) found.old found.new) }
 {
-    let members = members_of(document, part);
-    add_members_of(alloc, &LanguageCheck { part }, members, found)
+    match members_of(document, part) {
+        Some(members) => add_languages(alloc, part, members, found),
+        None => Ok(()),
+    }
 }
 
 // Adds what is found in the ranges.

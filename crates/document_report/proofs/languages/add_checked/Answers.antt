@@ -1,7 +1,7 @@
-use Rattle.std.proofs.Common.{◌≡◌, List, ap, refl, subst, ◌∙◌}
+use Rattle.std.proofs.Common.{ap, refl, subst}
 use Rattle.serde_json.specs.Data.{Members}
 use Rattle.serde_json.specs.View.{view}
-use Rattle.plural_checker.specs.declared.Fault.{Fault}
+use Rattle.plural_checker.specs.declared.Report.{Report as Checked}
 use Rattle.document_report.specs.CheckedDocument.{members_or_none}
 use Rattle.document_report.specs.DocumentPlaces.{locale_place_view}
 use Rattle.document_report.specs.DocumentReport.{found_by_check, found_of_key, found_of_other, found_under_all, text_order, IsFoundInKey}
@@ -13,10 +13,7 @@ pub returns : goal.returns
 returns c =
     let place = locale_place_view c.args.place in
     let value = view c.args.value.now in
-    let checked = c.args.checked.now in
-    let under : c.add_texts.new.found ≡ together c.add_other.new.found (found_under_all place value checked.faults text_order) =
-    c.in_ok-add_texts.ensures
-    ∙ ap (λ (faults : List Fault). together c.add_other.new.found (found_under_all place value faults text_order)) c.as_slice.ensures in
+    let checked : Checked = record { faults = c.args.faults.now; numbers = c.args.numbers } in
     on_ok c.add_categories.result
     (λ added. (
       together (found_of_key place) (together (found_of_other place value) (together (found_by_check place value checked) added.0)),
@@ -30,6 +27,6 @@ returns c =
       five_more c.args.found.now (found_of_key place) (found_of_other place value)
           (found_under_all place value checked.faults text_order) (cases_alone checked.numbers) added.0
           c.add_key.new.found c.add_other.new.found c.add_texts.new.found c.add_cases.new.self c.add_categories.new.found
-          c.in_ok-add_key.ensures c.in_ok-add_other.ensures under c.in_ok-add_cases.ensures added.2,
+          c.in_ok-add_key.ensures c.in_ok-add_other.ensures c.in_ok-add_texts.ensures c.in_ok-add_cases.ensures added.2,
     ))
     c.add_categories.ensures
