@@ -7,9 +7,9 @@ ghost use Rattle.rule_notes.specs.RuleNotes.{note_cause_text};
 ghost use Rattle.serde_json.specs.View.{view};
 
 use crate::key_notes::key_place_text;
-use crate::language_notes::LanguageNotes;
+use crate::language_notes::add_languages;
 use document_report::{FindingPlace, LocalePlace, members_of};
-use plural_documents::{Findings, RepeatedKey, add_members};
+use plural_documents::{Findings, RepeatedKey};
 use plural_fallback::Part;
 use rule_notes::{Cause, Note};
 use serde_json::Value;
@@ -158,7 +158,7 @@ fn add_part<'a>(
     ensures { OnOk result (Gathers (IsNotedInPart (view document.now) part) notes.old notes.new) }
 {
     match members_of(document, part) {
-        Some(members) => add_members(alloc, &LanguageNotes { part }, members, notes),
+        Some(members) => add_languages(alloc, part, members, notes),
         None => Ok(()),
     }
 }

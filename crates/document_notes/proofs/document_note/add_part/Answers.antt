@@ -10,8 +10,8 @@ use Rattle.document_notes.proofs.document_note.add_part.Goals as goal
 pub returns-in-Some : goal.returns-in-Some
 returns-in-Some c =
     let Noted = λ (m : Option Members). IsFoundInMembers [] notes_together (IsNotedInRules c.args.part) (members_or_none m) in
-    subst (λ (m : Option Members). OnOk c.add_members.result (Gathers (Noted m) c.args.notes.now c.add_members.new.found))
-    c.in-Some.ensures c.add_members.ensures
+    subst (λ (m : Option Members). OnOk c.add_languages.result (Gathers (Noted m) c.args.notes.now c.add_languages.new.found))
+    c.in-Some.ensures c.add_languages.ensures
 
 pub returns-in-None : goal.returns-in-None
 returns-in-None c =
