@@ -3,7 +3,7 @@
 mod checks;
 pub(crate) mod error;
 pub(crate) mod float;
-mod known;
+mod known_rules;
 mod locale;
 pub(crate) mod provider;
 mod ranges;

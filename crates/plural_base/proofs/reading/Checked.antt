@@ -15,7 +15,7 @@ use Rattle.plural_base.specs.declared.json.error.JsonError.TheVariants.{Shape}
 use Rattle.plural_base.specs.declared.ranges.PluralRanges.{PluralRanges}
 use Rattle.plural_base.specs.DocumentJson.{Rows, all_maps, document_meant, found, map_meant, row_of, rows_meant, with_locale}
 use Rattle.plural_base.specs.FiveRules.{FiveRules, Paired, five}
-use Rattle.plural_base.specs.Inner.JsonSteps.{GivesRule, Passes, row_alone, row_meant}
+use Rattle.plural_base.specs.Inner.JsonSteps.{Passes, row_alone, row_meant}
 use Rattle.plural_base.specs.Json.{IsRefusal, Stands, ◌>>=◌, all_five}
 use Rattle.plural_base.specs.RangesJson.{ranges_meant}
 use Rattle.plural_base.specs.RulesJson.{naming_category, rule_meant, rules_meant}
@@ -23,33 +23,6 @@ use Rattle.plural_base.proofs.reading.DocumentRefusals.{refused_with, first_of_t
 use Rattle.plural_base.proofs.reading.RulesRead.{rows_read}
 use Rattle.serde_json.specs.Data.{Data, Members, member}
 use Rattle.serde_json.specs.Find.{as_object, as_str, get, get_member}
-
--- ---- One rule
-
--- a text that is named as a rule gives one
-of_answer : (category : Option PluralCategory) (answer : RuleAnswer) (rule : List PackedRelation)
-    → naming_category category answer ≡ Ok rule → (r : List PackedRelation) × (answer ≡ Ok r)
-of_answer category (Ok r) rule h = (r, refl)
-of_answer category (Err e) rule h = absurd cc
-
--- the text of a value that means a rule gives one
-pub text_given : (category : Option PluralCategory) (value : Data) (text : List ℕ) (rule : List PackedRelation) → as_str value ≡ Some text
-    → rule_meant category value ≡ Ok rule → GivesRule text
-text_given category value text rule is h = of_answer category (rule_of_text text) rule (rw is at h)
-
--- and a value with such a text means one
-pub text_passes : (category : Option PluralCategory) (value : Data) (text : List ℕ) → as_str value ≡ Some text → GivesRule text
-    → (rule : List PackedRelation) × (rule_meant category value ≡ Ok rule)
-text_passes category value text is given = (given.0, rw (is, given.1) refl)
-
--- a text that is among texts that give rules gives one
-pub among_known : (texts : List (Bor (List ℕ))) (text : List ℕ) → All (λ t. GivesRule t.now) texts
-    → list_any (λ t. bytes_eq t.now text) texts ≡ true
-    → GivesRule text
-among_known texts text all there =
-    let any = Any-from_list_any (λ (t : Bor (List ℕ)). bytes_eq t.now text) texts there in
-    subst GivesRule ((bytes_eq-Decides any.1.now text).0 any.4)
-    (subst (λ (t : Bor (List ℕ)). GivesRule t.now) any.3 (all any.0 any.1 any.2))
 
 -- ---- One after the other
 

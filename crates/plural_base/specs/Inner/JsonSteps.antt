@@ -22,7 +22,7 @@ use Rattle.plural_base.specs.DocumentJson.{Rows, found, row_of}
 use Rattle.plural_base.specs.FiveRules.{FiveRules, rules_of}
 use Rattle.plural_base.specs.Json.{Stands, ◌>>=◌, IsRefusal, all_five}
 use Rattle.plural_runtime.specs.PackedRelations.{PackedRelation}
-use Rattle.plural_runtime.specs.RuleOfText.{rule_of_text}
+use Rattle.plural_runtime.specs.RuleOfText.{IsPackedFrom, rule_of_text}
 use Rattle.serde_json.specs.Data.{Data}
 
 -- out of memory names no category
@@ -96,9 +96,9 @@ abbrev pub PutsRow : {A : Type 0} → List ℕ → Stands A → Rows A → Rows 
 PutsRow {A} locale stands before after (Ok _) = (x : A) × (stands ≡ Ok x) × (after ≡ before ++ (locale, x) ∷ [])
 PutsRow locale stands before after (Err error) = IsRefusal error stands
 
--- the text gives a rule
-abbrev pub GivesRule : List ℕ → Type 0
-GivesRule text = (rule : List PackedRelation) × (rule_of_text text ≡ Ok rule)
+-- the text gives this rule, by both definitions
+abbrev pub GivesThis : List ℕ → List PackedRelation → Type 0
+GivesThis text rule = (rule_of_text text ≡ Ok rule) × IsPackedFrom text (Ok rule)
 
 -- the row of a locale that has this value, if any
 abbrev pub row_meant : {A : Type 0} → (Data → Stands A) → List ℕ → Option Data → Stands (Rows A)

@@ -1,4 +1,4 @@
-//! Rules that are read for their refusals alone: nothing of them is kept.
+//! Rules that are read for their refusals alone.
 
 ghost use Rattle.std.specs.Prelude.{◌≢◌, Option, Err, Some, option_map};
 ghost use Rattle.plural_base.specs.declared.category.PluralCategory.{PluralCategory as Category};
@@ -10,7 +10,7 @@ use crate::category::PluralCategory;
 use crate::category::raw::RawPluralCategory;
 use crate::for_five;
 use crate::json::error::JsonError;
-use crate::json::known::KnownTexts;
+use crate::json::known_rules::KnownRules;
 use crate::json::rule::read_rule;
 use plural_runtime::RuleError;
 use serde_json::Value;
@@ -20,7 +20,7 @@ use std::alloc::Global;
 pub(crate) fn check_rules<'v>(
     alloc: Global,
     value: &'v Value,
-    known: &mut KnownTexts<'v>,
+    known: &mut KnownRules<'v>,
 ) -> Result<(), JsonError>
     ensures answers { Passes result (rules_meant (view value.now)) }
     ensures float { result ≢ Err JsonError.Float }
@@ -38,7 +38,7 @@ fn check_member<'v>(
     alloc: Global,
     value: &'v Value,
     category: PluralCategory,
-    known: &mut KnownTexts<'v>,
+    known: &mut KnownRules<'v>,
 ) -> Result<(), JsonError>
     ensures answers { Passes result (member_meant category (view value.now)) }
     ensures float { result ≢ Err JsonError.Float }
@@ -53,7 +53,7 @@ fn check_optional<'v>(
     alloc: Global,
     value: Option<&'v Value>,
     category: PluralCategory,
-    known: &mut KnownTexts<'v>,
+    known: &mut KnownRules<'v>,
 ) -> Result<(), JsonError>
     ensures answers { Passes result (optional_meant category (option_map (λ v. view v.now) value.entry)) }
     ensures float { result ≢ Err JsonError.Float }
@@ -73,7 +73,7 @@ fn check_rule<'v>(
     alloc: Global,
     value: &'v Value,
     category: PluralCategory,
-    known: &mut KnownTexts<'v>,
+    known: &mut KnownRules<'v>,
 ) -> Result<(), JsonError>
     ensures answers { Passes result (rule_meant (Some category) (view value.now)) }
     ensures float { result ≢ Err JsonError.Float }
@@ -82,14 +82,11 @@ fn check_rule<'v>(
     let Some(text) = value.as_str() else {
         return Err(JsonError::Shape);
     };
-    if known.has(text) {
+    if let Some(_) = known.get(text) {
         return Ok(());
     }
     match read_rule(alloc, value, Some(category)) {
-        Ok(rule) => {
-            drop(rule);
-            Ok(known.keep(text)?)
-        }
+        Ok(rule) => Ok(known.keep(text, rule)?),
         Err(refusal) => Err(refusal),
     }
 }

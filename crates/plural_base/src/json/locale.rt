@@ -11,7 +11,7 @@ ghost use Rattle.serde_json.specs.Written.{has_float};
 
 use crate::json::error::JsonError;
 use crate::json::float::holds_float;
-use crate::json::known::KnownTexts;
+use crate::json::known_rules::KnownRules;
 use crate::json::provider::JsonProvider;
 use crate::json::rows::{FromJson, put_row};
 use crate::json::sorted_rows::SortedRows;
@@ -51,7 +51,7 @@ fn read_locale(alloc: Global, value: &Value, locale: &str) -> Result<JsonProvide
     if !value.is_object() {
         return Err(JsonError::Shape);
     }
-    let mut known = KnownTexts::new(alloc);
+    let mut known = KnownRules::new(alloc);
     Ok(JsonProvider {
         cardinal: read_row(alloc, value.get("cardinal"), locale, &mut known)?,
         ordinal: read_row(alloc, value.get("ordinal"), locale, &mut known)?,
@@ -64,7 +64,7 @@ fn read_row<'v, T: FromJson>(
     alloc: Global,
     value: Option<&'v Value>,
     locale: &str,
-    known: &mut KnownTexts<'v>,
+    known: &mut KnownRules<'v>,
 ) -> Result<SortedRows<T>, JsonError>
     ensures answers { GivesMeaning (λ rows. rows_by T.seen rows) result
         (row_alone locale.now (map_meant T.meant (option_map (λ v. view v.now) value.entry))) }
@@ -88,7 +88,7 @@ fn read_alone<'v, T: FromJson>(
     alloc: Global,
     members: &'v Map<String, Value>,
     locale: &str,
-    known: &mut KnownTexts<'v>,
+    known: &mut KnownRules<'v>,
 ) -> Result<SortedRows<T>, JsonError>
     ensures answers { GivesMeaning (λ rows. rows_by T.seen rows) result
         (row_alone locale.now (rows_meant T.meant (members_view members.now.entries))) }
@@ -96,14 +96,14 @@ fn read_alone<'v, T: FromJson>(
     ensures memory { (category : Option PluralCategory) → result ≢ Err (JsonError.Rule category RuleError.Memory) }
 {
     check_rows::<T>(alloc, members, known)?;
-    keep_row(alloc, members, locale)
+    keep_row(alloc, members, locale, known)
 }
 
 // Returns the first refusal of a member.
 fn check_rows<'v, T: FromJson>(
     alloc: Global,
     members: &'v Map<String, Value>,
-    known: &mut KnownTexts<'v>,
+    known: &mut KnownRules<'v>,
 ) -> Result<(), JsonError>
     ensures answers { Passes result (rows_meant T.meant (members_view members.now.entries)) }
     ensures float { result ≢ Err JsonError.Float }
@@ -116,10 +116,11 @@ fn check_rows<'v, T: FromJson>(
 }
 
 // The row of a locale, if it has a member.
-fn keep_row<T: FromJson>(
+fn keep_row<'v, T: FromJson>(
     alloc: Global,
-    members: &Map<String, Value>,
+    members: &'v Map<String, Value>,
     locale: &str,
+    known: &mut KnownRules<'v>,
 ) -> Result<SortedRows<T>, JsonError>
     ensures answers { GivesMeaning (λ rows. rows_by T.seen rows) result
         (row_meant T.meant locale.now (get_member locale.now (members_view members.now.entries))) }
@@ -127,23 +128,24 @@ fn keep_row<T: FromJson>(
     ensures memory { (category : Option PluralCategory) → result ≢ Err (JsonError.Rule category RuleError.Memory) }
 {
     match members.get(locale) {
-        Some(value) => row_with(alloc, locale, value),
+        Some(value) => row_with(alloc, locale, value, known),
         None => Ok(SortedRows::new(alloc)),
     }
 }
 
 // The row of a locale with this value.
-fn row_with<T: FromJson>(
+fn row_with<'v, T: FromJson>(
     alloc: Global,
     locale: &str,
-    value: &Value,
+    value: &'v Value,
+    known: &mut KnownRules<'v>,
 ) -> Result<SortedRows<T>, JsonError>
     ensures answers { GivesMeaning (λ rows. rows_by T.seen rows) result (row_meant T.meant locale.now (Some (view value.now))) }
     ensures float { result ≢ Err JsonError.Float }
     ensures memory { (category : Option PluralCategory) → result ≢ Err (JsonError.Rule category RuleError.Memory) }
 {
     let mut rows = SortedRows::with_capacity(alloc, 1)?;
-    match put_row(alloc, locale, value, &mut rows) {
+    match put_row(alloc, locale, value, known, &mut rows) {
         Ok(()) => Ok(rows),
         Err(refusal) => {
             drop(rows);

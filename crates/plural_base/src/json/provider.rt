@@ -12,6 +12,7 @@ ghost use Rattle.serde_json.specs.Written.{has_float};
 
 use crate::json::error::JsonError;
 use crate::json::float::holds_float;
+use crate::json::known_rules::KnownRules;
 use crate::json::rows::read_map;
 use crate::json::sorted_rows::SortedRows;
 use crate::provider::{DataError, PluralsProvider};
@@ -166,9 +167,10 @@ fn read_document(alloc: Global, value: &Value) -> Result<JsonProvider, JsonError
     if !value.is_object() {
         return Err(JsonError::Shape);
     }
+    let mut known = KnownRules::new(alloc);
     Ok(JsonProvider {
-        cardinal: read_map(alloc, value.get("cardinal"))?,
-        ordinal: read_map(alloc, value.get("ordinal"))?,
-        ranges: read_map(alloc, value.get("ranges"))?,
+        cardinal: read_map(alloc, value.get("cardinal"), &mut known)?,
+        ordinal: read_map(alloc, value.get("ordinal"), &mut known)?,
+        ranges: read_map(alloc, value.get("ranges"), &mut known)?,
     })
 }

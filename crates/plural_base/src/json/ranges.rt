@@ -10,7 +10,7 @@ ghost use Rattle.serde_json.specs.View.{view, members_view};
 use crate::category::raw::{ALL, RawPluralCategory};
 use crate::json::error::JsonError;
 use crate::json::float::holds_float;
-use crate::json::known::KnownTexts;
+use crate::json::known_rules::KnownRules;
 use crate::json::rows::FromJson;
 use crate::json::rules::put_value;
 use crate::ranges::PluralRanges;
@@ -131,14 +131,18 @@ impl FromJson for PluralRanges {
 
     ghost meant = { ranges_meant };
 
-    fn read(_alloc: Global, value: &Value) -> Result<PluralRanges, JsonError> {
+    fn read<'v>(
+        _alloc: Global,
+        value: &'v Value,
+        _known: &mut KnownRules<'v>,
+    ) -> Result<PluralRanges, JsonError> {
         read_ranges(value)
     }
 
     fn check<'v>(
         _alloc: Global,
         value: &'v Value,
-        _known: &mut KnownTexts<'v>,
+        _known: &mut KnownRules<'v>,
     ) -> Result<(), JsonError> {
         let _ = read_ranges(value)?;
         Ok(())

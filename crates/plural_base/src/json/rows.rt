@@ -10,7 +10,7 @@ ghost use Rattle.serde_json.specs.Data.{Data};
 ghost use Rattle.serde_json.specs.View.{view, members_view};
 
 use crate::json::error::JsonError;
-use crate::json::known::KnownTexts;
+use crate::json::known_rules::KnownRules;
 use crate::json::sorted_rows::SortedRows;
 use plural_runtime::RuleError;
 use serde_json::{Map, Value};
@@ -26,7 +26,11 @@ pub(crate) trait FromJson: Drop {
     // What a value means as one, or its refusal.
     ghost meant: { Data → Stands Seen };
 
-    fn read(alloc: Global, value: &Value) -> Result<Self, JsonError>
+    fn read<'v>(
+        alloc: Global,
+        value: &'v Value,
+        known: &mut KnownRules<'v>,
+    ) -> Result<Self, JsonError>
         ensures answers { GivesMeaning seen result (meant (view value.now)) }
         ensures float { result ≢ Err JsonError.Float }
         ensures memory { (category : Option PluralCategory) → result ≢ Err (JsonError.Rule category RuleError.Memory) };
@@ -35,7 +39,7 @@ pub(crate) trait FromJson: Drop {
     fn check<'v>(
         alloc: Global,
         value: &'v Value,
-        known: &mut KnownTexts<'v>,
+        known: &mut KnownRules<'v>,
     ) -> Result<(), JsonError>
         ensures answers { Passes result (meant (view value.now)) }
         ensures float { result ≢ Err JsonError.Float }
@@ -43,9 +47,10 @@ pub(crate) trait FromJson: Drop {
 }
 
 // The map of a value that may be absent or null.
-pub(crate) fn read_map<T: FromJson>(
+pub(crate) fn read_map<'v, T: FromJson>(
     alloc: Global,
-    value: Option<&Value>,
+    value: Option<&'v Value>,
+    known: &mut KnownRules<'v>,
 ) -> Result<SortedRows<T>, JsonError>
     ensures answers { GivesMeaning (λ rows. rows_by T.seen rows) result
         (map_meant T.meant (option_map (λ v. view v.now) value.entry)) }
@@ -59,15 +64,16 @@ pub(crate) fn read_map<T: FromJson>(
         return Ok(SortedRows::new(alloc));
     }
     match value.as_object() {
-        Some(members) => read_rows(alloc, members),
+        Some(members) => read_rows(alloc, members, known),
         None => Err(JsonError::Shape),
     }
 }
 
 // What is read from each member, under its key.
-fn read_rows<T: FromJson>(
+fn read_rows<'v, T: FromJson>(
     alloc: Global,
-    members: &Map<String, Value>,
+    members: &'v Map<String, Value>,
+    known: &mut KnownRules<'v>,
 ) -> Result<SortedRows<T>, JsonError>
     ensures answers { GivesMeaning (λ rows. rows_by T.seen rows) result (rows_meant T.meant (members_view members.now.entries)) }
     ensures float { result ≢ Err JsonError.Float }
@@ -75,16 +81,17 @@ fn read_rows<T: FromJson>(
 {
     let mut rows = SortedRows::with_capacity(alloc, members.len())?;
     for (locale, value) in members.iter() {
-        put_row(alloc, locale.as_str(), value, &mut rows)?;
+        put_row(alloc, locale.as_str(), value, known, &mut rows)?;
     }
     Ok(rows)
 }
 
 // Puts what a value means as what a locale has, behind the other rows.
-pub(crate) fn put_row<T: FromJson>(
+pub(crate) fn put_row<'v, T: FromJson>(
     alloc: Global,
     locale: &str,
-    value: &Value,
+    value: &'v Value,
+    known: &mut KnownRules<'v>,
     rows: &mut SortedRows<T>,
 ) -> Result<(), JsonError>
     requires { Ascend (keys_of (rows_by T.seen rows.old) ++ locale.now ∷ []) }
@@ -92,7 +99,7 @@ pub(crate) fn put_row<T: FromJson>(
     ensures float { result ≢ Err JsonError.Float }
     ensures memory { (category : Option PluralCategory) → result ≢ Err (JsonError.Rule category RuleError.Memory) }
 {
-    match T::read(alloc, value) {
+    match T::read(alloc, value, known) {
         Ok(row) => Ok(rows.push(String::from_str(alloc, locale)?, row)?),
         Err(refusal) => Err(refusal),
     }

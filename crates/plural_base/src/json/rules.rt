@@ -8,7 +8,7 @@ ghost use Rattle.plural_base.specs.Categories.{name_of};
 ghost use Rattle.plural_base.specs.FiveRules.{rules_of, five};
 ghost use Rattle.plural_base.specs.Inner.JsonSteps.{rules_under_names, rule_members};
 ghost use Rattle.plural_base.specs.Json.{GivesMeaning};
-ghost use Rattle.plural_base.specs.RulesJson.{member_meant, optional_rule_json, optional_meant, rules_meant, text_under, texts_in};
+ghost use Rattle.plural_base.specs.RulesJson.{member_meant, optional_rule_json, optional_meant, rule_meant, rules_meant, text_under, texts_in};
 ghost use Rattle.serde_json.specs.Find.{as_str, as_object};
 ghost use Rattle.serde_json.specs.Data.{put};
 ghost use Rattle.serde_json.specs.View.{view, members_view};
@@ -21,7 +21,7 @@ use crate::for_five;
 use crate::json::checks::check_rules;
 use crate::json::error::JsonError;
 use crate::json::float::holds_float;
-use crate::json::known::KnownTexts;
+use crate::json::known_rules::KnownRules;
 use crate::json::rows::FromJson;
 use crate::json::rule::{read_rule, rule_to_json};
 use crate::rules::data::PluralRulesData;
@@ -67,7 +67,7 @@ impl PluralRulesData<'static> {
         if holds_float(value) {
             return Err(JsonError::Float);
         }
-        read_rules(alloc, value)
+        read_rules(alloc, value, &mut KnownRules::new(alloc))
     }
 }
 
@@ -98,21 +98,29 @@ impl FromJson for PluralRulesData<'static> {
 
     ghost meant = { rules_meant };
 
-    fn read(alloc: Global, value: &Value) -> Result<PluralRulesData<'static>, JsonError> {
-        read_rules(alloc, value)
+    fn read<'v>(
+        alloc: Global,
+        value: &'v Value,
+        known: &mut KnownRules<'v>,
+    ) -> Result<PluralRulesData<'static>, JsonError> {
+        read_rules(alloc, value, known)
     }
 
     fn check<'v>(
         alloc: Global,
         value: &'v Value,
-        known: &mut KnownTexts<'v>,
+        known: &mut KnownRules<'v>,
     ) -> Result<(), JsonError> {
         check_rules(alloc, value, known)
     }
 }
 
 // The five rules of a value without floats.
-fn read_rules(alloc: Global, value: &Value) -> Result<PluralRulesData<'static>, JsonError>
+fn read_rules<'v>(
+    alloc: Global,
+    value: &'v Value,
+    known: &mut KnownRules<'v>,
+) -> Result<PluralRulesData<'static>, JsonError>
     ensures answers { GivesMeaning rules_of result (rules_meant (view value.now)) }
     ensures read { IfOk result (λ rules. AreRulesOf (texts_in (view value.now)) (rules_of rules)) }
     ensures float { result ≢ Err JsonError.Float }
@@ -123,14 +131,15 @@ fn read_rules(alloc: Global, value: &Value) -> Result<PluralRulesData<'static>, 
     if !value.is_object() {
         return Err(JsonError::Shape);
     }
-    let mut rules = PluralRulesData::default();
-    put_members(alloc, value, &mut rules).and(Ok(rules))
+    let mut rules: PluralRulesData<'static> = PluralRulesData::default();
+    put_members(alloc, value, known, &mut rules).and(Ok(rules))
 }
 
 // Puts the rules under the names of their categories.
-fn put_members(
+fn put_members<'v>(
     alloc: Global,
-    value: &Value,
+    value: &'v Value,
+    known: &mut KnownRules<'v>,
     rules: &mut PluralRulesData<'static>,
 ) -> Result<(), JsonError>
     requires { rules_of rules.old ≡ five None None None None None }
@@ -142,16 +151,17 @@ fn put_members(
 {
     put_five!(
         rules,
-        |rule, category| put_member(alloc, value, category, rule)?
+        |rule, category| put_member(alloc, value, category, known, rule)?
     );
     Ok(())
 }
 
 // Puts the rule under the name of a category, if present.
-fn put_member(
+fn put_member<'v>(
     alloc: Global,
-    value: &Value,
+    value: &'v Value,
     category: PluralCategory,
+    known: &mut KnownRules<'v>,
     rule: &mut Option<Rule<'static>>,
 ) -> Result<(), JsonError>
     requires { rule.old ≡ None }
@@ -165,15 +175,17 @@ fn put_member(
         alloc,
         value.get(RawPluralCategory::from(category).as_str()),
         category,
+        known,
         rule,
     )
 }
 
 // Puts the rule of a value that may be absent or null.
-fn put_optional(
+fn put_optional<'v>(
     alloc: Global,
-    value: Option<&Value>,
+    value: Option<&'v Value>,
     category: PluralCategory,
+    known: &mut KnownRules<'v>,
     rule: &mut Option<Rule<'static>>,
 ) -> Result<(), JsonError>
     requires { rule.old ≡ None }
@@ -189,13 +201,37 @@ fn put_optional(
     if value.is_null() {
         return Ok(());
     }
-    match read_rule(alloc, value, Some(category)) {
+    match known_rule(alloc, value, category, known) {
         Ok(found) => {
             *rule = Some(found);
             Ok(())
         }
         Err(refusal) => Err(refusal),
     }
+}
+
+// The rule of a value, a copy if its text was read before.
+fn known_rule<'v>(
+    alloc: Global,
+    value: &'v Value,
+    category: PluralCategory,
+    known: &mut KnownRules<'v>,
+) -> Result<Rule<'static>, JsonError>
+    ensures answers { GivesMeaning (λ rule. rule) result (rule_meant (Some category) (view value.now)) }
+    ensures read { IfOk result (λ rule. IsRuleOf (as_str (view value.now)) (Some rule)) }
+    ensures float { result ≢ Err JsonError.Float }
+    ensures shape { (result ≡ Err JsonError.Shape) ↔ (as_str (view value.now) ≡ None) }
+    ensures memory { (c : Option Category) → result ≢ Err (JsonError.Rule c RuleError.Memory) }
+{
+    let Some(text) = value.as_str() else {
+        return Err(JsonError::Shape);
+    };
+    if let Some(rule) = known.get(text) {
+        return Ok(rule.try_clone()?);
+    }
+    let rule = read_rule(alloc, value, Some(category))?;
+    known.keep(text, rule.try_clone()?)?;
+    Ok(rule)
 }
 
 // The value of a rule, null if there is none.
