@@ -1,7 +1,10 @@
 -- The bytes of a part: what is packed is read again.
-use Rattle.std.proofs.Common.{◌≡◌, ◌∙◌, ℕ, List, [], ◌∷◌, ◌++◌, length, take, drop, refl, ap, sym, true, Some, None}
+use Rattle.std.proofs.Common.{◌≡◌, ◌∙◌, ℕ, List, [], ◌∷◌, ◌++◌, ◌-◌, ◌≤◌, length, get_or, take, drop, refl, ap, sym, arith, true, Some, None}
 use Rattle.std.specs.Prelude.{Option, bytes_eq, nat_le}
 use Rattle.std.specs.Cmp.{second_so}
+use Rattle.std.specs.Cmp.Derive.{both_true}
+use Rattle.std.proofs.lemmas.Bool.Decides.{nat_tests}
+use Rattle.std.proofs.lemmas.List.{length-take, length-take-le, take-append-drop}
 use Rattle.std.proofs.Math.Seq.{take-append_seam, drop-append_seam}
 use Rattle.std.proofs.lemmas.Slice.Eq.{bytes_eq-Decides}
 use Rattle.message_pattern.specs.declared.part.ArgumentKind.{ArgumentKind}
@@ -30,6 +33,27 @@ begin_again : (kind : ArgumentKind) (name : List ℕ) (offset : Option (List ℕ
     → begin_in kind (length name ∷ (name ++ offset_digits offset)) ≡ Begin kind name offset
 begin_again kind name offset h =
     rw (take-append_seam name (offset_digits offset), drop-append_seam name (offset_digits offset), offset_again offset h) refl
+
+-- what begins with the length of a name is one, if there are so many bytes
+digits_whole : (digits : List ℕ) → (offset_digits (offset_in digits) ≡ digits) × (has_digits (offset_in digits) ≡ true)
+digits_whole [] = (refl, refl)
+digits_whole (digit ∷ digits) = (refl, refl)
+
+pub begin_whole : (own : List ℕ) → 1 ≤ length own → get_or own 0 0 ≤ 255 → get_or own 0 0 ≤ length (take (length own - 1) (drop 1 own))
+    → (name : List ℕ) × (offset : Option (List ℕ)) × (own ≡ own_bytes (Begin Select name offset)) × (is_packable_piece (Begin Select name offset) ≡ true)
+begin_whole [] some byte long = absurd (omega (arith, some))
+begin_whole (count ∷ rest) some byte long =
+    let e : length (count ∷ rest) - 1 ≡ length rest = omega arith in
+    let there : count ≤ length rest = grind (arith, length-take, e) in
+    let name = take count rest in
+    let digits = drop count rest in
+    let counted : length name ≡ count = length-take-le count rest there in
+    let fits : nat_le (length name) 255 ≡ true = grind (arith, nat_tests) in (
+      name,
+      offset_in digits,
+      rw (counted, (digits_whole digits).0, take-append-drop count rest) refl,
+      both_true fits (digits_whole digits).1,
+    )
 
 -- and each piece
 pub piece_again : (piece : PatternPiece) → is_packable_piece piece ≡ true → piece_in_form (piece_tag piece) (own_bytes piece) ≡ piece

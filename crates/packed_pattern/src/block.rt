@@ -16,7 +16,7 @@ use message_pattern::{Part, Pattern};
 use packed_list::PackedList;
 use packed_list::laws::read_again;
 use packed_part::{
-    PartSource, first_misplaced, is_item_before, is_item_of, is_packable, part_in, places_in,
+    PartSource, first_misplaced, is_item_before, is_item_with, is_packable, part_in, places_in,
 };
 use std::alloc::{AllocError, Global};
 use std::marker::Model;
@@ -194,7 +194,7 @@ fn fault_of(place: usize, item: &[u8], rest: ItemParts<'_, '_>) -> Option<BlockE
     ensures { result ≡ item_fault place item.now (drop rest.entry.next rest.entry.list.now) }
 {
     let part = part_in(item);
-    if !is_packable(part) || !is_item_of(item, part, places_in(item)) {
+    if !is_packable(part) || !is_item_with(item, places_in(item)) {
         return Some(BlockError::Part(place));
     }
     if !is_item_before(item, part, rest) {

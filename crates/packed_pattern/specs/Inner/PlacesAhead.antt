@@ -1,13 +1,16 @@
 -- What stands ahead of a place in the parts of a block, for the check from the last part to the first.
 -- Not a definition of the subject.
-use Rattle.std.specs.Prelude.{◌≡◌, ◌+◌, ◌-◌, ◌≤◌, ℕ, List, [], ◌∷◌, map, bytes_eq, codes, Bool, true, false, if◌then◌else◌, slice_index_or, length, None}
+use Rattle.std.specs.Prelude.{◌≡◌, ◌+◌, ◌-◌, ◌<◌, ℕ, List, [], ◌∷◌, ◌++◌, map, flat_map, get_or, set, length, bytes_eq, codes}
+use Rattle.std.specs.Prelude.{Bool, true, false, if◌then◌else◌, None}
 use Rattle.std.specs.List.{list_all}
 use Rattle.message_pattern.specs.declared.part.ArgumentKind.TheVariants.{Select}
 use Rattle.message_pattern.specs.PatternParts.{Part, PatternPiece, Begin, Branch, Exactly, Keyword}
+use Rattle.packed_list.specs.ListBytes.{two_bytes}
 use Rattle.packed_pattern.specs.declared.ahead.Ahead.{Ahead}
-use Rattle.packed_part.specs.PartOrder.{first_misplaced, may_follow}
+use Rattle.packed_pattern.specs.declared.walk.Walk.{Walk}
+use Rattle.packed_part.specs.PartOrder.{depth_behind, ends_branch, first_misplaced, is_begin}
 use Rattle.packed_part.specs.PartPlaces.{AnyNumber, Word, argument_length, branch_length, branch_place, or_place, PlacedPart}
-use Rattle.packed_part.specs.PackedParts.{is_packable, part_items_of}
+use Rattle.packed_part.specs.PackedParts.{is_packable, is_packable_piece, own_bytes, part_items_of}
 use Rattle.packed_part.specs.Inner.PartReading.{part_in, item_places}
 use Rattle.packed_part.specs.Inner.PartViews.{behind}
 use Rattle.packed_pattern.specs.declared.placed.PlacedPart as placed
@@ -98,12 +101,42 @@ has_places (Begin kind name offset) = true
 has_places (Branch selector) = true
 has_places _ = false
 
+-- behind its depth an item at an index has the places of a piece that these are ahead of, and what the
+-- piece has of its own, and it can be packed
+pub record IsContent (piece : PatternPiece) (index : ℕ) (ahead : Ahead) (content : List ℕ) : Type 0 where
+  pub fits : is_packable_piece piece ≡ true
+  pub bytes : content ≡ flat_map two_bytes (places_ahead piece (index + 1) ahead) ++ own_bytes piece
+
+-- ---- the check
+
+-- a part may stand before the parts that were looked at: it leaves as many arguments open as these close,
+-- and behind a beginning stands a selector or an end
+abbrev pub MayStandBefore : Part → Walk → Type 0
+MayStandBefore p w = (depth_behind p ≡ w.count) × (is_begin p.piece ≡ true → w.ends_branch ≡ true)
+
+-- what stands ahead at a depth
+abbrev pub level : Walk → ℕ → Ahead
+level w depth = get_or w.levels depth (ended_at 0)
+
+-- the walk that has gone on to a part at an index
+abbrev pub gone_on : Part → ℕ → Walk → Walk
+gone_on p index w = record {
+  levels = if ends_branch p.piece then set w.levels p.depth (passed p.piece index (level w p.depth)) else w.levels;
+  count = if ends_branch p.piece then p.depth + 1 else p.depth;
+  ends_branch = ends_branch p.piece;
+}
+
+-- it goes on to a part at an index, behind whose depth its item has these bytes
+pub record GoesOnTo (p : Part) (index : ℕ) (bytes : List ℕ) (old new : Walk) : Type 0 where
+  pub content : IsContent p.piece index (level old p.depth) bytes
+  pub before : MayStandBefore p old
+  pub walk : new ≡ gone_on p index old
+
 -- The items from an index on are those of the parts that they hold, and in their order behind what may
--- stand before the first; at each depth up to that of the first part this is what stands ahead.
-pub record AreWalked (next : Part) (levels : List Ahead) (index : ℕ) (items : List (List ℕ)) : Type 0 where
+-- stand before them; at each depth at which an argument is open there this is what stands ahead.
+pub record AreWalked (walk : Walk) (index : ℕ) (items : List (List ℕ)) : Type 0 where
   pub packable : list_all is_packable (map part_in items) ≡ true
   pub packed : part_items_of (map part_in items) ≡ items
-  pub nested : (place : ℕ) (before : Part) → may_follow before next ≡ true → first_misplaced place before (map part_in items) ≡ None
-  pub ahead : (depth : ℕ) → depth ≤ next.depth → slice_index_or levels depth (ended_at 0) ≡ ahead_of index depth (map part_in items)
-  pub deep : next.depth ≤ 32
-  pub all : length levels ≡ 33
+  pub nested : (place : ℕ) (before : Part) → MayStandBefore before walk → first_misplaced place before (map part_in items) ≡ None
+  pub ahead : (depth : ℕ) → depth < walk.count → level walk depth ≡ ahead_of index depth (map part_in items)
+  pub all : length walk.levels ≡ 33

@@ -1,34 +1,72 @@
-use Rattle.std.proofs.Common.{◌≡◌, List, ◌∷◌, ◌∙◌, ap, get_or, subst, sym, true}
-use Rattle.std.proofs.Math.ListN.{set}
-use Rattle.std.proofs.lemmas.List.{set-get_or}
-use Rattle.message_pattern.specs.PatternParts.{Part, part_view}
-use Rattle.packed_part.specs.PartOrder.{may_follow}
-use Rattle.packed_part.specs.PackedParts.{part_item_bytes}
-use Rattle.packed_part.specs.Inner.PartReading.{part_in}
-use Rattle.packed_pattern.specs.declared.ahead.Ahead.{Ahead}
-use Rattle.packed_pattern.specs.Inner.PlacesAhead.{AreWalked, ended_at}
-use Rattle.packed_pattern.proofs.PartBytes.{same_bytes}
+use Rattle.std.proofs.Common.{◌≡◌, ◌≤◌, ◌-◌, [], ⊎_elim, arith, drop, length, refl, subst, sym, take}
+use Rattle.std.proofs.lemmas.Grind.{common_steps}
+use Rattle.std.proofs.lemmas.List.{nil_from_length}
+use Rattle.message_pattern.specs.PatternParts.{Part, Argument, Begin, Branch, End, Exactly, Hash, Keyword, Text}
+use Rattle.message_pattern.specs.declared.part.ArgumentKind.TheVariants.{Ordinal, Plural, Select}
+use Rattle.packed_pattern.specs.Inner.PlacesAhead.{GoesOnTo}
 use Rattle.packed_pattern.proofs.PartsWalked.{one_walked}
 use Rattle.packed_pattern.proofs.walk.Walk.take.Goals as goal
 
-pub returns : goal.returns
-returns c = λ items w t.
-    let p = part_view c.part_in-part.result in
-    let next = part_in c.args.self.now.next.now in
-    let same = set-get_or c.args.self.now.levels c.part_in-part.result.depth (ended_at 0) in
-    let follows : may_follow p next ≡ true = ap (may_follow p) (sym c.part_in.ensures) ∙ (sym c.may_follow.ensures ∙ c.if-not-may_follow.false) in
-    let held = same_bytes c.args.item.now (part_item_bytes (part_in c.args.item.now) c.as_slice.result.now)
-    (sym c.is_item_with.ensures ∙ c.if-not-is_item_with.false) in
-    let own = held ∙ ap (λ (q : Part). part_item_bytes q c.as_slice.result.now) (sym c.part_in-part.ensures) in
-    let walked = one_walked next p c.args.self.now.levels c.args.index c.args.item.now items c.passed.result w c.part_in-part.ensures
-    (record {
-      fits = sym c.is_packable.ensures ∙ c.if-not-is_packable.false;
-      follows = follows;
-      own = own ∙ ap (part_item_bytes p) (c.as_slice.ensures.bytes ∙ c.places_ahead-places.ensures);
-      here = c.passed.ensures;
-    }) in
-    let levels = c.args.self.now.levels in
-    let d = c.part_in-part.result.depth in
-    subst (λ (q : Part). AreWalked q (set (set levels d (get_or levels d (ended_at 0))) d c.passed.result) c.args.index
-    (c.args.item.now ∷ items)) c.part_in-part.ensures
-    (subst (λ (l : List Ahead). AreWalked p (set l d c.passed.result) c.args.index (c.args.item.now ∷ items)) (sym same) walked)
+pub returns-in-0 : goal.returns-in-0
+returns-in-0 c = λ items w t.
+    let depth = c.from-depth.result in
+    let deep : depth ≤ 32 = omega (arith, c.if-depth-gt-DEPTH_LIMIT.false) in
+    let content = take (length c.args.item.now - 2) (drop 2 c.args.item.now) in
+    let s = c.take_plain.ensures t in
+    ⊎_elim
+    (λ e. one_walked c.args.self.now c.take_plain.new.self (record { depth = depth; piece = Text content }) c.args.index c.args.item.now items w
+    deep c.in-len2-up.len_at_least e c.from-depth.ensures
+    (record { content = record { fits = refl; bytes = refl }; before = (sym s.0, λ h. cc); walk = s.1 }))
+    (λ e. one_walked c.args.self.now c.take_plain.new.self (record { depth = depth; piece = Argument content }) c.args.index c.args.item.now items w
+    deep c.in-len2-up.len_at_least e c.from-depth.ensures
+    (record { content = record { fits = refl; bytes = refl }; before = (sym s.0, λ h. cc); walk = s.1 }))
+    c.in-0.is
+
+pub returns-then-is_empty : goal.returns-then-is_empty
+returns-then-is_empty c = λ items w t.
+    let content = take (length c.args.item.now - 2) (drop 2 c.args.item.now) in
+    let none : content ≡ [] = nil_from_length content (grind (arith, common_steps, c.is_empty.ensures, c.if-is_empty.true)) in
+    let s = c.take_plain-then-is_empty.ensures t in
+    one_walked c.args.self.now c.take_plain-then-is_empty.new.self (record { depth = c.from-depth.result; piece = Hash }) c.args.index
+    c.args.item.now items w (omega (arith, c.if-depth-gt-DEPTH_LIMIT.false)) c.in-len2-up.len_at_least c.in-1.is c.from-depth.ensures
+    (record { content = record { fits = refl; bytes = none }; before = (sym s.0, λ h. cc); walk = s.1 })
+
+pub returns-in-3 : goal.returns-in-3
+returns-in-3 c = λ items w t.
+    let s = c.take_plural.ensures t in
+    one_walked c.args.self.now c.take_plural.new.self (record { depth = c.from-depth.result; piece = Begin Plural s.0 s.1 }) c.args.index
+    c.args.item.now items w (omega (arith, c.if-depth-gt-DEPTH_LIMIT.false)) c.in-len2-up.len_at_least c.in-3.is c.from-depth.ensures s.2
+
+pub returns-in-4 : goal.returns-in-4
+returns-in-4 c = λ items w t.
+    let s = c.take_plural-in-4.ensures t in
+    one_walked c.args.self.now c.take_plural-in-4.new.self (record { depth = c.from-depth.result; piece = Begin Ordinal s.0 s.1 }) c.args.index
+    c.args.item.now items w (omega (arith, c.if-depth-gt-DEPTH_LIMIT.false)) c.in-len2-up.len_at_least c.in-4.is c.from-depth.ensures
+    (record { content = record { fits = s.2.content.fits; bytes = s.2.content.bytes }; before = s.2.before; walk = s.2.walk })
+
+pub returns-in-5 : goal.returns-in-5
+returns-in-5 c = λ items w t.
+    let s = c.take_select.ensures t in
+    one_walked c.args.self.now c.take_select.new.self (record { depth = c.from-depth.result; piece = Begin Select s.0 s.1 }) c.args.index
+    c.args.item.now items w (omega (arith, c.if-depth-gt-DEPTH_LIMIT.false)) c.in-len2-up.len_at_least c.in-5.is c.from-depth.ensures s.2
+
+pub returns-in-6 : goal.returns-in-6
+returns-in-6 c = λ items w t.
+    let s = c.take_keyword.ensures t in
+    one_walked c.args.self.now c.take_keyword.new.self (record { depth = c.from-depth.result; piece = Branch (Keyword s.0) }) c.args.index
+    c.args.item.now items w (omega (arith, c.if-depth-gt-DEPTH_LIMIT.false)) c.in-len2-up.len_at_least c.in-6.is c.from-depth.ensures s.1
+
+pub returns-in-7 : goal.returns-in-7
+returns-in-7 c = λ items w t.
+    let s = c.take_number.ensures t in
+    one_walked c.args.self.now c.take_number.new.self (record { depth = c.from-depth.result; piece = Branch (Exactly s.0) }) c.args.index
+    c.args.item.now items w (omega (arith, c.if-depth-gt-DEPTH_LIMIT.false)) c.in-len2-up.len_at_least c.in-7.is c.from-depth.ensures s.1
+
+pub returns-then-is_empty-2 : goal.returns-then-is_empty-2
+returns-then-is_empty-2 c = λ items w t.
+    let p : Part = record { depth = c.from-depth.result; piece = End } in
+    let content = take (length c.args.item.now - 2) (drop 2 c.args.item.now) in
+    let none : content ≡ [] = nil_from_length content (grind (arith, common_steps, c.is_empty-in-8.ensures, c.if-is_empty-2.true)) in
+    one_walked c.args.self.now c.take_end.new.self p c.args.index c.args.item.now items w (omega (arith, c.if-depth-gt-DEPTH_LIMIT.false))
+    c.in-len2-up.len_at_least c.in-8.is c.from-depth.ensures
+    (subst (λ bytes. GoesOnTo p c.args.index bytes c.args.self.now c.take_end.new.self) (sym none) (c.take_end.ensures t))
