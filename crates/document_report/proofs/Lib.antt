@@ -4,6 +4,7 @@ pub mod FoundParts
 pub mod FoundTogether
 pub mod LineTexts
 pub mod Told
+pub mod KeptTexts
 pub mod SameParents
 pub mod ParentsFound
 pub mod CheckReadings

@@ -10,7 +10,7 @@ use Rattle.document_notes.proofs.language_notes.add_language.Goals as goal
 pub returns-in-Some : goal.returns-in-Some
 returns-in-Some c = (
   [],
-  ([], subst (λ (texts : SixTexts). AreNotesOf texts.five []) c.texts_of-texts.ensures c.in-Some.ensures, refl),
+  ([], subst (λ (texts : SixTexts). AreNotesOf texts.five []) c.texts_of-texts.ensures c.in-Some.ensures.found, refl),
   sym (append-nil c.args.found.now),
 )
 

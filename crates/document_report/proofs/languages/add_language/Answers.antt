@@ -6,4 +6,4 @@ use Rattle.document_report.proofs.languages.add_language.Goals as goal
 pub add_checked-requires : goal.add_checked-requires
 add_checked-requires c =
     subst (λ (texts : SixTexts). AreFindingsOf texts (record { faults = []; numbers = c.in-Some.checked.numbers })) c.texts_of-texts.ensures
-    c.in-Some.ensures
+    c.in-Some.ensures.found
