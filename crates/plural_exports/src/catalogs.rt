@@ -3,13 +3,12 @@
 ghost use Rattle.std.specs.Prelude.{pos};
 ghost use Rattle.plural_exports.specs.FormattedPatterns.{IsCatalogSaid};
 ghost use Rattle.plural_exports.specs.GivenPatterns.{FindsBlock, ReadsCatalogBytes};
-ghost use Rattle.plural_exports.specs.Inner.GivenResults.{GivesSeen};
+ghost use Rattle.plural_exports.specs.Inner.GivenResults.{GivesSeen, GivesWritten};
 ghost use Rattle.plural_exports.specs.Results.{Answered, Written};
 
 use crate::arguments::GivenArgument;
-use crate::buffer::put;
 use crate::fault::Fault;
-use crate::packed_patterns::formatted;
+use crate::packed_patterns::write_formatted;
 use message_catalog::MessageCatalog;
 use packed_catalog::find_value;
 use std::alloc::Global;
@@ -42,8 +41,8 @@ pub fn catalog_say(
 ) -> i64
     ensures { Written (IsCatalogSaid cardinal.now ordinal.now catalog.now key.now arguments.now) out.old out.new result }
 {
-    match said(alloc, cardinal, ordinal, catalog, key, arguments) {
-        Ok(text) => put(&text, out),
+    match write_said(alloc, cardinal, ordinal, catalog, key, arguments, out) {
+        Ok(length) => length,
         Err(fault) => i64::from(fault.number()),
     }
 }
@@ -65,17 +64,18 @@ fn block_under<'a>(catalog: &'a [u8], key: &[u8]) -> Result<&'a [u8], Fault>
     }
 }
 
-// What the message under a key says.
-fn said(
+// Writes what the message under a key says, if it fits, and returns its length.
+fn write_said(
     alloc: Global,
     cardinal: &[u8],
     ordinal: &[u8],
     catalog: &[u8],
     key: &[u8],
     arguments: &[GivenArgument<'_>],
-) -> Result<Vec<u8>, Fault>
-    ensures { GivesSeen (λ text. text.items) (IsCatalogSaid cardinal.now ordinal.now catalog.now key.now arguments.now) result }
+    out: &mut [u8],
+) -> Result<i64, Fault>
+    ensures { GivesWritten (IsCatalogSaid cardinal.now ordinal.now catalog.now key.now arguments.now) out.old out.new result }
 {
     let block = block_under(catalog, key)?;
-    formatted(alloc, cardinal, ordinal, block, arguments)
+    write_formatted(alloc, cardinal, ordinal, block, arguments, out)
 }

@@ -1,10 +1,11 @@
 //! Blocks of patterns, and what they say.
 
 ghost use Rattle.std.specs.Prelude.{pos};
+ghost use Rattle.message_format.specs.FormatArguments.{named_values_view};
 ghost use Rattle.message_format.specs.Inner.FormatViews.{two_rules};
-ghost use Rattle.plural_exports.specs.FormattedPatterns.{IsPackedFormatted};
+ghost use Rattle.plural_exports.specs.FormattedPatterns.{IsPackedFormatted, IsPatternSaid};
 ghost use Rattle.plural_exports.specs.GivenPatterns.{IsPatternPacked, ReadsPatternBlock};
-ghost use Rattle.plural_exports.specs.Inner.GivenResults.{GivesSeen};
+ghost use Rattle.plural_exports.specs.Inner.GivenResults.{GivesSeen, GivesWritten};
 ghost use Rattle.plural_exports.specs.Inner.UnderRules.{IsSaidUnder, IsSaidWith};
 ghost use Rattle.plural_exports.specs.Results.{Answered, Written};
 
@@ -13,11 +14,15 @@ use crate::buffer::put;
 use crate::fault::Fault;
 use crate::given::rules_in;
 use crate::patterns::pattern_in;
+use arrayvec::ArrayVec;
 use icu_plurals::PluralRules;
-use message_format::Rules;
-use packed_format::format_packed;
+use message_format::{Argument, FormatError, Rules};
+use packed_format::say_packed;
 use packed_pattern::{PackedPattern, pack};
 use std::alloc::Global;
+
+// How many bytes a text has at most that isn't allocated.
+const SHORT: usize = 240;
 
 /// Writes the block of a pattern of ICU's MessageFormat. The result is how many bytes the block
 /// has; if the buffer is shorter, nothing is written.
@@ -60,8 +65,8 @@ pub fn packed_format(
 ) -> i64
     ensures { Written (IsPackedFormatted cardinal.now ordinal.now block.now arguments.now) out.old out.new result }
 {
-    match formatted(alloc, cardinal, ordinal, block, arguments) {
-        Ok(text) => put(&text, out),
+    match write_formatted(alloc, cardinal, ordinal, block, arguments, out) {
+        Ok(length) => length,
         Err(fault) => i64::from(fault.number()),
     }
 }
@@ -81,31 +86,33 @@ fn block_in(bytes: &[u8]) -> Result<PackedPattern<'_>, Fault>
     Ok(PackedPattern::parse_bytes(bytes)?)
 }
 
-// What the block of a pattern says.
-pub(crate) fn formatted(
+// Writes what the block of a pattern says, if it fits, and returns its length.
+pub(crate) fn write_formatted(
     alloc: Global,
     cardinal: &[u8],
     ordinal: &[u8],
     block: &[u8],
     arguments: &[GivenArgument<'_>],
-) -> Result<Vec<u8>, Fault>
-    ensures { GivesSeen (λ text. text.items) (IsPackedFormatted cardinal.now ordinal.now block.now arguments.now) result }
+    out: &mut [u8],
+) -> Result<i64, Fault>
+    ensures { GivesWritten (IsPackedFormatted cardinal.now ordinal.now block.now arguments.now) out.old out.new result }
 {
     match rules_in(cardinal) {
-        Ok(cardinal) => formatted_with(alloc, &cardinal, ordinal, block, arguments),
+        Ok(cardinal) => write_with(alloc, &cardinal, ordinal, block, arguments, out),
         Err(fault) => Err(fault),
     }
 }
 
-// What the block of a pattern says, with these rules for cardinal numbers.
-fn formatted_with(
+// Writes what the block of a pattern says, with these rules for cardinal numbers.
+fn write_with(
     alloc: Global,
     cardinal: &PluralRules<'_>,
     ordinal: &[u8],
     block: &[u8],
     arguments: &[GivenArgument<'_>],
-) -> Result<Vec<u8>, Fault>
-    ensures { GivesSeen (λ text. text.items) (IsSaidWith (ReadsPatternBlock block.now) cardinal.now ordinal.now arguments.now) result }
+    out: &mut [u8],
+) -> Result<i64, Fault>
+    ensures { GivesWritten (IsSaidWith (ReadsPatternBlock block.now) cardinal.now ordinal.now arguments.now) out.old out.new result }
 {
     match rules_in(ordinal) {
         Ok(ordinal) => {
@@ -113,22 +120,57 @@ fn formatted_with(
                 cardinal,
                 ordinal: &ordinal,
             };
-            said(alloc, &rules, block, arguments)
+            write_said(alloc, &rules, block, arguments, out)
         }
         Err(fault) => Err(fault),
     }
 }
 
-// What the block of a pattern says under both rules.
-fn said(
+// Writes what the block of a pattern says under both rules.
+fn write_said(
     alloc: Global,
     rules: &Rules<'_, '_>,
     block: &[u8],
     arguments: &[GivenArgument<'_>],
-) -> Result<Vec<u8>, Fault>
-    ensures { GivesSeen (λ text. text.items) (IsSaidUnder (ReadsPatternBlock block.now) (two_rules rules.now) arguments.now) result }
+    out: &mut [u8],
+) -> Result<i64, Fault>
+    ensures { GivesWritten (IsSaidUnder (ReadsPatternBlock block.now) (two_rules rules.now) arguments.now) out.old out.new result }
 {
     let pattern = block_in(block)?;
     let arguments = arguments_in(alloc, arguments)?;
-    Ok(format_packed(alloc, &pattern, arguments.as_slice(), rules)?)
+    write_text(alloc, &pattern, arguments.as_slice(), rules, out)
+}
+
+// Writes what the pattern says. A short text isn't allocated.
+fn write_text(
+    alloc: Global,
+    pattern: &PackedPattern<'_>,
+    arguments: &[Argument<'_>],
+    rules: &Rules<'_, '_>,
+    out: &mut [u8],
+) -> Result<i64, Fault>
+    ensures { GivesWritten (IsPatternSaid (two_rules rules.now) pattern.now (named_values_view arguments.now)) out.old out.new result }
+{
+    let mut short = ArrayVec::<u8, SHORT>::new();
+    match say_packed(alloc, pattern, arguments, rules, &mut short) {
+        Ok(()) => Ok(put(short.as_slice(), out)),
+        Err(FormatError::Memory) => write_long(alloc, pattern, arguments, rules, out),
+        Err(fault) => Err(Fault::from(fault)),
+    }
+}
+
+// The same of a text that may be long.
+#[inline(never)]
+fn write_long(
+    alloc: Global,
+    pattern: &PackedPattern<'_>,
+    arguments: &[Argument<'_>],
+    rules: &Rules<'_, '_>,
+    out: &mut [u8],
+) -> Result<i64, Fault>
+    ensures { GivesWritten (IsPatternSaid (two_rules rules.now) pattern.now (named_values_view arguments.now)) out.old out.new result }
+{
+    let mut text = Vec::new(alloc);
+    say_packed(alloc, pattern, arguments, rules, &mut text)?;
+    Ok(put(text.as_slice(), out))
 }
