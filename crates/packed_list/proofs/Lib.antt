@@ -4,4 +4,5 @@ mod CursorPlaces
 mod OneList
 mod Accepted
 mod Refused
+mod ToldItems
 mod WorkedLists

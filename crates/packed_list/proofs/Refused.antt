@@ -1,6 +1,8 @@
 -- Bytes of a list are not refused.
 use Rattle.std.proofs.Common.{◌≡◌, ℕ, suc, ◌+◌, ◌*◌, ◌<◌, List, [], ◌∷◌, length, ap, arith, inl, inr}
-use Rattle.packed_list.specs.ListBytes.{list_bytes, two_byte_number, start_at, HasBadStart}
+use Rattle.packed_list.specs.ListBytes.{list_bytes, two_byte_number, start_at, HasBadStart, HasFault}
+use Rattle.packed_list.specs.declared.error.ListError.{ListError}
+use Rattle.packed_list.specs.declared.error.ListError.TheVariants.{Header, ZeroCount, Start}
 use Rattle.packed_list.proofs.ListPlaces.{count_is, length-list_bytes, lies_between, start_at-is}
 
 -- no list is one byte
@@ -32,3 +34,12 @@ not_bad items bytes h bad =
       | inr above ↦ omega
           (arith, f, s.within, above, c, length-list_bytes items bytes h)
     ]
+
+-- so no list has a fault
+pub not_faulty : (items : List (List ℕ)) (bytes : List ℕ) (fault : ListError) → bytes ≡ list_bytes items → HasFault bytes fault → ⊥
+not_faulty items bytes Header h faulty = elim faulty [
+  | inl one ↦ not_one items bytes h one
+  | inr short ↦ not_short items bytes h short.1
+]
+not_faulty items bytes ZeroCount h faulty = not_zero items bytes h (omega (arith, faulty.0)) faulty.1
+not_faulty items bytes Start h faulty = not_bad items bytes h faulty

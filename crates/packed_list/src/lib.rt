@@ -8,6 +8,7 @@ mod items;
 mod items_to_pack;
 pub mod laws;
 mod list;
+mod passing;
 mod starts;
 mod writer;
 
@@ -16,4 +17,5 @@ pub use error::{ListError, PackError};
 pub use items::Items;
 pub use items_to_pack::{ByteItem, ByteItems};
 pub use list::PackedList;
+pub use passing::ItemTest;
 pub use writer::ListWriter;

@@ -1,14 +1,15 @@
 //! Reads bytes as a rule.
 
-ghost use Rattle.std.specs.Prelude.{◌≡◌, ◌↔◌, ◌≤◌, List, length, IfOk, Ok, Err};
+ghost use Rattle.std.specs.Prelude.{◌≡◌, ◌↔◌, ◌≤◌, List, length, IfOk, IsTrue, IsFalse, Ok, Err};
 ghost use Rattle.plural_runtime.specs.PackedRelations.{PackedRelation, RuleBytes, HasRuleFault, relation_fault, first_relation_fault};
+ghost use Rattle.plural_runtime.specs.Inner.RuleReading.{AreRuleBytes};
 
 use crate::error::RuleBytesError;
 use crate::first_byte::operand_of;
 use crate::item::{HEAD_LENGTH, RANGE_LENGTH};
 use crate::rule::Rule;
-use packed_list::PackedList;
-use packed_list::laws::{item_bytes, read_again};
+use packed_list::laws::{item_bytes, no_fault, read_again};
+use packed_list::{ItemTest, PackedList};
 
 impl<'data> Rule<'data> {
     /// Reads bytes as a rule. It allocates nothing.
@@ -39,15 +40,58 @@ impl<'data> Rule<'data> {
         ensures refused { (fault : RuleBytesError) → (result ≡ Err fault) ↔ HasRuleFault bytes.now fault }
     {
         read_again();
-        item_bytes();
-        let list = match PackedList::parse_bytes(bytes) {
-            Ok(list) => list,
-            Err(fault) => return Err(RuleBytesError::List(fault)),
-        };
-        if let Some(fault) = first_fault_of(&list) {
-            return Err(fault);
+        no_fault();
+        if is_rule(bytes) {
+            Ok(Rule::lent(bytes))
+        } else {
+            Err(fault_in(bytes))
         }
-        Ok(Rule::lent(bytes))
+    }
+}
+
+// The test of the items of a rule: 5 bytes more than whole ranges, and an operand in the first one.
+struct RelationTest;
+
+impl ItemTest for RelationTest {
+    ghost use Rattle.plural_runtime.specs.PackedRelations.{is_relation};
+
+    ghost passing = { is_relation };
+
+    #[inline(always)]
+    fn passes(item: &[u8]) -> bool {
+        item.len() % RANGE_LENGTH == HEAD_LENGTH && item[0] % 64 <= 7
+    }
+}
+
+// Whether bytes are a rule. Each start is read once.
+#[inline]
+fn is_rule(bytes: &[u8]) -> bool
+    ensures rule { IsTrue result → AreRuleBytes bytes.now }
+    ensures other { IsFalse result → (relations : List PackedRelation) → RuleBytes relations bytes.now → ⊥ }
+{
+    read_again();
+    item_bytes();
+    match PackedList::parse_passing::<RelationTest>(bytes) {
+        Some(_) => true,
+        None => false,
+    }
+}
+
+// What is wrong with bytes that aren't a rule.
+#[cold]
+fn fault_in(bytes: &[u8]) -> RuleBytesError
+    requires { (relations : List PackedRelation) → RuleBytes relations bytes.now → ⊥ }
+    ensures { (fault : RuleBytesError) → (result ≡ fault) ↔ HasRuleFault bytes.now fault }
+{
+    read_again();
+    item_bytes();
+    let list = match PackedList::parse_bytes(bytes) {
+        Ok(list) => list,
+        Err(fault) => return RuleBytesError::List(fault),
+    };
+    match first_fault_of(&list) {
+        Some(fault) => fault,
+        None => unreachable!(),
     }
 }
 

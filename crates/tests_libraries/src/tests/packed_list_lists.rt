@@ -1,7 +1,7 @@
 //! Packed lists: examples of the pages, and what takes no memory.
 
 use crate::tests::assertion::holds;
-use packed_list::{PackError, PackedList};
+use packed_list::{ItemTest, PackError, PackedList};
 use std::alloc::Global;
 
 // The list of `ab`, the empty item and `cd`.
@@ -37,4 +37,39 @@ fn packs_three(alloc: Global) -> Option<bool> {
 fn no_item_takes_no_memory(rt: HostRuntime) {
     holds!(rt; PackedList::encode(rt.alloc(), &[]).is_ok());
     holds!(rt; packs_three(rt.alloc()) != Some(false));
+}
+
+// The test of items of at most two bytes.
+struct TwoAtMost;
+
+impl ItemTest for TwoAtMost {
+    ghost use Rattle.std.specs.Prelude.{length, nat_le};
+
+    ghost passing = { λ item. nat_le (length item) 2 };
+
+    fn passes(item: &[u8]) -> bool {
+        item.len() <= 2
+    }
+}
+
+#[test]
+fn reads_lists_whose_items_pass(rt: HostRuntime) {
+    let rows: [(&[u8], bool); 10] = [
+        (b"", true),
+        (b"\x01\x00", true),
+        (b"\x01\x00ab", true),
+        (THREE_ITEMS, true),
+        (b"\x01\x00abc", false),
+        (b"\x02\x00\x03\x00abcd", false),
+        (b"\x02\x00\x01\x00abcd", false),
+        (b"\x03\x00\x02\x00\x01\x00abc", false),
+        (b"\x02\x00\x03\x00ab", false),
+        (b"\x00\x00", false),
+    ];
+    for (place, (bytes, passes)) in rows.iter().enumerate() {
+        match PackedList::parse_passing::<TwoAtMost>(bytes) {
+            Some(list) => holds!(rt; *passes && list.as_bytes() == *bytes, at place),
+            None => holds!(rt; !*passes, at place),
+        }
+    }
 }
