@@ -7,3 +7,5 @@ pub mod RowsFound
 pub mod RowsRead
 pub mod DocumentRefusals
 pub mod RulesRead
+pub mod ValuesRead
+pub mod KeptRules

@@ -1,6 +1,7 @@
 -- No definitions of the subject: readers and steps, for views and private contracts.
 pub mod RulesSteps
 pub mod JsonSteps
+pub mod CategoryValues
 pub mod KeyedItems
 pub mod Masks
 pub mod WholeNumbers

@@ -8,19 +8,20 @@ use Rattle.plural_runtime.specs.declared.error.RuleError.TheVariants as fault
 use Rattle.plural_base.specs.declared.category.PluralCategory.{PluralCategory}
 use Rattle.plural_base.specs.declared.category.PluralCategory.TheVariants.{Zero, One, Two, Few, Many}
 use Rattle.plural_base.specs.declared.json.error.JsonError.{JsonError}
+use Rattle.plural_base.specs.declared.json.known_rules.KnownRule.{KnownRule}
 use Rattle.plural_base.specs.declared.json.error.JsonError.TheVariants.{Rule, Memory}
 use Rattle.plural_base.specs.declared.ranges.PluralRanges.{PluralRanges}
 use Rattle.plural_base.specs.declared.category.raw.RawPluralCategory.{RawPluralCategory}
 use Rattle.plural_base.specs.Categories.{all_raw_categories, name_of}
 use Rattle.plural_base.specs.Ranges.{range_text, category_at}
 use Rattle.plural_base.specs.RangesJson.{name_json}
-use Rattle.plural_base.specs.RulesJson.{member_meant, optional_rule_json}
+use Rattle.plural_base.specs.RulesJson.{optional_rule_json}
 use Rattle.serde_json.specs.Data.{Members, no_members, put}
 use Rattle.std.specs.declared.alloc.Global.{Global}
 use Rattle.plural_base.specs.declared.rules.data.PluralRulesData.{PluralRulesData}
 use Rattle.plural_base.specs.DocumentJson.{Rows, found, row_of}
 use Rattle.plural_base.specs.FiveRules.{FiveRules, rules_of}
-use Rattle.plural_base.specs.Json.{Stands, ◌>>=◌, IsRefusal, all_five}
+use Rattle.plural_base.specs.Json.{Stands, ◌>>=◌, IsRefusal}
 use Rattle.plural_runtime.specs.PackedRelations.{PackedRelation}
 use Rattle.plural_runtime.specs.RuleOfText.{IsPackedFrom, rule_of_text}
 use Rattle.serde_json.specs.Data.{Data}
@@ -47,14 +48,8 @@ put_row ranges members start = fold (λ ms end. put_range start end ms (category
 abbrev pub range_members : PluralRanges → Members
 range_members ranges = fold (put_row ranges) no_members all_raw_categories
 
--- ---- Not a definition of the subject: the members that the code reads and puts for rules, one
--- after the other.
-
--- the rules under the five names
-abbrev pub rules_under_names : Data → Stands FiveRules
-rules_under_names value =
-    all_five (member_meant Zero value) (member_meant One value) (member_meant Two value) (member_meant Few value)
-    (member_meant Many value)
+-- ---- Not a definition of the subject: the members that the code puts for rules, one after the
+-- other.
 
 -- the values of the rules, put under the five names
 abbrev pub rule_members : FiveRules → Members → Members
@@ -99,6 +94,10 @@ PutsRow locale stands before after (Err error) = IsRefusal error stands
 -- the text gives this rule, by both definitions
 abbrev pub GivesThis : List ℕ → List PackedRelation → Type 0
 GivesThis text rule = (rule_of_text text ≡ Ok rule) × IsPackedFrom text (Ok rule)
+
+-- a kept text and its rule
+abbrev pub kept_rule : KnownRule → List ℕ × List PackedRelation
+kept_rule known = (known.text.now, known.rule)
 
 -- the row of a locale that has this value, if any
 abbrev pub row_meant : {A : Type 0} → (Data → Stands A) → List ℕ → Option Data → Stands (Rows A)

@@ -2,13 +2,15 @@
 
 ghost use Rattle.std.specs.Prelude.{◌≢◌, Option, Err, Some, option_map};
 ghost use Rattle.plural_base.specs.declared.category.PluralCategory.{PluralCategory as Category};
+ghost use Rattle.plural_base.specs.Inner.CategoryValues.{five_lent, rules_at};
 ghost use Rattle.plural_base.specs.Inner.JsonSteps.{Passes};
-ghost use Rattle.plural_base.specs.RulesJson.{member_meant, optional_meant, rule_meant, rules_meant};
+ghost use Rattle.plural_base.specs.RulesJson.{optional_meant, rule_meant, rules_meant};
 ghost use Rattle.serde_json.specs.View.{view};
 
 use crate::category::PluralCategory;
-use crate::category::raw::RawPluralCategory;
+use crate::category::by_category::ByCategory;
 use crate::for_five;
+use crate::json::category_values::values_by_category;
 use crate::json::error::JsonError;
 use crate::json::known_rules::KnownRules;
 use crate::json::rule::read_rule;
@@ -26,26 +28,27 @@ pub(crate) fn check_rules<'v>(
     ensures float { result ≢ Err JsonError.Float }
     ensures memory { (category : Option Category) → result ≢ Err (JsonError.Rule category RuleError.Memory) }
 {
-    if !value.is_object() {
-        return Err(JsonError::Shape);
+    match value.as_object() {
+        Some(members) => check_values(alloc, &values_by_category(members), known),
+        None => Err(JsonError::Shape),
     }
-    for_five!(|category| check_member(alloc, value, category, known)?);
-    Ok(())
 }
 
-// Returns the refusal of the rule under the name of a category.
-fn check_member<'v>(
+// Returns the refusal of the values under the names of the categories.
+fn check_values<'v>(
     alloc: Global,
-    value: &'v Value,
-    category: PluralCategory,
+    values: &ByCategory<Option<&'v Value>>,
     known: &mut KnownRules<'v>,
 ) -> Result<(), JsonError>
-    ensures answers { Passes result (member_meant category (view value.now)) }
+    ensures answers { Passes result (rules_at (five_lent values.now)) }
     ensures float { result ≢ Err JsonError.Float }
-    ensures memory { (c : Option Category) → result ≢ Err (JsonError.Rule c RuleError.Memory) }
+    ensures memory { (category : Option Category) → result ≢ Err (JsonError.Rule category RuleError.Memory) }
 {
-    let name = RawPluralCategory::from(category).as_str();
-    check_optional(alloc, value.get(name), category, known)
+    for_five!(
+        values,
+        |value, category| check_optional(alloc, *value, category, known)?
+    );
+    Ok(())
 }
 
 // Returns the refusal of a rule that may be absent or null.

@@ -1,10 +1,11 @@
 //! Rules of texts that were read a short while ago.
 
-ghost use Rattle.std.specs.Prelude.{IfSome};
-ghost use Rattle.plural_base.specs.Inner.JsonSteps.{GivesThis};
+ghost use Rattle.std.specs.Prelude.{◌≡◌, ◌≢◌, ◌-◌, ◌≤◌, ◌∷◌, ◌++◌, [], All, Contains, IfNone, IfSome, OnOk, drop, length, map};
+ghost use Rattle.plural_base.specs.Inner.JsonSteps.{GivesThis, kept_rule};
 
 use plural_runtime::Rule;
 use std::alloc::{AllocError, Global};
+use std::collections::VecDeque;
 use std::marker::Model;
 
 // How many rules are kept. CLDR 48 has 55 texts of rules, and half of them stand in one language each.
@@ -17,57 +18,79 @@ struct KnownRule<'a> {
     rule: Rule<'static>,
 }
 
-// The rules that were read last: in a document many locales have the same texts.
+// The rules that were read last: in a document many locales have the same texts. Contracts see a
+// list of the texts and their rules, the oldest first.
 #[derive(Drop)]
 pub(crate) struct KnownRules<'a> {
-    rules: Vec<KnownRule<'a>>,
-    // The place of the oldest one, once there are as many as are kept.
-    oldest: usize,
+    rules: VecDeque<KnownRule<'a>>,
 }
 
 impl<'a> Model for KnownRules<'a> {
-    ghost use Rattle.std.specs.Prelude.{ℕ, ◌<◌, All, ⊤};
-    ghost use Rattle.plural_base.specs.Inner.JsonSteps.{GivesThis};
+    ghost use Rattle.std.specs.Prelude.{ℕ, ◌≤◌, List, All, length, map};
+    ghost use Rattle.plural_base.specs.Inner.JsonSteps.{GivesThis, kept_rule};
+    ghost use Rattle.plural_runtime.specs.PackedRelations.{PackedRelation};
 
-    ghost Value = { ⊤ };
+    ghost Value = { List (List ℕ × List PackedRelation) };
 
-    ghost view = { λ known. tt };
+    ghost view = { λ known. map kept_rule known.rules.items };
 
-    ghost invariant = { λ known. All (λ entry. GivesThis entry.text.now entry.rule) known.rules.items × (known.oldest < 64) };
+    ghost invariant = { λ known. All (λ entry. GivesThis entry.0 entry.1) (map kept_rule known.rules.items) × (length known.rules.items ≤ 64) };
 }
 
 impl<'a> KnownRules<'a> {
     // No rules.
-    pub(crate) fn new(alloc: Global) -> KnownRules<'a> {
+    pub(crate) fn new(alloc: Global) -> KnownRules<'a>
+        ensures { result ≡ [] }
+    {
         KnownRules {
-            rules: Vec::new(alloc),
-            oldest: 0,
+            rules: VecDeque::new(alloc),
         }
     }
 
     // The rule of a text, if it is kept.
     pub(crate) fn get(&self, text: &str) -> Option<&Rule<'static>>
-        ensures { IfSome result (λ rule. GivesThis text.now rule.now) }
+        ensures given { IfSome result (λ rule. GivesThis text.now rule.now) }
+        ensures kept { IfSome result (λ rule. Contains self.now (text.now, rule.now)) }
+        ensures none { IfNone result (All (λ entry. entry.0 ≢ text.now) self.now) }
     {
-        for known in &self.rules {
-            if known.text == text {
-                return Some(&known.rule);
-            }
+        let (older, later) = self.rules.as_slices();
+        match rule_among(later, text) {
+            Some(rule) => Some(rule),
+            None => rule_among(older, text),
         }
-        None
     }
 
-    // Keeps the rule of a text, in place of the oldest one if there are many.
+    // Keeps the rule of a text, in place of the oldest one if there are 64.
     pub(crate) fn keep(&mut self, text: &'a str, rule: Rule<'static>) -> Result<(), AllocError>
         requires { GivesThis text.now rule }
+        // The last 64 of those before and this one.
+        ensures { OnOk result (self.new ≡ drop (length self.old - 63) (self.old ++ (text.entry.now, rule.entry) ∷ [])) }
     {
-        let known = KnownRule { text, rule };
-        if self.rules.len() < MOST {
-            self.rules.push(known)?;
-            return Ok(());
-        }
-        self.rules[self.oldest] = known;
-        self.oldest = (self.oldest + 1) % MOST;
+        make_room(&mut self.rules);
+        self.rules.push_back(KnownRule { text, rule })?;
         Ok(())
+    }
+}
+
+// The rule of a text, if it is among these.
+fn rule_among<'k>(entries: &'k [KnownRule<'_>], text: &str) -> Option<&'k Rule<'static>>
+    ensures kept { IfSome result (λ rule. Contains (map kept_rule entries.now) (text.now, rule.now)) }
+    ensures none { IfNone result (All (λ entry. entry.0 ≢ text.now) (map kept_rule entries.now)) }
+{
+    for known in entries {
+        if known.text == text {
+            return Some(&known.rule);
+        }
+    }
+    None
+}
+
+// Makes room for one more: the oldest one goes if there are 64.
+fn make_room(rules: &mut VecDeque<KnownRule<'_>>)
+    requires { length rules.old.items ≤ 64 }
+    ensures { rules.new.items ≡ drop (length rules.old.items - 63) rules.old.items }
+{
+    if rules.len() == MOST {
+        drop(rules.pop_front());
     }
 }

@@ -6,18 +6,19 @@ ghost use Rattle.plural_base.specs.declared.category.PluralCategory.{PluralCateg
 ghost use Rattle.plural_base.specs.RuleTexts.{AreRulesOf, IsRuleOf};
 ghost use Rattle.plural_base.specs.Categories.{name_of};
 ghost use Rattle.plural_base.specs.FiveRules.{rules_of, five};
-ghost use Rattle.plural_base.specs.Inner.JsonSteps.{rules_under_names, rule_members};
+ghost use Rattle.plural_base.specs.Inner.CategoryValues.{five_lent, five_under, rules_at, texts_among_five};
+ghost use Rattle.plural_base.specs.Inner.JsonSteps.{rule_members};
 ghost use Rattle.plural_base.specs.Json.{GivesMeaning};
-ghost use Rattle.plural_base.specs.RulesJson.{member_meant, optional_rule_json, optional_meant, rule_meant, rules_meant, text_under, texts_in};
+ghost use Rattle.plural_base.specs.RulesJson.{optional_rule_json, optional_meant, rule_meant, rules_meant, texts_in};
 ghost use Rattle.serde_json.specs.Find.{as_str, as_object};
 ghost use Rattle.serde_json.specs.Data.{put};
 ghost use Rattle.serde_json.specs.View.{view, members_view};
 ghost use Rattle.serde_json.specs.Written.{has_float};
 
 use crate::category::PluralCategory;
+use crate::category::by_category::ByCategory;
 use crate::category::raw::RawPluralCategory;
-use crate::five::put_five;
-use crate::for_five;
+use crate::json::category_values::values_by_category;
 use crate::json::checks::check_rules;
 use crate::json::error::JsonError;
 use crate::json::float::holds_float;
@@ -25,6 +26,7 @@ use crate::json::known_rules::KnownRules;
 use crate::json::rows::FromJson;
 use crate::json::rule::{read_rule, rule_to_json};
 use crate::rules::data::PluralRulesData;
+use crate::{for_five, put_five};
 use plural_runtime::{Rule, RuleError};
 use serde_json::{Map, Value};
 use std::alloc::{AllocError, Global};
@@ -128,56 +130,49 @@ fn read_rules<'v>(
     ensures memory { (category : Option Category) → result ≢ Err (JsonError.Rule category RuleError.Memory) }
     ensures no_text { texts_in (view value.now) ≡ five None None None None None → result ≢ Err JsonError.Memory }
 {
-    if !value.is_object() {
-        return Err(JsonError::Shape);
+    match value.as_object() {
+        Some(members) => read_members(alloc, members, known),
+        None => Err(JsonError::Shape),
     }
-    let mut rules: PluralRulesData<'static> = PluralRulesData::default();
-    put_members(alloc, value, known, &mut rules).and(Ok(rules))
 }
 
-// Puts the rules under the names of their categories.
-fn put_members<'v>(
+// The five rules of an object with these members.
+fn read_members<'v>(
     alloc: Global,
-    value: &'v Value,
+    members: &'v Map<String, Value>,
+    known: &mut KnownRules<'v>,
+) -> Result<PluralRulesData<'static>, JsonError>
+    ensures answers { GivesMeaning rules_of result (rules_at (five_under (members_view members.now.entries))) }
+    ensures read { IfOk result (λ rules. AreRulesOf (texts_among_five (five_under (members_view members.now.entries))) (rules_of rules)) }
+    ensures float { result ≢ Err JsonError.Float }
+    ensures memory { (category : Option Category) → result ≢ Err (JsonError.Rule category RuleError.Memory) }
+    ensures no_text { texts_among_five (five_under (members_view members.now.entries)) ≡ five None None None None None → result ≢ Err JsonError.Memory }
+{
+    let values = values_by_category(members);
+    let mut rules: PluralRulesData<'static> = PluralRulesData::default();
+    put_values(alloc, &values, known, &mut rules).and(Ok(rules))
+}
+
+// Puts the rules of the values under the names of their categories.
+fn put_values<'v>(
+    alloc: Global,
+    values: &ByCategory<Option<&'v Value>>,
     known: &mut KnownRules<'v>,
     rules: &mut PluralRulesData<'static>,
 ) -> Result<(), JsonError>
     requires { rules_of rules.old ≡ five None None None None None }
-    ensures answers { GivesMeaning (λ _. rules_of rules.new) result (rules_under_names (view value.now)) }
-    ensures read { OnOk result (AreRulesOf (texts_in (view value.now)) (rules_of rules.new)) }
+    ensures answers { GivesMeaning (λ _. rules_of rules.new) result (rules_at (five_lent values.now)) }
+    ensures read { OnOk result (AreRulesOf (texts_among_five (five_lent values.now)) (rules_of rules.new)) }
     ensures float { result ≢ Err JsonError.Float }
     ensures memory { (category : Option Category) → result ≢ Err (JsonError.Rule category RuleError.Memory) }
-    ensures no_text { texts_in (view value.now) ≡ five None None None None None → result ≢ Err JsonError.Memory }
+    ensures no_text { texts_among_five (five_lent values.now) ≡ five None None None None None → result ≢ Err JsonError.Memory }
 {
     put_five!(
         rules,
-        |rule, category| put_member(alloc, value, category, known, rule)?
+        values,
+        |rule, value, category| put_optional(alloc, *value, category, known, rule)?
     );
     Ok(())
-}
-
-// Puts the rule under the name of a category, if present.
-fn put_member<'v>(
-    alloc: Global,
-    value: &'v Value,
-    category: PluralCategory,
-    known: &mut KnownRules<'v>,
-    rule: &mut Option<Rule<'static>>,
-) -> Result<(), JsonError>
-    requires { rule.old ≡ None }
-    ensures answers { GivesMeaning (λ _. rule.new) result (member_meant category (view value.now)) }
-    ensures read { OnOk result (IsRuleOf (text_under category (view value.now)) rule.new) }
-    ensures float { result ≢ Err JsonError.Float }
-    ensures memory { (c : Option Category) → result ≢ Err (JsonError.Rule c RuleError.Memory) }
-    ensures no_text { text_under category (view value.now) ≡ None → result ≢ Err JsonError.Memory }
-{
-    put_optional(
-        alloc,
-        value.get(RawPluralCategory::from(category).as_str()),
-        category,
-        known,
-        rule,
-    )
 }
 
 // Puts the rule of a value that may be absent or null.
