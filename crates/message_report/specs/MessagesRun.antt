@@ -1,4 +1,5 @@
 -- What is written for files of messages.
+--     IsPrintedText text old new result      a text was written, and nothing else
 --     IsReportedAs text_of source files old new result      the report of the files, printed so, was
 --         written, and nothing else
 --     IsReported source files old new result      the same, printed as lines
@@ -13,6 +14,12 @@ use Rattle.message_report.specs.declared.counts.Counts.{Counts}
 use Rattle.message_report.specs.declared.error.ReportError.{ReportError}
 use Rattle.message_report.specs.declared.error.ReportError.TheVariants.{Write, Memory}
 use Rattle.message_report.specs.declared.file.MessageFile.{MessageFile}
+
+-- A text; or the writer failed, and took a beginning of it, or memory ran out, and it took nothing.
+abbrev pub IsPrintedText : List ℕ → Option (List ℕ) → Option (List ℕ) → Result (Unit {0}) ReportError → Type 0
+IsPrintedText text old new (Ok done) = Appends old new text
+IsPrintedText text old new (Err Write) = IsPartWritten old new text
+IsPrintedText text old new (Err Memory) = Keeps old new
 
 -- The report and its counts; or the writer failed, and took a beginning of the report, or memory
 -- ran out, and it took nothing.

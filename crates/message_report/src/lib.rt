@@ -53,7 +53,7 @@ pub use found::Found;
 pub use message_set::category_set;
 pub use place::{ArgumentPlace, LocalePlace, MessagePlace, PatternPlace, Place};
 pub use report::report_text;
-pub use report_printer::{ReportLines, ReportPrinter};
+pub use report_printer::{ReportLines, ReportPrinter, write_text};
 pub use rule_texts::RuleTexts;
 pub use severity::Severity;
 pub use source::RulesOfLocales;

@@ -48,7 +48,7 @@ impl<'a> LinePrinter<Finding<'a>> for FindingLines {
 }
 
 // The line with the counts.
-fn counts_line(alloc: Global, counts: Counts) -> Result<String, AllocError>
+pub(crate) fn counts_line(alloc: Global, counts: Counts) -> Result<String, AllocError>
     ensures { IfOk result (λ line. string_bytes line ≡ message_counts_line counts) }
 {
     let notes = notes_text(alloc, counts.notes)?;

@@ -15,6 +15,7 @@ pub mod RangeNames
 pub mod RightTokens
 pub mod RulesMeant
 pub mod TextValues
+pub mod WaitingLemmas
 pub mod WalkLemmas
 pub mod KeyLemmas
 pub mod KeyWalks

@@ -2,3 +2,4 @@
 pub mod OutlineSteps
 pub mod KeysStanding
 pub mod RulesPlaces
+pub mod WaitingSteps

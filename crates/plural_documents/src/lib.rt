@@ -17,6 +17,7 @@ mod repeated_key;
 mod rules_check;
 mod rules_place;
 mod tokens_left;
+mod written_lines;
 
 pub use counts::{MOST_TOLD, sum};
 pub use document_tokens::JsonTextError;
@@ -32,3 +33,4 @@ pub use outline::{Portion, Sieve, json_outline};
 pub use output::{OutputError, write_output};
 pub use printed_key::{PrintedKey, key_text, name_text, printed_name};
 pub use repeated_key::{KeyPath, RepeatedKey, repeated_keys};
+pub use written_lines::{WaitingBytes, write_lines};

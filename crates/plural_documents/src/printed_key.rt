@@ -8,7 +8,7 @@ ghost use Rattle.plural_documents.specs.PrintedKeys.{byte_escape, escaped_key, i
 ghost use Rattle.plural_documents.specs.PrintedKeys.{name_text, printed_byte};
 
 use std::alloc::{AllocError, Global};
-use std::fmt;
+use std::{fmt, str};
 
 // The most bytes that a name prints.
 const MOST_NAME_BYTES: usize = 64;
@@ -118,24 +118,26 @@ fn is_plain(c: u32) -> bool
     c >= 32 && c != 92 && c != 127
 }
 
-// Writes the escape of a byte.
+// Writes the escape of a byte, as one text.
 fn write_escape<W: fmt::Write>(byte: u8, f: &mut fmt::Formatter<W>) -> fmt::Result
     ensures { DisplaysOnOk W.write_str_gives f.old result (Some (byte_escape byte)) f.new }
 {
-    f.write_str("\\x")?;
-    f.write_char(digit_char(byte / 16))?;
-    f.write_char(digit_char(byte % 16))
+    let escape = [b'\\', b'x', digit(byte / 16), digit(byte % 16)];
+    match str::from_utf8(&escape) {
+        Ok(text) => f.write_str(text),
+        Err(_) => unreachable!(),
+    }
 }
 
 // A hexadecimal digit.
-fn digit_char(digit: u8) -> char
-    requires { digit < 16 }
-    ensures value { result ≡ digit_char digit }
+fn digit(number: u8) -> u8
+    requires { number < 16 }
+    ensures value { result ≡ digit_char number }
     ensures ascii { result < 128 }
 {
-    if digit < 10 {
-        (b'0' + digit) as char
+    if number < 10 {
+        b'0' + number
     } else {
-        (b'a' - 10 + digit) as char
+        b'a' - 10 + number
     }
 }

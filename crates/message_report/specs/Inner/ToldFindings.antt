@@ -1,18 +1,14 @@
 -- Not a definition of the subject: what is told of the faults of a pattern, by how many come before
--- them; and a report with its counts, before it is written.
+-- them.
 use Rattle.std.specs.Prelude.{◌≡◌, ℕ, ◌+◌, nat_lt, List, [], ◌∷◌, ◌++◌, length, if◌then◌else◌}
 use Rattle.message_pattern.specs.PatternParts.{Selector}
 use Rattle.message_report.specs.FindingCauses.{severity_of}
 use Rattle.message_report.specs.FoundInMessages.{MessageFound, counted_alone, faults_of_severity, message_finding_at, nothing_found_in_messages, one_finding, messages_together}
 use Rattle.message_report.specs.MessageFindings.{MessageFinding}
 use Rattle.message_report.specs.MessagePlaces.{FilePlace}
-use Rattle.message_report.specs.MessagesReport.{most_compared, IsFoundInFiles}
+use Rattle.message_report.specs.MessagesReport.{most_compared}
 use Rattle.plural_documents.specs.PrintedKeys.{most_told}
-use Rattle.message_report.specs.MessagesReportText.{counts_found}
-use Rattle.message_report.specs.RulesSource.{RulesSource}
 use Rattle.message_report.specs.declared.cause.Cause.{Cause}
-use Rattle.message_report.specs.declared.counts.Counts.{Counts}
-use Rattle.message_report.specs.declared.file.MessageFile.{MessageFile}
 use Rattle.std.proofs.Common.{refl, append_assoc}
 use Rattle.std.proofs.Math.Nat.{add_assoc, add-zero}
 use Rattle.std.proofs.lemmas.List.{append-nil}
@@ -49,10 +45,6 @@ TellsThose Are before old count new = (findings : List MessageFinding) × Are fi
 -- one selector more, unless there are many
 abbrev pub remembered : List Selector → Selector → List Selector
 remembered seen selector = if nat_lt (length seen) most_compared then seen ++ selector ∷ [] else seen
-
-abbrev pub IsMade : (MessageFound → List ℕ) → RulesSource → List MessageFile → List ℕ → Counts → Type 0
-IsMade text_of source files text counts =
-    (found : MessageFound) × IsFoundInFiles source files found × (text ≡ text_of found) × (counts ≡ counts_found found)
 
 -- ---- what is found, put together
 
