@@ -1,12 +1,9 @@
--- Texts that are equal, and lists whose oldest element stands at a place.
-use Rattle.std.proofs.Common.{◌≡◌, ◌∷◌, ◌++◌, ◌+◌, ◌-◌, ◌%◌, ◌<◌, ◌≤◌, ℕ, List, [], Bool, true, Option, Some, None, All, Contains, length}
-use Rattle.std.proofs.Common.{drop, map, take, append_assoc, arith, refl, ap, sym, subst, ◌∙◌, slice_set, inl, inr}
-use Rattle.std.proofs.Math.Nat.{eq-or-lt_of_le, mod-eq_of_lt, mod_self}
+-- Texts that are equal, and lists of which the last ones are kept.
+use Rattle.std.proofs.Common.{◌≡◌, ◌∷◌, ◌++◌, ◌+◌, ◌-◌, ◌<◌, ℕ, List, [], Bool, true, Option, Some, None, All, Contains, IfNone, IfSome, length}
+use Rattle.std.proofs.Common.{drop, map, arith, refl, ap, sym, subst, ◌∙◌}
 use Rattle.std.proofs.lemmas.Bool.Decides.{Decides-and, Decides-like}
-use Rattle.std.proofs.lemmas.List.{append-nil, drop-append-le, drop-map, drop-set-lt, drop_all, drop_more, get_or-map, length-append}
-use Rattle.std.proofs.lemmas.List.{length-map, length-set, map-append, take-append-drop, take_all, take_more_set}
-use Rattle.std.proofs.lemmas.List.Elements.{All-append, All-drop, All-take, Contains-append_cases, Contains-append_left}
-use Rattle.std.proofs.lemmas.List.Elements.{Contains-append_right}
+use Rattle.std.proofs.lemmas.List.{drop-map, get_or-map, length-map, map-append}
+use Rattle.std.proofs.lemmas.List.Elements.{All-append, All-drop, All-get_or, All-map, All-push, Contains-append_left, Contains-append_right}
 use Rattle.std.proofs.lemmas.Slice.Eq.{bytes_eq-Decides}
 use Rattle.std.specs.Bool.{Decides}
 use Rattle.std.specs.Borrow.{Bor}
@@ -61,90 +58,60 @@ texts_decide a b =
     (Decides-and _ _ (text_decides a.few b.few)
     (Decides-and _ _ (text_decides a.many b.many) (text_decides a.other b.other))))))
 
--- ---- A list whose oldest element stands at a place, in the order of age
+-- ---- Lists of which the last ones are kept
 
--- the elements from a place on, then those before it
-abbrev pub turned : {X : Type 0} → ℕ → List X → List X
-turned at xs = drop at xs ++ take at xs
+-- what holds of all holds of one of them
+pub of_one : {X : Type 0} (P : X → Type 0) (xs : List X) (x : X) → All P xs → Contains xs x → P x
+of_one P xs x all among = subst P among.2 (All-get_or P xs among.0 x among.1 all)
 
-pub All-turned : {X : Type 0} (P : X → Type 0) (at : ℕ) (xs : List X) → All P xs → All P (turned at xs)
-All-turned P at xs all = All-append P (drop at xs) (take at xs) (All-drop P at xs all) (All-take P at xs all)
+-- what holds where another holds
+pub if_some : {A : Type 0} {P Q : A → Type 0} (found : Option A) → ((x : A) → P x → Q x) → IfSome found P → IfSome found Q
+if_some None gives h = tt
+if_some (Some x) gives h = gives x h
 
-pub Contains-turned : {X : Type 0} (at : ℕ) (xs : List X) (x : X) → Contains xs x → Contains (turned at xs) x
-Contains-turned {X} at xs x in' =
-    let split = subst (λ (l : List X). Contains l x) (sym (take-append-drop at xs)) in' in
-    elim (Contains-append_cases (take at xs) (drop at xs) x split) [
-      | inl early ↦ Contains-append_right (drop at xs) (take at xs) x early
-      | inr late ↦ Contains-append_left (drop at xs) (take at xs) x late
-    ]
+module _ {X Y : Type 0} (f : X → Y) where
+  -- what is among the first is among all
+  pub among_first : (xs ys all : List X) (y : Y) → xs ++ ys ≡ all → Contains (map f xs) y → Contains (map f all) y
+  among_first xs ys all y is h =
+      subst (λ (l : List X). Contains (map f l) y) is
+      (subst (λ (l : List Y). Contains l y) (sym (map-append f xs ys)) (Contains-append_left (map f xs) (map f ys) y h))
 
+  -- what is among the last is among all
+  pub among_last : (xs ys all : List X) (y : Y) → xs ++ ys ≡ all → Contains (map f ys) y → Contains (map f all) y
+  among_last xs ys all y is h =
+      subst (λ (l : List X). Contains (map f l) y) is
+      (subst (λ (l : List Y). Contains l y) (sym (map-append f xs ys)) (Contains-append_right (map f xs) (map f ys) y h))
+
+  -- what holds of the first and of the last holds of all
+  pub none_among : {A : Type 0} (P : Y → Type 0) (xs ys all : List X) (seen : List Y) → xs ++ ys ≡ all → map f all ≡ seen
+      → All (λ x. P (f x)) ys → (found : Option A) → IfNone found (All (λ x. P (f x)) xs) → IfNone found (All P seen)
+  none_among P xs ys all seen is view later None older =
+      subst (λ (l : List Y). All P l) view (All-map P f all (subst (λ (l : List X). All (λ x. P (f x)) l) is (All-append (λ x. P (f x)) xs ys older later)))
+  none_among P xs ys all seen is view later (Some a) older = tt
+
+  -- where as many are kept as may be, the oldest one goes for one more
+  pub kept_behind : (most : ℕ) (xs pushed popped : List X) (x : X) → length xs ≡ most + 1 → pushed ≡ xs ++ x ∷ []
+      → popped ≡ drop 1 pushed → map f popped ≡ drop (length (map f xs) - most) (map f xs ++ f x ∷ [])
+  kept_behind most xs pushed popped x full push pop =
+      let one : length (map f xs) - most ≡ 1 = omega (arith, length-map xs f, full) in
+      ap (map f) (pop ∙ ap (drop 1) push)
+      ∙ sym (drop-map f 1 (xs ++ x ∷ []))
+      ∙ ap (drop 1) (map-append f xs (x ∷ []))
+      ∙ ap (λ k. drop k (map f xs ++ f x ∷ [])) (sym one)
+
+  -- what holds of all holds of the last ones
+  pub all_last : (P : Y → Type 0) (n : ℕ) (xs : List X) → All P (map f xs) → All P (map f (drop n xs))
+  all_last P n xs all = subst (λ (l : List Y). All P l) (drop-map f n xs) (All-drop P n (map f xs) all)
+
+  -- and of one more of which it holds
+  pub all_more : (P : Y → Type 0) (xs : List X) (x : X) → All P (map f xs) → P (f x) → All P (map f (xs ++ x ∷ []))
+  all_more P xs x all one =
+      subst (λ (l : List Y). All P l) (sym (map-append f xs (x ∷ []))) (All-push P (map f xs) (f x) all one)
+
+-- what is among some is among what they become
 pub Contains-map : {X Y : Type 0} (f : X → Y) (xs : List X) (x : X) → Contains xs x → Contains (map f xs) (f x)
 Contains-map f xs x in' = (
   in'.0,
   subst (λ n. in'.0 < n) (sym (length-map xs f)) in'.1,
   get_or-map f xs in'.0 x (f x) in'.1 ∙ ap f in'.2,
 )
-
--- an element at the end, while the first is the oldest
-turned-push : {X : Type 0} (xs : List X) (x : X) → turned 0 (xs ++ x ∷ []) ≡ turned 0 xs ++ x ∷ []
-turned-push xs x = append-nil (xs ++ x ∷ []) ∙ ap (λ l. l ++ x ∷ []) (sym (append-nil xs))
-
--- an element in place of the oldest one, after which the next is the oldest
-turned-set : {X : Type 0} (n at : ℕ) (xs : List X) (x : X) → length xs ≡ n → at < n
-    → turned ((at + 1) % n) (slice_set xs at x) ≡ drop 1 (turned at xs) ++ x ∷ []
-turned-set {X} n at xs x all within =
-    let there : at < length xs = omega arith in
-    let rest : drop 1 (turned at xs) ≡ drop (at + 1) xs ++ take at xs =
-    ap (λ l. drop 1 (l ++ take at xs)) (drop_more xs at x there) in
-    let before : take (at + 1) (slice_set xs at x) ≡ take at xs ++ x ∷ [] = take_more_set xs at x there in
-    let next : at + 1 ≤ n = omega arith in
-    elim (eq-or-lt_of_le next) [
-      | inl last ↦
-          let zero : (at + 1) % n ≡ 0 = ap (λ k. k % n) last ∙ mod_self n in
-          let whole : take (at + 1) (slice_set xs at x) ≡ slice_set xs at x =
-          take_all (at + 1) (slice_set xs at x) (omega (arith, length-set xs at x)) in
-          let none : drop (at + 1) xs ≡ [] = drop_all (at + 1) xs (omega arith) in
-          ap (λ k. turned k (slice_set xs at x)) zero ∙ append-nil (slice_set xs at x) ∙ sym whole ∙ before
-          ∙ ap (λ l. l ++ take at xs ++ x ∷ []) (sym none)
-          ∙ ap (λ l. l ++ x ∷ []) (sym rest)
-      | inr more ↦
-          ap (λ k. turned k (slice_set xs at x)) (mod-eq_of_lt more)
-          ∙ ap (λ l. l ++ take (at + 1) (slice_set xs at x)) (drop-set-lt (at + 1) xs at x (omega arith))
-          ∙ ap (λ l. drop (at + 1) xs ++ l) before
-          ∙ sym (append_assoc (drop (at + 1) xs) (take at xs) (x ∷ []))
-          ∙ ap (λ l. l ++ x ∷ []) (sym rest)
-    ]
-
-length-turned : {X : Type 0} (at : ℕ) (xs : List X) → length (turned at xs) ≡ length xs
-length-turned at xs =
-    omega (
-      arith,
-      length-append (drop at xs) (take at xs),
-      length-append (take at xs) (drop at xs),
-      ap length (take-append-drop at xs),
-    )
-
--- what is kept where fewer are kept than may be: all of them, and the new one
-pub kept_at_end : {X Y : Type 0} (f : X → Y) (most at : ℕ) (xs ys : List X) (x : X) → ys ≡ xs ++ x ∷ [] → at ≡ 0 → length xs ≤ most
-    → map f (turned at ys) ≡ drop (length (map f (turned at xs)) - most) (map f (turned at xs) ++ f x ∷ [])
-kept_at_end f most at xs ys x pushed first fewer =
-    let old = map f (turned 0 xs) in
-    let length_is : length old ≡ length xs = length-map (turned 0 xs) f ∙ length-turned 0 xs in
-    let all : length old - most ≡ 0 = omega arith in
-    rw (pushed, first)
-    (ap (map f) (turned-push xs x) ∙ map-append f (turned 0 xs) (x ∷ []) ∙ sym (ap (λ k. drop k (old ++ f x ∷ [])) all))
-
--- what is kept where as many are kept as may be: all but the oldest one, and the new one
-pub kept_in_place : {X Y : Type 0} (f : X → Y) (most at : ℕ) (xs : List X) (x : X) → length xs ≡ most + 1 → at < most + 1
-    → map f (turned ((at + 1) % (most + 1)) (slice_set xs at x))
-    ≡ drop (length (map f (turned at xs)) - most) (map f (turned at xs) ++ f x ∷ [])
-kept_in_place f most at xs x all within =
-    let old = map f (turned at xs) in
-    let length_is : length old ≡ length xs = length-map (turned at xs) f ∙ length-turned at xs in
-    let one : length old - most ≡ 1 = omega arith in
-    let some : 1 ≤ length old = omega arith in
-    ap (map f) (turned-set (most + 1) at xs x all within)
-    ∙ map-append f (drop 1 (turned at xs)) (x ∷ [])
-    ∙ ap (λ l. l ++ f x ∷ []) (sym (drop-map f 1 (turned at xs)))
-    ∙ sym (drop-append-le 1 old (f x ∷ []) some)
-    ∙ sym (ap (λ k. drop k (old ++ f x ∷ [])) one)

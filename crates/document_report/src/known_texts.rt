@@ -1,10 +1,12 @@
 //! What was found in the texts of languages a short while ago.
 
-ghost use Rattle.std.specs.Prelude.{◌≡◌, ◌≢◌, ◌-◌, ◌∷◌, ◌++◌, [], All, Contains, IfNone, IfSome, OnErr, OnOk, drop, length};
+ghost use Rattle.std.specs.Prelude.{◌≡◌, ◌≢◌, ◌-◌, ◌∷◌, ◌++◌, [], All, Contains, IfNone, IfSome, OnErr, OnOk, drop, length, map};
 ghost use Rattle.plural_checker.specs.LanguageTexts.{six_texts};
+ghost use Rattle.document_report.specs.Inner.CheckCalls.{texts_found};
 
 use plural_checker::LanguageTexts;
 use std::alloc::{AllocError, Global};
+use std::collections::VecDeque;
 use std::marker::Model;
 
 // How many languages are kept. CLDR 48 has 39 sets of texts for cardinal numbers and 24 for ordinal
@@ -31,23 +33,20 @@ struct Language<'a, F> {
 /// oldest first.
 #[derive(Debug, Drop)]
 pub struct KnownTexts<'a, F: FoundInTexts> {
-    languages: Vec<Language<'a, F>>,
-    // The place of the oldest one, once there are as many as are kept.
-    oldest: usize,
+    languages: VecDeque<Language<'a, F>>,
 }
 
 impl<'a, F: FoundInTexts> Model for KnownTexts<'a, F> {
-    ghost use Rattle.std.specs.Prelude.{◌≡◌, ◌<◌, ◌≤◌, ◌++◌, List, All, drop, length, map, take};
-    ghost use Rattle.plural_checker.specs.LanguageTexts.{six_texts, SixTexts};
+    ghost use Rattle.std.specs.Prelude.{◌≤◌, List, All, length, map};
+    ghost use Rattle.plural_checker.specs.LanguageTexts.{SixTexts};
+    ghost use Rattle.document_report.specs.Inner.CheckCalls.{texts_found};
 
     ghost Value = { List (SixTexts × F) };
 
-    ghost view = { λ known. let languages = known.languages.items in
-        map (λ language. (six_texts language.texts, language.found)) (drop known.oldest languages ++ take known.oldest languages) };
+    ghost view = { λ known. map texts_found known.languages.items };
 
-    ghost invariant = { λ known. let languages = known.languages.items in
-        All (λ language. F.IsFoundIn language.found (six_texts language.texts)) languages
-        × (known.oldest < 64) × (length languages ≤ 64) × (length languages < 64 → known.oldest ≡ 0) };
+    ghost invariant = { λ known. All (λ language. F.IsFoundIn language.1 language.0) (map texts_found known.languages.items)
+        × (length known.languages.items ≤ 64) };
 }
 
 impl<'a, F: FoundInTexts> KnownTexts<'a, F> {
@@ -56,8 +55,7 @@ impl<'a, F: FoundInTexts> KnownTexts<'a, F> {
         ensures { result ≡ [] }
     {
         KnownTexts {
-            languages: Vec::new(alloc),
-            oldest: 0,
+            languages: VecDeque::new(alloc),
         }
     }
 
@@ -67,12 +65,11 @@ impl<'a, F: FoundInTexts> KnownTexts<'a, F> {
         ensures kept { IfSome result (λ found. Contains self.now (six_texts texts.now, found)) }
         ensures none { IfNone result (All (λ language. language.0 ≢ six_texts texts.now) self.now) }
     {
-        for language in &self.languages {
-            if language.texts == *texts {
-                return Some(language.found);
-            }
+        let (older, later) = self.languages.as_slices();
+        match found_among(later, texts) {
+            Some(found) => Some(found),
+            None => found_among(older, texts),
         }
-        None
     }
 
     /// Keeps what is found in texts, in place of the oldest ones if there are 64. It allocates; the
@@ -83,13 +80,26 @@ impl<'a, F: FoundInTexts> KnownTexts<'a, F> {
         ensures ok { OnOk result (self.new ≡ drop (length self.old - 63) (self.old ++ (six_texts texts.entry, found) ∷ [])) }
         ensures err { OnErr result (self.new ≡ self.old) }
     {
-        let language = Language { texts, found };
-        if self.languages.len() < MOST {
-            self.languages.push(language)?;
-            return Ok(());
+        self.languages.push_back(Language { texts, found })?;
+        if self.languages.len() > MOST {
+            drop(self.languages.pop_front());
         }
-        self.languages[self.oldest] = language;
-        self.oldest = (self.oldest + 1) % MOST;
         Ok(())
     }
+}
+
+// What is found in texts, if the same are among these.
+fn found_among<F: FoundInTexts>(
+    languages: &[Language<'_, F>],
+    texts: &LanguageTexts<'_>,
+) -> Option<F>
+    ensures kept { IfSome result (λ found. Contains (map texts_found languages.now) (six_texts texts.now, found)) }
+    ensures none { IfNone result (All (λ language. six_texts language.texts ≢ six_texts texts.now) languages.now) }
+{
+    for language in languages {
+        if language.texts == *texts {
+            return Some(language.found);
+        }
+    }
+    None
 }

@@ -10,6 +10,8 @@ use Rattle.document_report.specs.declared.error.CheckError.{CheckError}
 use Rattle.document_report.specs.declared.error.CheckError.TheVariants.{Read, TooLong, Memory}
 use Rattle.document_report.specs.declared.run.Answer.{Answer as CodeAnswer}
 use Rattle.plural_checker.specs.declared.Fault.{Fault}
+use Rattle.plural_checker.specs.LanguageTexts.{six_texts, SixTexts}
+use Rattle.document_report.specs.declared.known_texts.Language.{Language}
 use Rattle.document_report.specs.DocumentFindings.{Finding}
 use Rattle.document_report.specs.DocumentPlaces.{LocalePlace}
 use Rattle.document_report.specs.DocumentReport.{text_finding}
@@ -60,6 +62,10 @@ GivesAfterReading = GivesByReading check_origin answer_view
 -- the finding of a fault, if few enough of the same text come before it
 abbrev pub told_after : LocalePlace → ℕ → Fault → List Finding
 told_after place before fault = if nat_lt before most_told then text_finding place fault ∷ [] else []
+
+-- the texts of a language, and what is found in them
+abbrev pub texts_found : {F : Type 0} → Language F → SixTexts × F
+texts_found language = (six_texts language.texts, language.found)
 
 -- ---- what is found, put together
 

@@ -1,59 +1,45 @@
-use Rattle.std.proofs.Common.{◌≡◌, ◌≢◌, List, All, Contains, take, sym, subst, ◌∙◌}
-use Rattle.std.proofs.lemmas.Bool.Decides.{not_from_Decides}
-use Rattle.std.proofs.lemmas.List.{take_all}
-use Rattle.std.proofs.lemmas.List.Elements.{All-get_or, All-map, All-more}
+use Rattle.std.proofs.Common.{◌≢◌, List, Contains, subst}
 use Rattle.plural_checker.specs.LanguageTexts.{six_texts, SixTexts}
-use Rattle.document_report.specs.declared.known_texts.Language.{Language}
-use Rattle.document_report.proofs.KeptTexts.{texts_decide, turned, All-turned, Contains-map, Contains-turned}
+use Rattle.document_report.specs.Inner.CheckCalls.{texts_found}
+use Rattle.document_report.proofs.KeptTexts.{among_first, among_last, if_some, none_among, of_one}
 use Rattle.document_report.proofs.known_texts.KnownTexts.found_in.Goals as goal
 
-pub returns-then-eq-clause-found : goal.returns-then-eq-clause-found
-returns-then-eq-clause-found g c =
-    let known = c.language-item.result in
-    let texts = c.args.texts.now in
-    let Holds = λ (l : Language g.row.F.Denot). g.F.FoundInTexts.IsFoundIn l.found (six_texts l.texts) in
-    let items = c.deref-language-items.result.now in
-    let lent = c.deref-language-items.ensures.value in
-    let same : six_texts known.texts ≡ six_texts texts = (texts_decide known.texts texts).0 (sym c.eq.ensures ∙ c.if-eq.true) in
-    let all : All Holds items = subst (λ (l : List (Language g.row.F.Denot)). All Holds l) (sym lent) c.self.invariant.0 in
-    subst (g.F.FoundInTexts.IsFoundIn known.found) same
-    (subst Holds (sym c.language-item.is) (All-get_or Holds items c.loop-language.language-index known c.loop-language-test.true all))
+pub returns-in-Some-clause-found : goal.returns-in-Some-clause-found
+returns-in-Some-clause-found g c =
+    let slices = c.as_slices.result in
+    let one : SixTexts × g.row.F.Denot = (six_texts c.args.texts.now, c.in-Some.found) in
+    of_one (λ (e : SixTexts × g.row.F.Denot). g.F.FoundInTexts.IsFoundIn e.1 e.0) _ one c.self.invariant.0
+    (among_last texts_found slices.0.now slices.1.now _ one c.as_slices.ensures.items c.in-Some.ensures.kept)
 
-pub returns-then-eq-clause-kept : goal.returns-then-eq-clause-kept
-returns-then-eq-clause-kept g c =
-    let known = c.language-item.result in
-    let texts = c.args.texts.now in
-    let entry : Language g.row.F.Denot → SixTexts × g.row.F.Denot = λ l. (six_texts l.texts, l.found) in
-    let items = c.self.inside.languages.items in
-    let lent = c.deref-language-items.ensures.value in
-    let same : six_texts known.texts ≡ six_texts texts = (texts_decide known.texts texts).0 (sym c.eq.ensures ∙ c.if-eq.true) in
-    let among : Contains items known =
-    subst (λ (l : List (Language g.row.F.Denot)). Contains l known) lent
-    (c.loop-language.language-index, c.loop-language-test.true, sym c.language-item.is) in
-    let kept = Contains-map entry _ known (Contains-turned c.self.inside.oldest items known among) in
-    subst (λ t. Contains c.args.self.now (t, known.found)) same
-    (subst (λ (l : List (SixTexts × g.row.F.Denot)). Contains l (entry known)) c.self.view_is kept)
+pub returns-in-Some-clause-kept : goal.returns-in-Some-clause-kept
+returns-in-Some-clause-kept g c =
+    let slices = c.as_slices.result in
+    let one : SixTexts × g.row.F.Denot = (six_texts c.args.texts.now, c.in-Some.found) in
+    subst (λ (l : List (SixTexts × g.row.F.Denot)). Contains l one) c.self.view_is
+    (among_last texts_found slices.0.now slices.1.now _ one c.as_slices.ensures.items c.in-Some.ensures.kept)
 
-pub loop-language-preserved : goal.loop-language-preserved
-loop-language-preserved g c =
-    let known = c.language-item.result in
-    let texts = c.args.texts.now in
-    let Other = λ (l : Language g.row.F.Denot). six_texts l.texts ≢ six_texts texts in
-    let items = c.deref-language-items.result.now in
-    let at = c.loop-language.language-index in
-    All-more Other items at known c.loop-language-test.true c.loop-language.invariant
-    (subst Other c.language-item.is (not_from_Decides _ (texts_decide known.texts texts) (sym c.eq.ensures ∙ c.if-eq.false)))
+pub returns-in-None-clause-found : goal.returns-in-None-clause-found
+returns-in-None-clause-found g c =
+    let slices = c.as_slices.result in
+    let texts = six_texts c.args.texts.now in
+    if_some c.found_among-in-None.result
+    (λ found among.
+    of_one (λ (e : SixTexts × g.row.F.Denot). g.F.FoundInTexts.IsFoundIn e.1 e.0) _ (texts, found) c.self.invariant.0
+    (among_first texts_found slices.0.now slices.1.now _ (texts, found) c.as_slices.ensures.items among))
+    c.found_among-in-None.ensures.kept
 
-pub returns-clause-none : goal.returns-clause-none
-returns-clause-none g c =
-    let texts = c.args.texts.now in
-    let Other = λ (l : Language g.row.F.Denot). six_texts l.texts ≢ six_texts texts in
-    let entry : Language g.row.F.Denot → SixTexts × g.row.F.Denot = λ l. (six_texts l.texts, l.found) in
-    let OtherEntry = λ (e : SixTexts × g.row.F.Denot). e.0 ≢ six_texts texts in
-    let items = c.self.inside.languages.items in
-    let lent = c.deref-language-items.ensures.value in
-    let looked : take c.loop-language.language-index c.deref-language-items.result.now ≡ items =
-    take_all c.loop-language.language-index c.deref-language-items.result.now c.loop-language-test.false ∙ lent in
-    let all : All Other items = subst (λ (l : List (Language g.row.F.Denot)). All Other l) looked c.loop-language.invariant in
-    subst (λ (l : List (SixTexts × g.row.F.Denot)). All OtherEntry l) c.self.view_is
-    (All-map OtherEntry entry (turned c.self.inside.oldest items) (All-turned Other c.self.inside.oldest items all))
+pub returns-in-None-clause-kept : goal.returns-in-None-clause-kept
+returns-in-None-clause-kept g c =
+    let slices = c.as_slices.result in
+    let texts = six_texts c.args.texts.now in
+    if_some c.found_among-in-None.result
+    (λ found among.
+    subst (λ (l : List (SixTexts × g.row.F.Denot)). Contains l (texts, found)) c.self.view_is
+    (among_first texts_found slices.0.now slices.1.now _ (texts, found) c.as_slices.ensures.items among))
+    c.found_among-in-None.ensures.kept
+
+pub returns-in-None-clause-none : goal.returns-in-None-clause-none
+returns-in-None-clause-none g c =
+    let slices = c.as_slices.result in
+    none_among texts_found (λ (e : SixTexts × g.row.F.Denot). e.0 ≢ six_texts c.args.texts.now) slices.0.now slices.1.now _ _
+    c.as_slices.ensures.items c.self.view_is c.in-None.ensures.none c.found_among-in-None.result c.found_among-in-None.ensures.none
