@@ -109,14 +109,7 @@ fn texts_at(rules: Option<&Value>) -> LanguageTexts<'_>
 {
     match rules {
         Some(rules) => texts_of(rules),
-        None => LanguageTexts {
-            zero: None,
-            one: None,
-            two: None,
-            few: None,
-            many: None,
-            other: None,
-        },
+        None => LanguageTexts::default(),
     }
 }
 

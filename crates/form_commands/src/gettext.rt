@@ -15,6 +15,7 @@ use icu_plurals::provider::PluralRulesData;
 use icu_plurals::provider::rules::runtime::ast::Rule;
 use icu_plurals::{PluralCategory, PluralOperands, PluralRules};
 use number_categories::least_of_each;
+use plural_base::at_category;
 use serde_json::Value;
 use std::alloc::{AllocError, Global};
 
@@ -173,12 +174,5 @@ fn rule_for<'a, 'data>(
 ) -> Option<&'a Rule<'data>>
     ensures { option_copied result ≡ rule_for (rules_of five.now) category }
 {
-    match category {
-        PluralCategory::Zero => five.zero.as_ref(),
-        PluralCategory::One => five.one.as_ref(),
-        PluralCategory::Two => five.two.as_ref(),
-        PluralCategory::Few => five.few.as_ref(),
-        PluralCategory::Many => five.many.as_ref(),
-        PluralCategory::Other => None,
-    }
+    at_category!(five, category, |rule| rule.as_ref(), None)
 }

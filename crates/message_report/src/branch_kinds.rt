@@ -10,7 +10,7 @@ ghost use Rattle.message_report.specs.PatternBranches.{has_category_branch};
 
 use icu_plurals::{Five, PluralCategory};
 use message_pattern::{Part, Piece, Selector};
-use plural_base::at_category;
+use plural_base::{at_category, make_five};
 
 // Whether an argument has branches by numbers, and of which categories it has branches.
 #[derive(Clone, Copy)]
@@ -48,13 +48,7 @@ impl BranchKinds {
     {
         BranchKinds {
             number: false,
-            categories: Five {
-                zero: false,
-                one: false,
-                two: false,
-                few: false,
-                many: false,
-            },
+            categories: make_five!(Five, |_category| false),
             other: false,
         }
     }

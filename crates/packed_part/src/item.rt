@@ -308,9 +308,9 @@ fn holds(item: &[u8], part: Part<'_>, places: &[u8]) -> bool
     }
 }
 
-/// Returns whether an item is that of a part with these bytes of places.
+// Whether an item is that of a part with these bytes of places.
 #[inline(always)]
-pub fn is_item_of(item: &[u8], part: Part<'_>, places: &[u8]) -> bool
+pub(crate) fn is_item_of(item: &[u8], part: Part<'_>, places: &[u8]) -> bool
     ensures { result ≡ bytes_eq item.now (part_item_bytes (part_view part.entry) places.now) }
 {
     holds(item, part, places)

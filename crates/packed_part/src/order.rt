@@ -52,8 +52,8 @@ fn depth_behind(part: Part<'_>) -> usize
     }
 }
 
-/// Returns whether a part may stand behind another one.
-pub fn may_follow(before: Part<'_>, part: Part<'_>) -> bool
+// Whether a part may stand behind another one.
+fn may_follow(before: Part<'_>, part: Part<'_>) -> bool
     requires before { before.depth ≤ 255 }
     requires part { part.depth ≤ 255 }
     ensures { result ≡ may_follow (part_view before.entry) (part_view part.entry) }

@@ -70,8 +70,8 @@ impl PlaceBytes {
     }
 }
 
-/// Returns a number as two bytes, the lower one first.
-pub fn two_bytes(number: usize) -> [u8; 2]
+// A number as two bytes, the lower one first.
+pub(crate) fn two_bytes(number: usize) -> [u8; 2]
     requires { number ≤ 65535 }
     ensures { result ≡ two_bytes number }
 {

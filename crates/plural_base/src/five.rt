@@ -126,9 +126,10 @@ macro_rules! for_five {
     };
 }
 
-// Does something for a `&mut` reference to each field of a struct with the fields `zero` to `many`,
-// in this order, and its category if that is named or, where another such struct is named, a reference
-// to its field there, and its category if that is named too.
+/// Does something for a `&mut` reference to each field of a struct with the fields `zero` to `many`,
+/// in this order, and its category if that is named or, where another such struct is named, a
+/// reference to its field there, and its category if that is named too.
+#[macro_export]
 macro_rules! put_five {
     ($into:expr, |$place:ident, $category:ident| $step:expr) => {
         let $place = &mut $into.zero;
@@ -170,8 +171,6 @@ macro_rules! put_five {
         $step;
     };
 }
-
-pub(crate) use put_five;
 
 /// Gives what the expression gives for a reference to the field of a category, of a struct with the
 /// fields `zero` to `many`, or the last expression for other.

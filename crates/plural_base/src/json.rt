@@ -1,5 +1,6 @@
 //! Rules, ranges and documents as JSON.
 
+mod category_values;
 mod checks;
 pub(crate) mod error;
 pub(crate) mod float;

@@ -15,7 +15,7 @@ use crate::texts::LanguageTexts;
 use icu_plurals::provider::PluralRulesData;
 use icu_plurals::provider::rules::runtime::ast::Rule as PackedRule;
 use icu_plurals::{Five, PluralCategory, PluralRules};
-use plural_base::for_five;
+use plural_base::{for_five, put_five};
 use std::alloc::{AllocError, Global};
 use std::mem;
 
@@ -112,11 +112,8 @@ fn put_read<'a>(
 ) -> Result<(), AllocError>
     ensures { OnOk result (five.new ≡ (six_texts texts.now).five) }
 {
-    put_text(alloc, texts.zero, &mut five.zero)?;
-    put_text(alloc, texts.one, &mut five.one)?;
-    put_text(alloc, texts.two, &mut five.two)?;
-    put_text(alloc, texts.few, &mut five.few)?;
-    put_text(alloc, texts.many, &mut five.many)
+    put_five!(five, texts, |place, text| put_text(alloc, *text, place)?);
+    Ok(())
 }
 
 // Puts what a text is read as in its place.
@@ -200,11 +197,8 @@ fn put_packed(
     ensures ok { OnOk result (AreRulesIfRead five.now (Some (rules_of packed.new))) }
     ensures refused { IfErr result (λ why. IfRefused why (AreRulesIfRead five.now None)) }
 {
-    put_rule(alloc, &five.zero, &mut packed.zero)?;
-    put_rule(alloc, &five.one, &mut packed.one)?;
-    put_rule(alloc, &five.two, &mut packed.two)?;
-    put_rule(alloc, &five.few, &mut packed.few)?;
-    put_rule(alloc, &five.many, &mut packed.many)
+    put_five!(packed, five, |place, text| put_rule(alloc, text, place)?);
+    Ok(())
 }
 
 // Puts the packed rule of a text in its place.

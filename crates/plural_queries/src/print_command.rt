@@ -14,6 +14,7 @@ use crate::error::RunError;
 use icu_plurals::provider::rules::runtime::ast::Rule;
 use icu_plurals::provider::{PluralRulesData, RawPluralCategory};
 use icu_plurals::{PluralCategory, PluralRuleType};
+use plural_base::for_five;
 use std::alloc::{AllocError, Global};
 use std::borrow::CowStr;
 
@@ -62,11 +63,10 @@ fn push_rules(
 ) -> Result<(), AllocError>
     ensures { OnOk result (string_bytes lines.new ≡ string_bytes lines.old ++ rule_lines (data_of rules.now)) }
 {
-    push_rule(alloc, lines, PluralCategory::Zero, &rules.zero)?;
-    push_rule(alloc, lines, PluralCategory::One, &rules.one)?;
-    push_rule(alloc, lines, PluralCategory::Two, &rules.two)?;
-    push_rule(alloc, lines, PluralCategory::Few, &rules.few)?;
-    push_rule(alloc, lines, PluralCategory::Many, &rules.many)
+    for_five!(rules, |rule, category| {
+        push_rule(alloc, lines, category, rule)?
+    });
+    Ok(())
 }
 
 // Appends the line of a rule, if present.

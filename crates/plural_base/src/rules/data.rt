@@ -3,8 +3,7 @@
 ghost use Rattle.std.specs.Prelude.{◌≡◌, IfOk, None, OnOk};
 ghost use Rattle.plural_base.specs.FiveRules.{five, rules_of};
 
-use crate::five::put_five;
-use crate::make_five;
+use crate::{make_five, put_five};
 use plural_runtime::Rule;
 use std::alloc::AllocError;
 

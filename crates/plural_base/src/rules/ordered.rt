@@ -10,11 +10,11 @@ pub(crate) mod relation;
 pub(crate) mod rule;
 
 use crate::category::PluralCategory;
-use crate::five::{Five, put_five};
-use crate::for_five;
+use crate::five::Five;
 use crate::rules::PluralRules;
 use crate::rules::data::PluralRulesData;
 use crate::rules::ordered::rule::OrderedRule;
+use crate::{for_five, put_five};
 use plural_reference::PluralOperands;
 use plural_runtime::Rule;
 use std::alloc::{AllocError, Global};

@@ -10,7 +10,8 @@ ghost use Rattle.plural_base.specs.RuleTexts.{AreRulesOf, IsRuleOf, IsRefused, I
 
 use crate::category::PluralCategory;
 use crate::category::raw::RawPluralCategory;
-use crate::five::{Five, put_five};
+use crate::five::Five;
+use crate::put_five;
 use crate::rules::data::PluralRulesData;
 use plural_reference::ParseError;
 use plural_runtime::laws::texts_give_one_answer;

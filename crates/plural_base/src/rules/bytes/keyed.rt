@@ -5,7 +5,7 @@ ghost use Rattle.plural_base.specs.FiveRules.{five, rules_of};
 ghost use Rattle.plural_base.specs.RulesBytes.{CanPackRule, CanPackRules, FirstRuleFault, keyed, rule_items};
 ghost use Rattle.plural_base.specs.Inner.KeyedItems.{HasOtherKey, items_left};
 
-use crate::five::put_five;
+use crate::put_five;
 use crate::rules::bytes::error::RulesBytesError;
 use crate::rules::data::PluralRulesData;
 use packed_list::PackedList;

@@ -1,5 +1,5 @@
 use Rattle.std.proofs.Common.{None}
-use Rattle.std.proofs.lemmas.Result.{err_from_is_err_and, MatchResult-weaker, on_ok_weaker}
+use Rattle.std.proofs.lemmas.Result.{err_from_is_err_and}
 use Rattle.std.specs.Prelude.{IsSomeAnd}
 use Rattle.plural_checker.specs.Inner.TextReadings.{HasNoRule}
 use Rattle.plural_checker.specs.TextChecks.{AreRulesIfRead}
@@ -8,10 +8,8 @@ use Rattle.plural_checker.proofs.check.put_packed.Goals as goal
 
 pub returns-clause-ok : goal.returns-clause-ok
 returns-clause-ok c =
-    on_ok_weaker c.put_rule-5.result
-    (λ last. all_rules c.args.five.now _ c.in_ok-put_rule.ensures.ok _ c.in_ok-put_rule-2.ensures.ok
-    _ c.in_ok-put_rule-3.ensures.ok _ c.in_ok-put_rule-4.ensures.ok _ last)
-    c.put_rule-5.ensures.ok
+    all_rules c.args.five.now _ c.in_ok-put_rule.ensures.ok _ c.in_ok-put_rule-2.ensures.ok _ c.in_ok-put_rule-3.ensures.ok
+    _ c.in_ok-put_rule-4.ensures.ok _ c.in_ok-put_rule-5.ensures.ok
 
 pub returns-in_err-put_rule-clause-refused : goal.returns-in_err-put_rule-clause-refused
 returns-in_err-put_rule-clause-refused c =
@@ -41,9 +39,10 @@ returns-in_err-put_rule-4-clause-refused c =
     (if_refused c.in_err-put_rule-4.field-0.0 (IsSomeAnd c.args.five.now.few HasNoRule) (AreRulesIfRead c.args.five.now None)
     (no_few c.args.five.now _ c.in_ok-put_rule.ensures.ok _ c.in_ok-put_rule-2.ensures.ok _ c.in_ok-put_rule-3.ensures.ok) c.in_err-put_rule-4.ensures.refused)
 
-pub returns-clause-refused : goal.returns-clause-refused
-returns-clause-refused c =
-    MatchResult-weaker c.put_rule-5.result c.put_rule-5.ensures.refused (λ _ _. tt)
-    (λ why refused. if_refused why (IsSomeAnd c.args.five.now.many HasNoRule) (AreRulesIfRead c.args.five.now None)
+pub returns-in_err-put_rule-5-clause-refused : goal.returns-in_err-put_rule-5-clause-refused
+returns-in_err-put_rule-5-clause-refused c =
+    let p = err_from_is_err_and c.from_residual-in_err-put_rule-5.result c.from_residual-in_err-put_rule-5.ensures.1 in
+    rw (p.1, p.2)
+    (if_refused c.in_err-put_rule-5.field-0.0 (IsSomeAnd c.args.five.now.many HasNoRule) (AreRulesIfRead c.args.five.now None)
     (no_many c.args.five.now _ c.in_ok-put_rule.ensures.ok _ c.in_ok-put_rule-2.ensures.ok
-    _ c.in_ok-put_rule-3.ensures.ok _ c.in_ok-put_rule-4.ensures.ok) refused)
+    _ c.in_ok-put_rule-3.ensures.ok _ c.in_ok-put_rule-4.ensures.ok) c.in_err-put_rule-5.ensures.refused)
