@@ -158,15 +158,14 @@ fn answer(rt: &HostRuntime, file: Option<&str>, asked: Asked<'_>) -> Result<Verd
     Failure::of_rules(Some(name), answer)
 }
 
-// Writes the answer by the rules in a reader. Their bytes stay to the program's end: where so large a
-// block is freed behind many small ones, the allocator joins all of these.
+// Writes the answer by the rules in a reader.
 fn answer_by<R: Read>(
     rt: &HostRuntime,
     asked: Asked<'_>,
     rules: &mut R,
 ) -> Result<Verdict, RulesFault> {
     match read_input(rt.alloc(), rules) {
-        Ok(bytes) => answer_in(rt, asked, bytes.leak()),
+        Ok(bytes) => answer_in(rt, asked, bytes.as_slice()),
         Err(fault) => Err(RulesFault::Other(FormsError::from(fault))),
     }
 }
